@@ -1,0 +1,1 @@
+// Histories of votes that keep the rules agree: definitions in specs/, proofs in proofs/. This crate has no code.

@@ -1,0 +1,73 @@
+use borrow.Author.Needs.{needs}
+use Prim.Native.Nat.{_-_, _≤_, _<_}
+use mathlib.Core.Path.{_≡_}
+use native.Mathlib.Omega.{arith}
+use lib.ListN.{length, length-set}
+use Rattle.claims.specs.Layout.{reportsIn}
+use Rattle.claims.specs.Spans.{AreSpans}
+use Rattle.claims.proofs.Laws.{spansMore}
+use Rattle.claims.proofs.spans_of.Statement.{statement}
+use Rattle.claims.proofs.spans_of.Tie as tie
+use Rattle.claims.proofs.spans_of.Reads as reads
+use Rattle.claims.proofs.spans_of.Lts as lts
+use Rattle.claims.proofs.span_of.Reads as span-of-reads
+
+abbrev Inv-loop : tie.InvT-loop
+Inv-loop kept at marks views plans n v p spans₀ r₀ spans r = (r ≤ n) × (length spans ≡ 64) × AreSpans spans r v p (reportsIn kept at marks views plans v)
+
+abbrev μ-loop : tie.MeasureT-loop
+μ-loop kept at marks views plans n v p spans₀ r₀ spans r = n - r
+
+-- src/lib.rt:146:5
+loop-holds : tie.Need-loop-holds Inv-loop μ-loop
+loop-holds c = (omega arith, search needs, λ i low. absurd (omega arith))
+
+-- src/lib.rt:147:20
+span-of-requires : tie.Need-span-of-requires Inv-loop μ-loop
+span-of-requires c κs = search needs
+
+-- src/lib.rt:147:9
+mul-spans : tie.Need-mul-spans Inv-loop μ-loop
+mul-spans c = search needs
+
+-- src/lib.rt:147:9
+array-write-spans : tie.Need-array-write-spans Inv-loop μ-loop
+array-write-spans c = search needs
+
+-- src/lib.rt:148:9
+add-r : tie.Need-add-r Inv-loop μ-loop
+add-r c = search needs
+
+-- src/lib.rt:146:5
+loop-less : tie.Need-loop-less Inv-loop μ-loop
+loop-less c = search needs
+
+-- src/lib.rt:146:5
+loop-again : tie.Need-loop-again Inv-loop μ-loop
+loop-again c =
+    let a = c .before .before .before .before .before .before .before .before .args in
+    let at = c .before .before .loop in
+    let low : at .r < length (at .spans) = omega arith in (
+      omega arith,
+      simp length-set (at .inv .1),
+      spansMore (at .spans) (at .r) (a .v) (a .p) (c .span-of .result) (reportsIn (a .kept .now) (a .at .now) (a .marks .now) (a .views .now) (a .plans .now) (a .v)) low (c .span-of .ensures) (at .inv .2),
+    )
+
+-- src/lib.rt:140:1
+returns : tie.Need-returns Inv-loop μ-loop
+returns c = λ i low. c .before .loop .inv .2 i (omega arith)
+
+pub spans-of-spec : {M : Type 1} → statement M
+spans-of-spec =
+    tie.close
+    (tie.spec
+    Inv-loop
+    μ-loop
+    loop-holds
+    span-of-requires
+    mul-spans
+    array-write-spans
+    add-r
+    loop-less
+    loop-again
+    returns)

@@ -1,0 +1,41 @@
+-- The search for the highest view with a blocking set of claimers, over the reports' spans: in how many views each claims.
+-- Assumes nothing.
+use Prim.Native.Nat.{ℕ, zero, suc, _≤_, _<_, max}
+use mathlib.Core.Path.{_≡_}
+use mathlib.Core.Bool.{Bool, cond}
+use mathlib.Core.List.{List}
+use lib.Dec.{leb, ltb}
+use lib.ListN.{getD}
+use Rattle.quorum.specs.Sets.{equals, isBlocking, Set}
+use Rattle.rules.specs.Rules.{Reports}
+use Rattle.rules.specs.Views.{views, span}
+
+-- Those of whose spans view u is one.
+abbrev pub claimers : List ℕ → ℕ → Set
+claimers spans u i = ltb u (getD spans i 0)
+
+-- They are a blocking set, f + 1 or more of n.
+unfoldable pub reaches : List ℕ → ℕ → ℕ → ℕ → Bool
+reaches spans n f u = isBlocking (equals n f) (claimers spans u)
+
+-- In how many views below v they are.
+unfoldable pub reached : List ℕ → ℕ → ℕ → ℕ → ℕ
+reached spans n f v = views (reaches spans n f) v
+
+-- The highest of the first k spans that is not above w, 0 where there is none: the next candidate view is its last.
+unfoldable pub highestTo : List ℕ → ℕ → ℕ → ℕ
+highestTo spans w zero = 0
+highestTo spans w (suc k) = max (highestTo spans w k) (cond (leb (getD spans k 0) w) (getD spans k 0) 0)
+
+-- The last of t views, v where there is none.
+abbrev pub lastOf : ℕ → ℕ → ℕ
+lastOf v zero = v
+lastOf v (suc w) = w
+
+-- The first n spans are at most v.
+abbrev pub Within : List ℕ → ℕ → ℕ → Type 0
+Within spans n v = (i : ℕ) → i < n → getD spans i 0 ≤ v
+
+-- The list has the spans of the first n reports.
+abbrev pub AreSpans : List ℕ → ℕ → ℕ → ℕ → Reports → Type 0
+AreSpans spans n v p rs = (i : ℕ) → i < n → getD spans i 0 ≡ span v p (rs i)

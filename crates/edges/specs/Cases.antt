@@ -1,0 +1,123 @@
+-- The marked edges M1 to M11 of document 01, as cases; and the run where only the two-set clause serves.
+-- 'n = 4, f = 1 unless said; (1, a) means view 1 and plan a; a, b, c, d differ; reports are proofs.'
+-- Assumes nothing.
+use Prim.Native.Nat.{ℕ, _<_}
+use mathlib.Core.Path.{_≡_}
+use mathlib.Core.Bool.{Bool, true, false}
+use mathlib.Core.Option.{Option, none, some}
+use mathlib.Core.List.{List, [], _∷_}
+use lib.Dec.{ltb}
+use lib.ListN.{getD}
+use Rattle.quorum.specs.Sets.{equals, Quorum}
+use Rattle.frame.specs.Refusal.{first}
+use Rattle.settings.specs.Settings.{settingRows}
+use Rattle.rules.specs.Rules.{Vote, Report, Reports, Rule, rule1, rule3, allows, reporting, Backed, Safe}
+
+-- Plans a, b, c, d: any four that differ.
+abbrev pub a : ℕ
+a = 10
+
+abbrev pub b : ℕ
+b = 20
+
+abbrev pub c : ℕ
+c = 30
+
+abbrev pub d : ℕ
+d = 40
+
+-- '(1, a)'.
+abbrev pub at : ℕ → ℕ → Option Vote
+at view plan = some (record { view = view; plan = plan })
+
+-- A report with a highest vote, a previous vote and a lock.
+abbrev pub reports : Option Vote → Option Vote → Option Vote → Option Report
+reports highest previous lock = some (record { highest = highest; previous = previous; lock = lock })
+
+-- The reports of vaults 0, 1, ..; none past the end.
+abbrev pub from : List (Option Report) → Reports
+from l i = getD l i none
+
+-- A case: a claim on the rules, by its kind, and whether it holds.
+pub data Case : Type 0 where
+  -- a start with n and f, number 0 and class 0, is refused with k; k = 0 where it starts
+  starting : ℕ → ℕ → ℕ → Case
+  -- plan p is safe in view v by the rule
+  safely : Rule → Reports → ℕ → ℕ → Case
+  -- plan p is not safe
+  unsafely : Rule → Reports → ℕ → ℕ → Case
+  -- plan p is served by view u
+  serving : Rule → Reports → ℕ → ℕ → ℕ → Case
+  -- every plan is safe
+  wholly : Rule → Reports → ℕ → Case
+  -- so many votes of a kind are a quorum
+  enough : ℕ → Case
+  -- so many are none
+  short : ℕ → Case
+
+-- What a case claims, of the rules' own definitions.
+abbrev pub Holds : Case → Type 0
+Holds (starting n f k) = first (settingRows n f 0 0) ≡ k
+Holds (safely rule rs v p) = Safe rule (equals 4 1) rs v p
+Holds (unsafely rule rs v p) = ¬ Safe rule (equals 4 1) rs v p
+Holds (serving rule rs v p u) = (u < v) × Quorum (equals 4 1) (λ i. reporting rs (allows p u) i ≡ true) × Backed rule (equals 4 1) rs v p u
+Holds (wholly rule rs v) = (p : ℕ) → Safe rule (equals 4 1) rs v p
+Holds (enough k) = Quorum (equals 4 1) (λ i. ltb i k ≡ true)
+Holds (short k) = ¬ Quorum (equals 4 1) (λ i. ltb i k ≡ true)
+
+-- Every case of a list holds.
+abbrev pub All : List Case → Type 0
+All [] = Unit {0}
+All (x ∷ xs) = Holds x × All xs
+
+-- A proof that reports nothing.
+abbrev pub blank : Option Report
+blank = reports none none none
+
+-- M5: 'one of them has lock (0, a)'.
+abbrev pub locked : Option Report
+locked = reports none none (at 0 a)
+
+-- M7 to M10: 'vaults 0 and 1 report highest (1, a), 2 and 3 (2, b), no previous; 0 and 2 have lock (1, c)'.
+abbrev pub halves : Reports
+halves = from (reports (at 1 a) none (at 1 c) ∷ reports (at 1 a) none none ∷ reports (at 2 b) none (at 1 c) ∷ reports (at 2 b) none none ∷ [])
+
+-- A run in which vault 1 lies. View 0, plan a: vaults 0 and 2 send vote-1 to vote-3, and 0 vote-4. View 1, plan b: 0 and 2 vote-1, 0 votes-2.
+-- View 5, plan a: 2 and 3 vote-1, 0 votes-2. The proofs of 0, 2 and 3 in view 6:
+abbrev pub proved : Reports
+proved = from (reports (at 1 b) (at 0 a) (at 0 a) ∷ none ∷ reports (at 5 a) (at 1 b) none ∷ reports (at 5 a) none none ∷ [])
+
+-- The suggests of all four in view 6, with what vault 1 makes up.
+abbrev pub suggested : Reports
+suggested = from (reports (at 5 a) (at 1 b) (at 0 a) ∷ reports (at 5 a) (at 1 b) none ∷ reports (at 0 a) none (at 0 a) ∷ blank ∷ [])
+
+abbrev pub edges : List Case
+edges =
+    -- M1 n = 64, f = 21 starts; M2 f = 22 gives 6; M3 n = 3 gives 5
+    starting 64 21 0
+    ∷ starting 64 22 6
+    ∷ starting 3 1 5
+    -- M4 view 1, three proofs without lock: any plan safe
+    ∷ wholly rule3 (from (blank ∷ blank ∷ blank ∷ [])) 1
+    -- M5 one of them has lock (0, a): a safe, b not
+    ∷ safely rule3 (from (locked ∷ blank ∷ blank ∷ [])) 1 a
+    ∷ unsafely rule3 (from (locked ∷ blank ∷ blank ∷ [])) 1 b
+    -- M6 a fourth proof without lock: b safe
+    ∷ safely rule3 (from (locked ∷ blank ∷ blank ∷ blank ∷ [])) 1 b
+    -- M7 c is safe by the two-set clause: not without it
+    ∷ safely rule3 halves 3 c
+    ∷ unsafely rule1 halves 3 c
+    -- M8 b safe with v' = 2
+    ∷ serving rule3 halves 3 b 2
+    ∷ safely rule3 halves 3 b
+    -- M9 a not safe; M10 d not safe
+    ∷ unsafely rule3 halves 3 a
+    ∷ unsafely rule3 halves 3 d
+    -- M11 two votes of a kind are no quorum, three are
+    ∷ short 2
+    ∷ enough 3
+    -- the run with a lying leader: its next leader may propose c, at v' = 1; its vaults may vote for c, by the two-set clause alone
+    ∷ serving rule1 suggested 6 c 1
+    ∷ serving rule3 proved 6 c 1
+    ∷ unsafely rule1 proved 6 c
+    ∷ []

@@ -1,0 +1,149 @@
+-- Outputs read as their entries, uniquely: "Entries lie end to end: a recipient byte .., then the frame" (01, Refusals). The first two bytes
+-- of an entry tell its recipient and its kind, so also its length; what is left is the next entry. A frame in an entry says itself by
+-- `decode-encode`, and a host entry by the laws of fields.
+-- Assumes nothing.
+use Prim.Native.Nat.{ℕ, zero, suc, _+_, _^_, _≤_, _<_}
+use mathlib.Core.Path.{_≡_, refl, sym, ap, _∙_}
+use mathlib.Core.List.{List, [], _∷_, _++_, append-assoc, append-nil}
+use native.Mathlib.Omega.{arith}
+use borrow.Author.Tests.{ne-eqb}
+use lib.ListN.{length, getD, drop, length-append, List·getD-append}
+use lib.Seq.{take-at, drop-append-seam}
+use Rattle.wire.specs.Digits.{numberAt}
+use Rattle.wire.specs.Fields.{spell}
+use Rattle.wire.specs.Placed.{placed}
+use Rattle.wire.proofs.Laws.{number-one, fields-spell, length-spell}
+use Rattle.wire.proofs.Output.{placed-none, placed-more, length-placed}
+use Rattle.frame.specs.declared.Frame.{Frame}
+use Rattle.frame.specs.Format.{lengthOf, encode, decode, Valid}
+use Rattle.frame.proofs.Spelling.{kind-at}
+use Rattle.frame.proofs.Theorems.{decode-encode, encode-length, encode-short, encode-head}
+use Rattle.entry.specs.declared.Entry.{Entry}
+use Rattle.entry.specs.declared.Entry.the-variants.{ForAll, ForOne, Timer, Decision}
+use Rattle.entry.specs.Layout.{hostFields, entryBytes, layout, ValidEntry, AllValid, frameIn, entryAt, sizeAt, entriesWithin, entriesOf}
+
+-- what the bytes of an entry say, whatever follows them
+pub record Says (e : Entry) (rest : List ℕ) : Type 0 where
+  pub entry : entryAt (entryBytes e ++ rest) ≡ e
+  pub size : sizeAt (entryBytes e ++ rest) ≡ length (entryBytes e)
+
+-- a frame after its recipient
+module _ (to : ℕ) (f : Frame) (v : Valid f) (rest : List ℕ) where
+  kind-here : lengthOf (getD (to ∷ (encode f ++ rest)) 1 0) ≡ length (encode f)
+  kind-here =
+      let there : 0 < length (encode f) = omega (arith, encode-head f) in
+      ap lengthOf (List·getD-append (encode f) rest 0 0 there ∙ kind-at f v) ∙ sym (encode-length f v)
+
+  frame-here : decode (frameIn (to ∷ (encode f ++ rest))) ≡ f
+  frame-here = rw kind-here (ap decode (take-at (encode f) rest (length (encode f)) refl) ∙ decode-encode f v)
+
+-- the fields of a host entry
+pub record Host (s : List ℕ) (code view width value : ℕ) : Type 0 where
+  pub to-host : getD s 0 0 ≡ 254
+  pub told : getD s 1 0 ≡ code
+  pub view-here : numberAt 4 s 2 ≡ view
+  pub value-here : numberAt width s 6 ≡ value
+
+host : (code view width value : ℕ) (rest : List ℕ) → code < 256 → view < 256 ^ 4 → value < 256 ^ width
+    → Host (spell (hostFields code view width value) ++ rest) code view width value
+host code view width value rest c v x =
+    let s = spell (hostFields code view width value) ++ rest in
+    let e = fields-spell (hostFields code view width value) [] rest (omega arith, (omega arith, (v, (x, tt)))) in
+    record {
+      to-host = sym (number-one s 0) ∙ cc;
+      told = sym (number-one s 1) ∙ cc;
+      view-here = cc;
+      value-here = cc;
+    }
+
+timer-here : (s : List ℕ) (view millis : ℕ) → Host s 11 view 4 millis → (entryAt s ≡ Timer view millis) × (sizeAt s ≡ 10)
+unfolding entryAt sizeAt
+timer-here s view millis h = (simp (h .to-host, h .told, h .view-here, h .value-here), simp (h .to-host, h .told))
+
+decision-here : (s : List ℕ) (view plan : ℕ) → Host s 10 view 8 plan → (entryAt s ≡ Decision view plan) × (sizeAt s ≡ 14)
+unfolding entryAt sizeAt
+decision-here s view plan h = (simp (h .to-host, h .told, h .view-here, h .value-here), simp (h .to-host, h .told))
+
+-- The bytes of an entry say that entry and its length.
+pub entry-says : (e : Entry) → ValidEntry e → (rest : List ℕ) → Says e rest
+unfolding entryAt sizeAt entryBytes
+entry-says (ForAll f) v rest =
+    record {
+      entry = ap (λ (g : Frame). ForAll g) (frame-here 255 f v rest);
+      size = ap suc (kind-here 255 f v rest);
+    }
+entry-says (ForOne to f) v rest =
+    let here = ne-eqb to 254 (omega arith) in
+    let one = ne-eqb to 255 (omega arith) in
+    record {
+      entry = simp (here, one) (ap (λ (g : Frame). ForOne to g) (frame-here to f (v .1) rest));
+      size = simp here (ap suc (kind-here to f (v .1) rest));
+    }
+entry-says (Timer view millis) v rest =
+    let fields = hostFields 11 view 4 millis in
+    let h = timer-here (spell fields ++ rest) view millis (host 11 view 4 millis rest (omega arith) (v .0) (v .1)) in
+    record { entry = h .0; size = h .1 ∙ sym (length-spell fields) }
+entry-says (Decision view plan) v rest =
+    let fields = hostFields 10 view 8 plan in
+    let h = decision-here (spell fields ++ rest) view plan (host 10 view 8 plan rest (omega arith) (v .0) (v .1)) in
+    record { entry = h .0; size = h .1 ∙ sym (length-spell fields) }
+
+-- An entry has at least its recipient and is at most 46 bytes long.
+pub entry-length : (e : Entry) → (1 ≤ length (entryBytes e)) × (length (entryBytes e) ≤ 46)
+unfolding entryBytes
+entry-length (ForAll f) = (omega arith, omega (arith, encode-short f))
+entry-length (ForOne to f) = (omega arith, omega (arith, encode-short f))
+entry-length (Timer view millis) = let l = length-spell (hostFields 11 view 4 millis) in (omega arith, omega arith)
+entry-length (Decision view plan) = let l = length-spell (hostFields 10 view 8 plan) in (omega arith, omega arith)
+
+-- Where 46 bytes are left, any entry fits, and ends within them.
+pub entry-fits : (e : Entry) (at size : ℕ) → at + 46 ≤ size → at + length (entryBytes e) ≤ size
+entry-fits e at size h = omega (arith, entry-length e .1)
+
+pub entry-ends : (e : Entry) (at next : ℕ) → next ≡ at + length (entryBytes e) → next ≤ at + 46
+entry-ends e at next h = omega (arith, entry-length e .1)
+
+read-within : (es : List Entry) (bound : ℕ) → AllValid es → length (layout es) ≤ bound → entriesWithin bound (layout es) ≡ es
+unfolding entriesWithin
+read-within [] zero v h = refl
+read-within [] (suc bound) v h = refl
+read-within (e ∷ es) zero v h = absurd (omega (arith, entry-length e .0, length-append (entryBytes e) (layout es)))
+read-within (e ∷ es) (suc bound) v h =
+    let says = entry-says e (v .0) (layout es) in
+    let all = length-append (entryBytes e) (layout es) in
+    let least = entry-length e .0 in
+    let there = ne-eqb (length (entryBytes e ++ layout es)) 0 (omega arith) in
+    let next : drop (sizeAt (entryBytes e ++ layout es)) (entryBytes e ++ layout es) ≡ layout es = rw (says .size) (drop-append-seam (entryBytes e) (layout es)) in
+    simp (there, says .entry, next) (ap (λ (l : List Entry). e ∷ l) (read-within es bound (v .1) (omega arith)))
+
+-- An output that is entries end to end reads as those entries.
+pub entries-read-back : (es : List Entry) → AllValid es → entriesOf (layout es) ≡ es
+entries-read-back es v = read-within es (length (layout es)) v (omega arith)
+
+-- No other entries have the same bytes.
+pub entries-unique : (es fs : List Entry) → AllValid es → AllValid fs → layout es ≡ layout fs → es ≡ fs
+entries-unique es fs v w e = sym (entries-read-back es v) ∙ (ap entriesOf e ∙ entries-read-back fs w)
+
+layout-append : (es fs : List Entry) → layout (es ++ fs) ≡ layout es ++ layout fs
+layout-append [] fs = refl
+layout-append (e ∷ es) fs = rw (append-assoc, layout-append es fs)
+
+-- One more entry, put where the entries before it end.
+pub layout-more : (o : List ℕ) (at : ℕ) (es : List Entry) (e : Entry) → at ≤ length o
+    → placed (placed o at (layout es)) (at + length (layout es)) (entryBytes e) ≡ placed o at (layout (es ++ (e ∷ [])))
+layout-more o at es e h =
+    rw (layout-append es (e ∷ []), append-nil (entryBytes e)) (placed-more o at (layout es) (entryBytes e) h)
+
+-- entries put one after the other
+abbrev pub lays : List ℕ → ℕ → List Entry → List ℕ
+lays o at [] = o
+lays o at (e ∷ es) = lays (placed o at (entryBytes e)) (at + length (entryBytes e)) es
+
+-- Entries put one after the other lie end to end.
+pub lays-layout : (es : List Entry) (o : List ℕ) (at : ℕ) → at + length (layout es) ≤ length o → lays o at es ≡ placed o at (layout es)
+lays-layout [] o at h = sym (placed-none o at)
+lays-layout (e ∷ es) o at h =
+    let all = length-append (entryBytes e) (layout es) in
+    let same = length-placed o at (entryBytes e) (omega arith) in
+    lays-layout es (placed o at (entryBytes e)) (at + length (entryBytes e)) (omega arith)
+    ∙ placed-more o at (entryBytes e) (layout es) (omega arith)

@@ -1,0 +1,49 @@
+-- `entry::put_head` meets its contract. "Byte 0 is the kind, byte 1 the sender, bytes 2 to 5 the view" (01, Frames).
+-- Three fields put one after the other are the three spelt end to end.
+-- Assumes nothing.
+use denote.Ref.{now}
+use Rattle.frame.specs.Format.{headFields}
+use Rattle.wire.proofs.Output.{puts-spell}
+use borrow.Author.Needs.{needs}
+use Rattle.entry.proofs.put_head.Statement.{statement}
+use Rattle.entry.proofs.put_head.Tie as tie
+
+cast-put : tie.Need-cast-put
+cast-put c = search needs
+
+put-requires : tie.Need-put-requires
+put-requires c κs = search needs
+
+cast-put-2 : tie.Need-cast-put-2
+cast-put-2 c = search needs
+
+put-requires-2 : tie.Need-put-requires-2
+put-requires-2 c κs = search needs
+
+cast-put-3 : tie.Need-cast-put-3
+cast-put-3 c = search needs
+
+put-requires-3 : tie.Need-put-requires-3
+put-requires-3 c κs = search needs
+
+same-length : tie.Need-same-length
+same-length c = search needs
+
+returns : tie.Need-returns
+returns c =
+    let a = c .before .before .before .before .before .before .before .before .before .before .before .before .before .before .before .before .args in
+    rw (c .before .before .put3 .ensures, c .before .before .before .before .before .before .before .put2 .ensures, c .before .before .before .before .before .before .before .before .before .before .before .before .put .ensures)
+    (puts-spell (headFields (a .f)) (now (a .out)) 0 (c .before .before .before .before .before .before .before .before .before .before .before .before .before .before .before .before .pre))
+
+pub put-head-spec : {M : Type 1} → statement M
+put-head-spec =
+    tie.close
+    (tie.spec
+    cast-put
+    put-requires
+    cast-put-2
+    put-requires-2
+    cast-put-3
+    put-requires-3
+    same-length
+    returns)

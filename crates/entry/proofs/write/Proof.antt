@@ -1,0 +1,34 @@
+-- `entry::write` meets its contract. The table of frames (01, Frames).
+-- The head, and the body put where it ends, are the frame put at once.
+-- Assumes nothing.
+use denote.Ref.{now}
+use native.Mathlib.Omega.{arith}
+use Rattle.frame.specs.Format.{headFields, bodyFields, fieldsOf, encode}
+use Rattle.wire.proofs.Laws.{length-spell}
+use Rattle.wire.proofs.Output.{placed-spell}
+use borrow.Author.Needs.{needs}
+use Rattle.entry.proofs.write.Statement.{statement}
+use Rattle.entry.proofs.write.Tie as tie
+
+put-head-requires : tie.Need-put-head-requires
+unfolding encode
+put-head-requires c κs = omega (arith, length-spell (fieldsOf (c .before .before .args .f)))
+
+put-body-requires : tie.Need-put-body-requires
+unfolding encode
+put-body-requires c κs = omega (arith, length-spell (fieldsOf (c .before .before .before .before .before .before .args .f)))
+
+same-length : tie.Need-same-length
+same-length c = search needs
+
+returns : tie.Need-returns
+unfolding encode
+returns c =
+    let a = c .before .before .before .before .before .before .before .before .before .args in
+    let body = c .before .before .put-body .ensures in (
+      omega (arith, length-spell (fieldsOf (a .f)), body .0),
+      rw (body .1, c .before .before .before .before .before .before .put-head .ensures) (placed-spell (headFields (a .f)) (bodyFields (a .f .body)) (now (a .out)) 0 (omega arith)),
+    )
+
+pub write-spec : {M : Type 1} → statement M
+write-spec = tie.close (tie.spec put-head-requires put-body-requires same-length returns)

@@ -1,0 +1,165 @@
+-- Laws on kinds, lengths and the table of refusals, from document 01's table of frames and its "Checked downwards". A kind is one
+-- of four forms (a plan, nothing, reports, unknown), and each definition over the kind computes to one value on each form. A table
+-- in two parts gives what its first part gives, unless that is 0. So every proof goes over the form, and none over the eight kinds.
+-- Assumes nothing.
+use Prim.Native.Nat.{ℕ, _+_, _≤_, _<_}
+use mathlib.Core.Path.{_≡_, refl, sym, _∙_}
+use mathlib.Core.Bool.{Bool, true, false, not, _&&_, _||_, cond, or-false}
+use mathlib.Core.List.{List, [], _∷_, _++_}
+use native.Mathlib.Omega.{arith}
+use native.Mathlib.Decide.{decLe}
+use borrow.Author.Tests.{eq-eqb, ne-eqb, lt-ltb, le-ltb, le-leb, lt-leb, leb-true, eqb-true, not-false}
+use lib.Dec.{leb, eqb}
+use lib.ListN.{length, getD}
+use Rattle.wire.specs.Digits.{numberAt}
+use Rattle.frame.specs.declared.Body.the-variants.{Plan, Empty, Told}
+use Rattle.frame.specs.Format.{within, lengthOf, reportsAt, bodyAs, Formed}
+use Rattle.frame.specs.Refusal.{Row, row, first, formRows}
+
+-- what is known of two numbers, said of the tests on them: `search tests` decides a table's row from the branches on the way
+pub ruleset tests = (eq-eqb, ne-eqb, lt-ltb, le-ltb, le-leb, lt-leb, or-false)
+
+-- what a call's result was found to be, said of what it ensures
+pub told {ℓ} : {A : Type ℓ} {a b c : A} → a ≡ b → a ≡ c → b ≡ c
+told p q = sym p ∙ q
+
+pub both : (a b : Bool) → (a && b) ≡ true → (a ≡ true) × (b ≡ true)
+both true b e = (refl, e)
+both false b e = let z : _≡_ {A = ℕ} 0 1 = cc in absurd (omega arith)
+
+pub neither : (a b : Bool) → (a || b) ≡ false → (a ≡ false) × (b ≡ false)
+neither true b e = let z : _≡_ {A = ℕ} 0 1 = cc in absurd (omega arith)
+neither false b e = (refl, e)
+
+module _ (low high k : ℕ) where
+  pub inside : low ≤ k → k ≤ high → within low high k ≡ true
+  unfolding within
+  inside a b = simp (le-leb low k a, le-leb k high b)
+
+  pub under : k < low → within low high k ≡ false
+  unfolding within
+  under a = simp (lt-leb low k a)
+
+  pub over : low ≤ k → high < k → within low high k ≡ false
+  unfolding within
+  over a b = simp (le-leb low k a, lt-leb k high b)
+
+  pub bounds : within low high k ≡ true → (low ≤ k) × (k ≤ high)
+  unfolding within
+  bounds e = let h = both (leb low k) (leb k high) e in (leb-true low k (h .0), leb-true k high (h .1))
+
+-- the forms of a kind: what its frames hold after the head
+pub data Form (k : ℕ) : Type 0 where
+  plan : 1 ≤ k → k ≤ 5 → Form k
+  bare : k ≡ 6 → Form k
+  reports : 7 ≤ k → k ≤ 8 → Form k
+
+pub form : (k : ℕ) → 1 ≤ k → k ≤ 8 → Form k
+form k a b =
+    elim (decLe k 5) [
+      | yes h ↦ plan a h
+      | no g ↦ elim (decLe k 6) [ yes h ↦ bare (omega arith) | no h ↦ reports (omega arith) b ]
+    ]
+
+pub length-plan : (k : ℕ) → 1 ≤ k → k ≤ 5 → lengthOf k ≡ 14
+unfolding lengthOf
+length-plan k a b = simp (inside 1 5 k a b)
+
+pub length-bare : (k : ℕ) → k ≡ 6 → lengthOf k ≡ 6
+unfolding lengthOf within
+length-bare k e = rw e
+
+pub length-reports : (k : ℕ) → 7 ≤ k → k ≤ 8 → lengthOf k ≡ 45
+unfolding lengthOf
+length-reports k a b = simp (over 1 5 k (omega arith) (omega arith), ne-eqb k 6 (omega arith), inside 7 8 k a b)
+
+pub length-low : (k : ℕ) → k < 1 → lengthOf k ≡ 0
+unfolding lengthOf
+length-low k h = simp (under 1 5 k h, ne-eqb k 6 (omega arith), under 7 8 k (omega arith))
+
+pub length-high : (k : ℕ) → 8 < k → lengthOf k ≡ 0
+unfolding lengthOf
+length-high k h = simp (over 1 5 k (omega arith) (omega arith), ne-eqb k 6 (omega arith), over 7 8 k (omega arith) h)
+
+-- what the bytes say after the head, by form
+pub body-plan : (k : ℕ) (s : List ℕ) → 1 ≤ k → k ≤ 5 → bodyAs k s ≡ Plan (numberAt 8 s 6)
+unfolding bodyAs
+body-plan k s a b = simp (inside 1 5 k a b)
+
+pub body-bare : (k : ℕ) (s : List ℕ) → k ≡ 6 → bodyAs k s ≡ Empty
+unfolding bodyAs within
+body-bare k s e = rw e
+
+pub body-reports : (k : ℕ) (s : List ℕ) → 7 ≤ k → bodyAs k s ≡ Told (reportsAt s 6)
+unfolding bodyAs
+body-reports k s a = simp (over 1 5 k (omega arith) (omega arith), ne-eqb k 6 (omega arith))
+
+-- a frame has at least its head
+pub length-least : (k : ℕ) → Form k → 6 ≤ lengthOf k
+length-least k (plan a b) = rw (length-plan k a b) (omega arith)
+length-least k (bare e) = rw (length-bare k e) (omega arith)
+length-least k (reports a b) = rw (length-reports k a b) (omega arith)
+
+-- a kind without a length is unknown, and a kind with one is known
+pub unknown : (k : ℕ) → lengthOf k ≡ 0 → within 1 8 k ≡ false
+unknown k e =
+    elim (decLe 1 k) [
+      | no g ↦ under 1 8 k (omega arith)
+      | yes a ↦ elim (decLe k 8) [ no g ↦ over 1 8 k a (omega arith) | yes b ↦ absurd (omega (arith, length-least k (form k a b))) ]
+    ]
+
+pub known : (k : ℕ) → (lengthOf k ≡ 0 → ⊥) → within 1 8 k ≡ true
+known k e =
+    elim (decLe 1 k) [
+      | no g ↦ absurd (e (length-low k (omega arith)))
+      | yes a ↦ elim (decLe k 8) [ no g ↦ absurd (e (length-high k (omega arith))) | yes b ↦ inside 1 8 k a b ]
+    ]
+
+-- the number of a row is never 0: 0 says that no row is given
+abbrev pub Positive : List Row → Type 0
+Positive [] = Unit {0}
+Positive (row k t ∷ rows) = (0 < k) × Positive rows
+
+-- a table in two parts: the first part gives a number, or the second part decides
+pub first-some : (rows more : List Row) → (first rows ≡ 0 → ⊥) → first (rows ++ more) ≡ first rows
+first-some [] more z = absurd (z refl)
+first-some (row k true ∷ rows) more z = refl
+first-some (row k false ∷ rows) more z = first-some rows more z
+
+pub first-none : (rows more : List Row) → Positive rows → first rows ≡ 0 → first (rows ++ more) ≡ first more
+first-none [] more p e = refl
+first-none (row k true ∷ rows) more p e = absurd (omega arith)
+first-none (row k false ∷ rows) more p e = first-none rows more (p .1) e
+
+pub first-both : (rows more : List Row) → Positive rows → first (rows ++ more) ≡ 0 → (first rows ≡ 0) × (first more ≡ 0)
+first-both [] more p e = (refl, e)
+first-both (row k true ∷ rows) more p e = absurd (omega arith)
+first-both (row k false ∷ rows) more p e = first-both rows more (p .1) e
+
+-- a row that is not given, at the head of a table that gives nothing
+pub none : (t : Bool) (k m : ℕ) → 0 < k → cond t k m ≡ 0 → (t ≡ false) × (m ≡ 0)
+none true k m h e = absurd (omega arith)
+none false k m h e = (refl, e)
+
+-- bytes that pass 9 and 10
+pub formed : (s : List ℕ) → first (formRows s) ≡ 0 → Formed s
+formed s e =
+    let a = none (eqb (length s) 0 || not (within 1 8 (getD s 0 0))) 9 _ (omega arith) e in
+    let b = none (not (eqb (length s) (lengthOf (getD s 0 0)))) 10 _ (omega arith) (a .1) in
+    record {
+      kind = not-false _ (neither (eqb (length s) 0) _ (a .0) .1);
+      size = eqb-true _ _ (not-false _ (b .0));
+    }
+
+module _ (s : List ℕ) (f : Formed s) where
+  pub form-of : Form (getD s 0 0)
+  form-of = let h = bounds 1 8 (getD s 0 0) (f .kind) in form (getD s 0 0) (h .0) (h .1)
+
+  pub head-there : 6 ≤ length s
+  head-there = rw (f .size) (length-least (getD s 0 0) form-of)
+
+  -- bytes of the form of a frame pass 9 and 10
+  pub form-passes : first (formRows s) ≡ 0
+  form-passes =
+      let e : length s ≡ 0 → ⊥ = λ z. omega (arith, head-there) in
+      simp (ne-eqb (length s) 0 e, f .kind, eq-eqb (length s) (lengthOf (getD s 0 0)) (f .size))

@@ -1,0 +1,4 @@
+pub mod Laws
+pub mod Spelling
+pub mod Steps
+pub mod Theorems

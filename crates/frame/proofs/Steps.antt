@@ -1,0 +1,55 @@
+-- Reading step by step, as "Checked downwards" has it (01, Refusals): each group of rows gives its number, or the next group decides.
+-- A reader that tests the groups in this order cites one law at each of its answers.
+-- Assumes nothing.
+use Prim.Native.Nat.{ℕ, _<_}
+use mathlib.Core.Path.{_≡_, sym, ap, _∙_}
+use mathlib.Core.Bool.{_||_}
+use mathlib.Core.List.{List, _++_}
+use native.Mathlib.Omega.{arith}
+use borrow.Author.Tests.{ne-eqb, leb-false}
+use lib.Dec.{leb, eqb}
+use lib.ListN.{getD}
+use Rattle.frame.specs.declared.Frame.{Frame}
+use Rattle.frame.specs.declared.Reading.the-variants.{Accepted, Refused}
+use Rattle.frame.specs.Format.{decode}
+use Rattle.frame.specs.Refusal.{first, formRows, linkRows, contentRows, leaderRows, refusal, readFrame}
+use Rattle.frame.proofs.Laws.{first-some, first-none, none, neither}
+
+module _ (s : List ℕ) (link n own : ℕ) where
+  -- a table that gives a number
+  refused : (k : ℕ) → (k ≡ 0 → ⊥) → refusal s link n own ≡ k → Refused k ≡ readFrame s link n own
+  unfolding readFrame
+  refused k z e = rw e (simp (ne-eqb k 0 z))
+
+  pub by-form : (k : ℕ) → (k ≡ 0 → ⊥) → k ≡ first (formRows s) → Refused k ≡ readFrame s link n own
+  unfolding refusal
+  by-form k z e =
+      refused k z
+      (first-some (formRows s) (linkRows (getD s 1 0) link n own ++ (contentRows (decode s) ++ leaderRows (decode s) n own)) (λ y. z (e ∙ y)) ∙ sym e)
+
+  module _ (form : first (formRows s) ≡ 0) where
+    after-form : refusal s link n own ≡ first (linkRows (getD s 1 0) link n own ++ (contentRows (decode s) ++ leaderRows (decode s) n own))
+    unfolding refusal
+    after-form = first-none (formRows s) (linkRows (getD s 1 0) link n own ++ (contentRows (decode s) ++ leaderRows (decode s) n own)) (omega arith) form
+
+    pub by-link : (k : ℕ) → (k ≡ 0 → ⊥) → k ≡ first (linkRows (getD s 1 0) link n own) → Refused k ≡ readFrame s link n own
+    by-link k z e =
+        refused k z
+        (after-form ∙ (first-some (linkRows (getD s 1 0) link n own) (contentRows (decode s) ++ leaderRows (decode s) n own) (λ y. z (e ∙ y)) ∙ sym e))
+
+    module _ (linked : first (linkRows (getD s 1 0) link n own) ≡ 0) (f : Frame) (said : f ≡ decode s) where
+      after-link : refusal s link n own ≡ first (contentRows f ++ leaderRows f n own)
+      after-link = rw said (after-form ∙ first-none (linkRows (getD s 1 0) link n own) (contentRows (decode s) ++ leaderRows (decode s) n own) (omega arith) linked)
+
+      pub by-frame : (k : ℕ) → (k ≡ 0 → ⊥) → k ≡ first (contentRows f ++ leaderRows f n own) → Refused k ≡ readFrame s link n own
+      by-frame k z e = refused k z (after-link ∙ sym e)
+
+      pub accepts : 0 ≡ first (contentRows f ++ leaderRows f n own) → Accepted f ≡ readFrame s link n own
+      unfolding readFrame
+      accepts e = rw (after-link ∙ sym e) (ap (λ (g : Frame). Accepted g) said)
+
+-- a link that passes 11 has a number below n
+pub link-below : (sender link n own : ℕ) → first (linkRows sender link n own) ≡ 0 → link < n
+link-below sender link n own e =
+    let a = none (leb n link || eqb link own) 11 _ (omega arith) e in
+    leb-false n link (neither (leb n link) (eqb link own) (a .0) .0)

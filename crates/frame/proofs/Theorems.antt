@@ -1,0 +1,115 @@
+-- What holds of every frame and of every string of bytes, of the definitions alone (01, Frames and Refusals). What is written reads back
+-- as the same frame, and accepted bytes are the only spelling of their frame: a frame's fields and its bytes determine each other
+-- (`Spelling`), and an accepted reading is one where each of the four groups of rows gives nothing (`Laws`).
+-- Assumes nothing.
+use Prim.Native.Nat.{ℕ, _+_, _≤_}
+use mathlib.Core.Path.{_≡_, refl, sym, ap, subst, _∙_}
+use mathlib.Core.Bool.{Bool, true, false, cond}
+use mathlib.Core.List.{List, _∷_, _++_}
+use native.Mathlib.Omega.{arith}
+use borrow.Author.Tests.{eqb-true}
+use lib.Dec.{eqb}
+use lib.ListN.{length, getD}
+use Rattle.wire.specs.Fields.{widths, total, Bytes}
+use Rattle.wire.proofs.Laws.{length-spell, bytes-spell}
+use Rattle.frame.specs.declared.Body.{Body}
+use Rattle.frame.specs.declared.Body.the-variants.{Plan, Empty, Told}
+use Rattle.frame.specs.declared.Frame.{Frame}
+use Rattle.frame.specs.declared.Reading.the-variants.{Accepted, Refused}
+use Rattle.frame.specs.Format.{lengthOf, bodyFields, fieldsOf, encode, decode, Valid}
+use Rattle.frame.specs.Refusal.{first, formRows, linkRows, contentRows, leaderRows, refusal, readFrame}
+use Rattle.frame.proofs.Laws.{first-none, first-both, formed, form-passes}
+use Rattle.frame.proofs.Spelling as spelling
+
+-- What is known of accepted bytes: they say the frame, and no group of rows is given.
+pub record Passed (s : List ℕ) (link n own : ℕ) (f : Frame) : Type 0 where
+  pub said : decode s ≡ f
+  pub form : first (formRows s) ≡ 0
+  pub link-passed : first (linkRows (getD s 1 0) link n own) ≡ 0
+  pub content : first (contentRows f) ≡ 0
+  pub leader : first (leaderRows f n own) ≡ 0
+
+accepted : (b : Bool) (k : ℕ) (g f : Frame) → eqb k 0 ≡ b → cond b (Accepted g) (Refused k) ≡ Accepted f → (k ≡ 0) × (g ≡ f)
+accepted true k g f t h = (eqb-true k 0 t, cc)
+accepted false k g f t h = let z : _≡_ {A = ℕ} 0 1 = cc in absurd (omega arith)
+
+-- An accepted reading is of the frame that the bytes say, and no row of 9 to 15 is given.
+pub passed : (s : List ℕ) (link n own : ℕ) (f : Frame) → readFrame s link n own ≡ Accepted f → Passed s link n own f
+unfolding readFrame refusal
+passed s link n own f e =
+    let g = decode s in
+    let l = linkRows (getD s 1 0) link n own in
+    let h = accepted (eqb (refusal s link n own) 0) (refusal s link n own) g f refl e in
+    let a = first-both (formRows s) (l ++ (contentRows g ++ leaderRows g n own)) (omega arith) (h .0) in
+    let b = first-both l (contentRows g ++ leaderRows g n own) (omega arith) (a .1) in
+    let d = first-both (contentRows g) (leaderRows g n own) (omega arith) (b .1) in
+    record {
+      said = h .1;
+      form = a .0;
+      link-passed = b .0;
+      content = subst (λ (x : Frame). first (contentRows x) ≡ 0) (h .1) (d .0);
+      leader = subst (λ (x : Frame). first (leaderRows x n own) ≡ 0) (h .1) (d .1);
+    }
+
+-- The bytes of a valid frame say that frame.
+pub decode-encode : (f : Frame) → Valid f → decode (encode f) ≡ f
+decode-encode = spelling.decode-encode
+
+-- A written frame reads back as the same frame, wherever link, content and leader pass.
+pub read-back : (f : Frame) (link n own : ℕ) → Valid f
+    → first (linkRows (f .sender) link n own) ≡ 0
+    → first (contentRows f) ≡ 0
+    → first (leaderRows f n own) ≡ 0
+    → readFrame (encode f) link n own ≡ Accepted f
+unfolding readFrame refusal
+read-back f link n own v l c m =
+    let h = spelling.encode-formed f v in
+    let form : first (formRows (encode f)) ≡ 0 = form-passes (encode f) h in
+    let z : first (formRows (encode f) ++ (linkRows (f .sender) link n own ++ (contentRows f ++ leaderRows f n own))) ≡ 0 =
+    first-none (formRows (encode f)) (linkRows (f .sender) link n own ++ (contentRows f ++ leaderRows f n own)) (omega arith) form
+    ∙ (first-none (linkRows (f .sender) link n own) (contentRows f ++ leaderRows f n own) (omega arith) l
+    ∙ (first-none (contentRows f) (leaderRows f n own) (omega arith) c ∙ m)) in
+    rw (spelling.sender-at f v, decode-encode f v, z)
+
+-- Accepted bytes are the only spelling of their frame.
+pub only-spelling : (s : List ℕ) (link n own : ℕ) (f : Frame) → Bytes s → readFrame s link n own ≡ Accepted f → s ≡ encode f
+only-spelling s link n own f b e =
+    let p = passed s link n own f e in
+    sym (spelling.respell s b (formed s (p .form))) ∙ ap encode (p .said)
+
+-- Two accepted strings of bytes with the same frame are equal, whoever read them.
+pub same-bytes : (s t : List ℕ) (link n own link′ n′ own′ : ℕ) (f : Frame) → Bytes s → Bytes t
+    → readFrame s link n own ≡ Accepted f
+    → readFrame t link′ n′ own′ ≡ Accepted f
+    → s ≡ t
+same-bytes s t link n own link′ n′ own′ f b b′ e e′ = only-spelling s link n own f b e ∙ sym (only-spelling t link′ n′ own′ f b′ e′)
+
+-- An accepted frame can be written: its body is one of its kind, and its fields fit.
+pub accepted-valid : (s : List ℕ) (link n own : ℕ) (f : Frame) → Bytes s → readFrame s link n own ≡ Accepted f → Valid f
+accepted-valid s link n own f b e =
+    let p = passed s link n own f e in
+    subst Valid (p .said) (spelling.decode-valid s b (formed s (p .form)))
+
+-- The bytes of a valid frame are as many as the table's column "Length" has for its kind.
+pub encode-length : (f : Frame) → Valid f → length (encode f) ≡ lengthOf (f .kind)
+encode-length = spelling.encode-length
+
+-- No frame is longer than 45 bytes.
+pub encode-short : (f : Frame) → length (encode f) ≤ 45
+unfolding encode
+encode-short f = rw (length-spell (fieldsOf f)) (by-body (f .body))
+  where
+    by-body : (b : Body) → total (1 ∷ 1 ∷ 4 ∷ widths (bodyFields b)) ≤ 45
+    by-body (Plan p) = omega arith
+    by-body Empty = omega arith
+    by-body (Told r) = omega arith
+
+-- No frame is shorter than its head, 6 bytes.
+pub encode-head : (f : Frame) → 6 ≤ length (encode f)
+unfolding encode
+encode-head f = omega (arith, length-spell (fieldsOf f))
+
+-- What is written is bytes.
+pub encode-bytes : (f : Frame) → Bytes (encode f)
+unfolding encode
+encode-bytes f = bytes-spell (fieldsOf f)

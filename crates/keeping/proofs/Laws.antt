@@ -1,0 +1,40 @@
+-- Laws of refusals 16 and 17 and of the previous vote, case by case: "Checked downwards" (01, Refusals), and "a new vote for the
+-- same plan leaves previous alone" (01, Wrong turns). Each definition computes to one value once its tests are known.
+-- Assumes nothing.
+use Prim.Native.Nat.{ℕ, _≤_}
+use mathlib.Core.Path.{_≡_, refl}
+use mathlib.Core.Bool.{Bool, true, false, not, _&&_}
+use lib.Dec.{eqb}
+use Rattle.frame.specs.declared.Report.{Report}
+use Rattle.frame.specs.Format.{within}
+use Rattle.frame.specs.Refusal.{first, present}
+use Rattle.frame.proofs.Laws.{both, bounds}
+use Rattle.record.specs.declared.Record.{Record}
+use Rattle.record.specs.Slots.{frameSlot, previousSlot, withSlot}
+use Rattle.keeping.specs.Keeping.{stale, outdone, keepRows, moves, ownSlot, shifted}
+
+module _ (slots : ℕ → Report) (current sender kind view : ℕ) where
+  pub refused-stale : stale current kind view ≡ true → first (keepRows slots current sender kind view) ≡ 16
+  refused-stale e = rw e
+
+  pub refused-outdone : stale current kind view ≡ false → outdone (slots (frameSlot kind sender)) view ≡ true
+      → first (keepRows slots current sender kind view) ≡ 17
+  refused-outdone e g = rw (e, g)
+
+  pub taken : stale current kind view ≡ false → outdone (slots (frameSlot kind sender)) view ≡ false
+      → first (keepRows slots current sender kind view) ≡ 0
+  taken e g = rw (e, g)
+
+module _ (r : Record) (kind plan : ℕ) where
+  pub shifted-moves : moves (ownSlot r kind) kind plan ≡ true → shifted r kind plan ≡ withSlot r (previousSlot kind) (ownSlot r kind)
+  unfolding shifted
+  shifted-moves e = rw e
+
+  pub shifted-stays : moves (ownSlot r kind) kind plan ≡ false → shifted r kind plan ≡ r
+  unfolding shifted
+  shifted-stays e = rw e
+
+-- only vote-1 and vote-2 have a previous one
+pub moves-kind : (slot : Report) (kind plan : ℕ) → moves slot kind plan ≡ true → (2 ≤ kind) × (kind ≤ 3)
+unfolding moves
+moves-kind slot kind plan e = bounds 2 3 kind (both (within 2 3 kind) (present slot && not (eqb (slot .plan) plan)) e .0)

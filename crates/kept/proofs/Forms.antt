@@ -1,0 +1,66 @@
+-- What a kept frame and keeping a frame are, by the form of the kind (01, Frames, column "Rest"): a plan in kinds 1 to 5, nothing
+-- in kind 6, three reports in kinds 7 and 8. Each definition over the kind or the body computes to one value on each form.
+-- Assumes nothing.
+use Prim.Native.Nat.{ℕ, _+_, _≤_, _<_}
+use mathlib.Core.Path.{_≡_, refl, ap, sym, _∙_}
+use mathlib.Core.Bool.{Bool, true, false}
+use native.Mathlib.Omega.{arith}
+use borrow.Author.Tests.{eq-eqb, ne-eqb, eqb-true}
+use Rattle.frame.specs.declared.Report.{Report}
+use Rattle.frame.specs.declared.Reports.{Reports}
+use Rattle.frame.specs.declared.Body.{Body}
+use Rattle.frame.specs.declared.Body.the-variants.{Plan, Empty, Told}
+use Rattle.frame.specs.declared.Frame.{Frame}
+use Rattle.frame.specs.Format.{within, fits}
+use Rattle.frame.specs.Refusal.{present}
+use Rattle.frame.proofs.Laws.{inside, over, bounds}
+use Rattle.record.specs.declared.Record.{Record}
+use Rattle.record.specs.Slots.{frameSlot, withSlot}
+use Rattle.kept.specs.declared.Kept.the-variants as kept
+use Rattle.kept.specs.Kept.{reportsIn, bodyIn, frameIn, keptIn, headSlot, withReports, withBody, keepFrame}
+
+module _ (slots : ℕ → Report) (kind sender : ℕ) where
+  pub body-plan : 1 ≤ kind → kind ≤ 5 → bodyIn slots kind sender ≡ Plan (slots (frameSlot kind sender) .plan)
+  unfolding bodyIn
+  body-plan a b = simp (inside 1 5 kind a b)
+
+  pub body-bare : kind ≡ 6 → bodyIn slots kind sender ≡ Empty
+  unfolding bodyIn
+  body-bare e = simp (over 1 5 kind (omega arith) (omega arith), eq-eqb kind 6 e)
+
+  pub body-reports : 7 ≤ kind → bodyIn slots kind sender ≡ Told (reportsIn slots kind sender)
+  unfolding bodyIn
+  body-reports a = simp (over 1 5 kind (omega arith) (omega arith), ne-eqb kind 6 (omega arith))
+
+  pub kept-there : slots (frameSlot kind sender) .mark ≡ 1 → keptIn slots kind sender ≡ kept.Kept (frameIn slots kind sender)
+  unfolding keptIn
+  kept-there e = simp (eq-eqb _ _ e)
+
+  pub kept-nothing : (slots (frameSlot kind sender) .mark ≡ 1 → ⊥) → keptIn slots kind sender ≡ kept.Nothing
+  unfolding keptIn
+  kept-nothing e = simp (ne-eqb _ _ e)
+
+-- a body that fits its kind says which kinds it can be
+pub fits-kind : (kind : ℕ) (body : Body) → fits kind body ≡ true → (1 ≤ kind) × (kind ≤ 8)
+fits-kind kind (Plan p) e = let h = bounds 1 5 kind e in (h .0, omega arith)
+fits-kind kind Empty e = let h : kind ≡ 6 = eqb-true kind 6 e in (omega arith, omega arith)
+fits-kind kind (Told t) e = let h = bounds 7 8 kind e in (omega arith, h .1)
+
+pub told-kind : (kind : ℕ) {body : Body} {t : Reports} → body ≡ Told t → fits kind body ≡ true → 7 ≤ kind
+told-kind kind {body} {t} e h = let k : fits kind (Told t) ≡ true = ap (fits kind) (sym e) ∙ h in bounds 7 8 kind k .0
+
+module _ (r : Record) (sender : ℕ) (f : Frame) where
+  pub keep-plan : {p : ℕ} → f .body ≡ Plan p
+      → keepFrame r sender f ≡ withSlot r (frameSlot (f .kind) sender) (record { mark = 1; view = f .view; plan = p })
+  unfolding keepFrame
+  keep-plan e = ap (λ (b : Body). withBody (withSlot r (frameSlot (f .kind) sender) (headSlot (record { kind = f .kind; sender = f .sender; view = f .view; body = b }))) (f .kind) sender b) e
+
+  pub keep-bare : f .body ≡ Empty → keepFrame r sender f ≡ withSlot r (frameSlot (f .kind) sender) (record { mark = 1; view = f .view; plan = 0 })
+  unfolding keepFrame
+  keep-bare e = ap (λ (b : Body). withBody (withSlot r (frameSlot (f .kind) sender) (headSlot (record { kind = f .kind; sender = f .sender; view = f .view; body = b }))) (f .kind) sender b) e
+
+  pub keep-told : {t : Reports} → f .body ≡ Told t
+      → keepFrame r sender f
+      ≡ withReports (withSlot r (frameSlot (f .kind) sender) (record { mark = 1; view = f .view; plan = 0 })) (f .kind) sender t
+  unfolding keepFrame
+  keep-told e = ap (λ (b : Body). withBody (withSlot r (frameSlot (f .kind) sender) (headSlot (record { kind = f .kind; sender = f .sender; view = f .view; body = b }))) (f .kind) sender b) e

@@ -1,0 +1,48 @@
+-- The plan that steps E to H act on is the only one with a quorum, so it may be found in any way: two quorums of one vote share
+-- a sender, and a sender has one kept vote of a number.
+-- Assumes nothing.
+use Prim.Native.Nat.{ℕ, _*_, _<_}
+use mathlib.Core.Path.{_≡_, sym, _∙_, ap}
+use mathlib.Core.Logic.{_↔_}
+use mathlib.Core.Bool.{true}
+use mathlib.Core.Option.{some}
+use native.Mathlib.Omega.{arith}
+use lib.Dec.{eqb}
+use borrow.Author.Tests.{eqb-true}
+use Rattle.quorum.specs.Sets.{equals, Mostly, Quorum}
+use Rattle.quorum.proofs.Laws.{groupMap, quorumsMeet, quorumBlocks, blockingKeeper, countQuorum, mostlyEquals, totalEquals}
+use Rattle.rules.specs.Options.{holds}
+use Rattle.rules.proofs.Laws.{holdsWhere}
+use Rattle.protocol.specs.Record.{Record, vaults, planNow}
+use Rattle.protocol.specs.Pass.{hasQuorum, agreed}
+use Rattle.protocol.proofs.Tables.{highestHas, highestMost}
+
+-- Where 3f is below n, sets of vaults meet as if all kept the rules.
+everyone : (n f : ℕ) → 3 * f < n → Mostly (equals n f) (λ i. true)
+everyone n f third = mostlyEquals n f (λ i. true) third (omega (arith, totalEquals n f))
+
+module _ (r : Record) (third : 3 * r .set .f < r .set .n) where
+  -- A quorum has a member.
+  pub quorumMember : {P : ℕ → Type 0} → Quorum (vaults r) P → (j : ℕ) × (j < r .set .n) × P j
+  quorumMember q =
+      let most = everyone (r .set .n) (r .set .f) third in
+      let (j, low, all, here) = blockingKeeper most (groupMap (λ i low h keeps. h) (quorumBlocks most q)) in
+      (j, low, here)
+
+  voters : (k p : ℕ) → hasQuorum r k p ≡ true → Quorum (vaults r) (λ j. planNow r k j ≡ some p)
+  voters k p h =
+      groupMap (λ j low t. let (q, is, same) = holdsWhere (planNow r k j) (eqb p) t in is ∙ ap some (sym (eqb-true p q same)))
+      (countQuorum (vaults r) (λ j. holds (eqb p) (planNow r k j)) .1 h)
+
+  pub agreedIs : (k p : ℕ) → (agreed r k ≡ some p) ↔ (hasQuorum r k p ≡ true)
+  unfolding agreed
+  agreedIs k p = (λ e. highestHas (hasQuorum r k) (planNow r k) (r .set .n) e .0, found)
+    where
+      found : hasQuorum r k p ≡ true → agreed r k ≡ some p
+      found h =
+          let (j, low, at) = quorumMember (voters k p h) in
+          let (w, is, le) = highestMost (hasQuorum r k) (planNow r k) (r .set .n) j p low at h in
+          let other = voters k w (highestHas (hasQuorum r k) (planNow r k) (r .set .n) is .0) in
+          let (i, below, all, a, b) = quorumsMeet (everyone (r .set .n) (r .set .f) third) (groupMap (λ i low x keeps. x) (voters k p h)) (groupMap (λ i low x keeps. x) other) in
+          let same : w ≡ p = cc in
+          is ∙ ap some same

@@ -1,0 +1,263 @@
+-- Demand 3: in a run any two decisions are for the same plan, and where all vaults keep the rules it is a plan of a start.
+-- By induction over the list every record is good for the past of the list (`invariant`). Only where a frame is kept is the
+-- run's condition on frames used; loss, repetition and order never appear again. Then the votes written are a lawful history
+-- (crate agreement), and a decision has a quorum of vote-4.
+-- Assumes nothing.
+use Prim.Native.Nat.{ℕ, _*_, _<_}
+use mathlib.Core.Path.{_≡_, refl, sym, _∙_, ap, subst, fun-ext}
+use mathlib.Core.Logic.{_≢_, _⊎_, inl, inr}
+use mathlib.Core.Bool.{Bool, true, false, cond}
+use mathlib.Core.List.{List, [], _∷_, _++_, append-nil}
+use mathlib.Core.Option.{Option, none, some}
+use native.Mathlib.Omega.{arith}
+use native.Mathlib.Nat.{mod-lt}
+use lib.Dec.{leb, eqb}
+use borrow.Author.Tests.{eqb-true, eqb-false}
+use Rattle.quorum.specs.Sets.{equals, Mostly}
+use Rattle.quorum.proofs.Bools.{which}
+use Rattle.quorum.proofs.Laws.{mostlyEquals}
+use Rattle.rules.specs.Rules.{rule1}
+use Rattle.agreement.specs.Law.{Exact, Reason, own, found, Lawful, Led, Locked}
+use Rattle.agreement.proofs.Agree.{locksAgree}
+use Rattle.agreement.proofs.Valid.{lockBegan}
+use Rattle.agreement.proofs.Reports.{none≢some}
+use Rattle.frame.specs.declared.Frame.{Frame}
+use Rattle.frame.specs.declared.Reading.the-variants.{Accepted, Refused}
+use Rattle.frame.specs.Refusal.{first, linkRows, leaderOf}
+use Rattle.frame.proofs.Laws.{neither}
+use Rattle.entry.specs.declared.Entry.{Entry}
+use Rattle.entry.specs.declared.Entry.the-variants.{ForAll, ForOne}
+use Rattle.protocol.specs.Record.{Settings, Record, put}
+use Rattle.protocol.specs.Pass.{Out}
+use Rattle.protocol.specs.Calls.{settingRows, recordRows, timerRows, started, heard, rung, Readable, Call, start, frame, timer, short, Answer, refused, accepted, answer}
+use Rattle.protocol.specs.Runs.{_∈_, Setting, Item, leftBy, wroteBy, recordAt, written, Sent, Fair, Run, nothingYet, andThen, Decides, Started, here, earlier}
+use Rattle.protocol.specs.Claim.{Demand3}
+use Rattle.protocol.proofs.Tables.{putOther, putOwn}
+use Rattle.protocol.proofs.Past.{Past, Voted, ExactNow, Fine, Ground}
+use Rattle.protocol.proofs.Past as Past′
+use Rattle.protocol.proofs.Good.{onto, Good, waits}
+use Rattle.protocol.proofs.Went.{noneGiven, unlessAccepted, thirdOf, Went, startWent, heardWent, rungWent}
+
+-- The view of a record, 0 where it is blank.
+abbrev pub viewIn : Option Record → ℕ
+viewIn none = 0
+viewIn (some r) = r .view
+
+-- The past of a list of calls.
+abbrev pub past : List Item → Past
+past l = record { wrote = written l; at = λ i. viewIn (recordAt l i) }
+
+-- A refused call leaves the past as it was, an accepted one adds what it answers.
+pub pastRefused : (l : List Item) (x : Item) (k : ℕ) → answer (recordAt l (x .at)) (x .call) ≡ refused k → (recordAt (x ∷ l) ≡ recordAt l) × (written (x ∷ l) ≡ written l)
+unfolding recordAt written
+pastRefused l x k e = (
+  ap (λ (a : Answer). put (x .at) (leftBy (recordAt l (x .at)) a) (recordAt l)) e ∙ putOwn (x .at) (recordAt l),
+  ap (λ (a : Answer). put (x .at) (written l (x .at) ++ wroteBy a) (written l)) e
+      ∙ ap (λ (es : List Entry). put (x .at) es (written l)) (append-nil (written l (x .at))) ∙ putOwn (x .at) (written l),
+)
+
+pub recordAccepted : (l : List Item) (x : Item) (o : Out) → answer (recordAt l (x .at)) (x .call) ≡ accepted o → recordAt (x ∷ l) ≡ put (x .at) (some (o .left)) (recordAt l)
+unfolding recordAt
+recordAccepted l x o e = ap (λ (a : Answer). put (x .at) (leftBy (recordAt l (x .at)) a) (recordAt l)) e
+
+pub pastAccepted : (l : List Item) (x : Item) (o : Out) → answer (recordAt l (x .at)) (x .call) ≡ accepted o → past (x ∷ l) ≡ onto (past l) (x .at) o
+unfolding written
+pastAccepted l x o e z = record { wrote = wrote z; at = at z }
+  where
+    wrote : written (x ∷ l) ≡ put (x .at) (written l (x .at) ++ o .wrote) (written l)
+    wrote = ap (λ (a : Answer). put (x .at) (written l (x .at) ++ wroteBy a) (written l)) e
+
+    view : (b : Bool) (j : ℕ) → viewIn (cond b (some (o .left)) (recordAt l j)) ≡ cond b (o .left .view) (viewIn (recordAt l j))
+    view true j = refl
+    view false j = refl
+
+    at : _≡_ {A = ℕ → ℕ} (λ j. viewIn (recordAt (x ∷ l) j)) (put (x .at) (o .left .view) (λ j. viewIn (recordAt l j)))
+    at = fun-ext (λ j. ap (λ (t : ℕ → Option Record). viewIn (t j)) (recordAccepted l x o e) ∙ view (eqb (x .at) j) j)
+
+module _ (c : Setting) (Began : ℕ → Type 0) where
+  -- Every record is its vault's own and good; a blank vault has written nothing; and only rule-keepers are called.
+  pub record Inv (l : List Item) : Type 0 where
+    pub good : (i : ℕ) (r : Record) → recordAt l i ≡ some r → (r .set .id ≡ i) × (3 * c .f < c .n) × Good c Began (past l) r
+    pub blank : (i : ℕ) → recordAt l i ≡ none → written l i ≡ []
+    pub kept : (i : ℕ) (e : Entry) → e ∈ written l i → c .keeps i ≡ true
+
+  -- ---- what is written
+
+  module _ {l : List Item} (v : Inv l) where
+    author : (i : ℕ) (e : Entry) → e ∈ written l i → (r : Record) × (r .set .id ≡ i) × (3 * c .f < c .n) × Good c Began (past l) r
+    author i e at = go (recordAt l i) refl
+      where
+        go : (b : Option Record) → recordAt l i ≡ b → (r : Record) × (r .set .id ≡ i) × (3 * c .f < c .n) × Good c Began (past l) r
+        go none is = elim (subst (λ (es : List Entry). e ∈ es) (v .blank i is) at) [ ]
+        go (some r) is = let (id, third, g) = v .good i r is in (r, id, third, g)
+
+    toldAt : (i : ℕ) (e : Entry) → e ∈ written l i → Past′.Told c Began (past l) i e
+    toldAt i e at =
+        let (r, id, third, g) = author i e at in
+        subst (λ (j : ℕ). e ∈ written l j → Past′.Told c Began (past l) j e) id (g .told e) at
+
+    onceAt : (i k w p q : ℕ) → Voted (past l) i k w p → Voted (past l) i k w q → p ≡ q
+    onceAt i k w p q x y =
+        let (r, id, third, g) = author i _ x in
+        subst (λ (j : ℕ). Voted (past l) j k w p → Voted (past l) j k w q → p ≡ q) id (g .once k w p q) x y
+
+    -- A frame of a rule-keeper, as the run lets it come, was rightly sent.
+    sentFine : (i : ℕ) (x : Frame) → Sent l i x → Fine (past l) (x .sender) x
+    sentFine i x (inl at) = toldAt (x .sender) (ForAll x) at .0
+    sentFine i x (inr at) = toldAt (x .sender) (ForOne i x) at
+
+  -- ---- one more call
+
+  -- An accepted frame does not come from the vault itself.
+  othersFrame : (i : ℕ) (x : Frame) → Readable (c .n) i x → x .sender ≢ i
+  othersFrame i x read =
+      eqb-false (x .sender) i (neither (leb (c .n) (x .sender)) (eqb (x .sender) i) (noneGiven (linkRows (x .sender) (x .sender) (c .n) i) (read .link) .0) .1)
+
+  never : {A : Type 0} {k : ℕ} {o : Out} → refused k ≡ accepted o → A
+  never e = let z : _≡_ {A = ℕ} 0 1 = cc in absurd (omega arith)
+
+  callWent : {l : List Item} (v : Inv l) (i : ℕ) (a : Call) → ((s : Settings) (p : ℕ) → a ≡ start s p → Began p) → Fair c l i a → (o : Out) → answer (recordAt l i) a ≡ accepted o
+      → (3 * c .f < c .n) × Went c Began (past l) i o
+  unfolding answer
+  callWent {l} v i a began fair o is = go a (recordAt l i) refl began fair is
+    where
+      go : (a : Call) (b : Option Record) → recordAt l i ≡ b → ((s : Settings) (p : ℕ) → a ≡ start s p → Began p) → Fair c l i a → answer b a ≡ accepted o
+          → (3 * c .f < c .n) × Went c Began (past l) i o
+      go short b e began fair is = never is
+      go (start s p) (some r) e began fair is = never is
+      go (frame x) none e began fair is = never is
+      go (timer w) none e began fair is = never is
+      go (frame (Refused k)) (some r) e began fair is = never is
+      go (start s p) none e began fair is =
+          let (en, ef, id) = fair o (ap (λ (b : Option Record). answer b (start s p)) e ∙ is) in
+          let (given, same) = unlessAccepted (first (settingRows s)) (started s p) is in
+          let third : 3 * c .f < c .n = subst (λ (x : ℕ). 3 * x < c .n) ef (subst (λ (x : ℕ). 3 * s .f < x) en (thirdOf s given)) in
+          let blank : written l (s .id) ≡ [] = ap (written l) id ∙ v .blank i e in
+          let zero-view : viewIn (recordAt l (s .id)) ≡ 0 = ap (λ (j : ℕ). viewIn (recordAt l j)) id ∙ ap viewIn e in (
+            third,
+            subst (λ (u : Out). Went c Began (past l) i u) same
+                (subst (λ (j : ℕ). Went c Began (past l) j (started s p)) id (startWent c Began (past l) s p en ef (began s p refl) blank zero-view)),
+          )
+      go (frame (Accepted x)) (some r) e began fair is =
+          let (read, sent) = fair in
+          let (given, same) = unlessAccepted (first (recordRows r x)) (heard r x) is in
+          let (id, third, g) = v .good i r e in
+          let apart : x .sender ≢ r .set .id = λ (z : x .sender ≡ r .set .id). othersFrame i x read (z ∙ id) in (
+            third,
+            subst (λ (u : Out). Went c Began (past l) i u) same
+                (subst (λ (j : ℕ). Went c Began (past l) j (heard r x)) id (heardWent c Began (past l) r x apart (λ keeps. sentFine v i x (sent keeps)) g)),
+          )
+      go (timer w) (some r) e began fair is =
+          let (given, same) = unlessAccepted (first (timerRows r w)) (rung r) is in
+          let (id, third, g) = v .good i r e in
+          let room : r .view ≢ 4294967295 = eqb-false (r .view) 4294967295 (noneGiven (timerRows r w) given .1 .0) in
+          (third, subst (λ (u : Out). Went c Began (past l) i u) same (subst (λ (j : ℕ). Went c Began (past l) j (rung r)) id (rungWent c Began (past l) r room g)))
+
+  invNone : Inv []
+  unfolding recordAt written
+  invNone = record { good = λ i r e. absurd (none≢some e); blank = λ i e. refl; kept = λ i e at. elim at [ ] }
+
+  invRefused : {l : List Item} (x : Item) (k : ℕ) → answer (recordAt l (x .at)) (x .call) ≡ refused k → Inv l → Inv (x ∷ l)
+  invRefused {l} x k is v =
+      let (records, entries) = pastRefused l x k is in
+      let same : past l ≡ past (x ∷ l) = λ z. record { wrote = sym entries z; at = λ i. viewIn (sym records z i) } in
+      record {
+        good = λ i r e. subst (λ (h : Past). (r .set .id ≡ i) × (3 * c .f < c .n) × Good c Began h r) same (v .good i r (ap (λ (t : ℕ → Option Record). t i) (sym records) ∙ e));
+        blank = λ i e. ap (λ (t : ℕ → List Entry). t i) entries ∙ v .blank i (ap (λ (t : ℕ → Option Record). t i) (sym records) ∙ e);
+        kept = λ i e at. v .kept i e (subst (λ (t : ℕ → List Entry). e ∈ t i) entries at);
+      }
+
+  invAccepted : {l : List Item} (x : Item) (o : Out) → c .keeps (x .at) ≡ true → answer (recordAt l (x .at)) (x .call) ≡ accepted o
+      → 3 * c .f < c .n → Went c Began (past l) (x .at) o → Inv l → Inv (x ∷ l)
+  invAccepted {l} x o keeps is third w v = record {
+    good = λ i r e. goodAt i r (which (eqb (x .at) i)) (ap (λ (t : ℕ → Option Record). t i) (sym (recordAccepted l x o is)) ∙ e);
+    blank = λ i e. blankAt i (which (eqb (x .at) i)) (ap (λ (t : ℕ → Option Record). t i) (sym (recordAccepted l x o is)) ∙ e);
+    kept = λ i e at. keptAt i e (which (eqb (x .at) i)) (subst (λ (h : Past). e ∈ h .wrote i) (pastAccepted l x o is) at);
+  }
+    where
+      goodAt : (i : ℕ) (r : Record) → (eqb (x .at) i ≡ true) ⊎ (eqb (x .at) i ≡ false) → put (x .at) (some (o .left)) (recordAt l) i ≡ some r
+          → (r .set .id ≡ i) × (3 * c .f < c .n) × Good c Began (past (x ∷ l)) r
+      goodAt i r (inl same) e =
+          let its : o .left ≡ r = own-left (rw same at e) in (
+            ap (λ (z : Record). z .set .id) (sym its) ∙ w .id ∙ eqb-true (x .at) i same,
+            third,
+            subst (λ (h : Past). Good c Began h r) (sym (pastAccepted l x o is)) (subst (λ (z : Record). Good c Began (onto (past l) (x .at) o) z) its (w .good)),
+          )
+        where
+          own-left : some (o .left) ≡ some r → o .left ≡ r
+          own-left e = cc
+      goodAt i r (inr other) e =
+          let (id, third, g) = v .good i r (rw other at e) in
+          let apart : x .at ≡ r .set .id → ⊥ = λ (z : x .at ≡ r .set .id). eqb-false (x .at) i other (z ∙ id) in (
+            id,
+            third,
+            subst (λ (h : Past). Good c Began h r) (sym (pastAccepted l x o is))
+                (waits c Began (w .later) (putOther (x .at) _ (written l) (r .set .id) apart) (putOther (x .at) _ (past l .at) (r .set .id) apart) g),
+          )
+
+      blankAt : (i : ℕ) → (eqb (x .at) i ≡ true) ⊎ (eqb (x .at) i ≡ false) → put (x .at) (some (o .left)) (recordAt l) i ≡ none → written (x ∷ l) i ≡ []
+      blankAt i (inl same) e = absurd (none≢some (sym (rw same at e)))
+      blankAt i (inr other) e = ap (λ (h : Past). h .wrote i) (pastAccepted l x o is) ∙ rw other (v .blank i (rw other at e))
+
+      keptAt : (i : ℕ) (e : Entry) → (eqb (x .at) i ≡ true) ⊎ (eqb (x .at) i ≡ false) → e ∈ (onto (past l) (x .at) o) .wrote i → c .keeps i ≡ true
+      keptAt i e (inl same) at = subst (λ (j : ℕ). c .keeps j ≡ true) (eqb-true (x .at) i same) keeps
+      keptAt i e (inr other) at = v .kept i e (rw other at at)
+
+  pub invariant : {l : List Item} → Run c l → ((p : ℕ) → Started p l → Began p) → Inv l
+  invariant nothingYet began = invNone
+  invariant (andThen {l = l} {x = x} run keeps fair) began = go (invariant run (λ p s. began p (earlier s))) (answer (recordAt l (x .at)) (x .call)) refl
+    where
+      go : Inv l → (a : Answer) → answer (recordAt l (x .at)) (x .call) ≡ a → Inv (x ∷ l)
+      go v (refused k) is = invRefused x k is v
+      go v (accepted o) is =
+          let (third, w) = callWent v (x .at) (x .call) (λ s p e. began p (here {s = s} e is)) fair o is in
+          invAccepted x o keeps is third w v
+
+  -- ---- the history is lawful
+
+  module _ {l : List Item} (v : Inv l) where
+    groundAt : {i k w p : ℕ} → Voted (past l) i k w p → Ground c Began (past l) k w p
+    groundAt {i} {k} {w} {p} at = toldAt v i _ at .1 k p refl refl
+
+    lawful : Lawful (equals (c .n) (c .f)) (c .keeps) (Voted (past l))
+    lawful = record {
+      once = λ {i} {v = w} {p} {q} keeps x y. onceAt v i 1 w p q x y;
+      vouched = λ keeps x. let why = groundAt x .0 in record { proofs = why .proofs; from = λ j r h e. why .from j r h e .1; safe = why .safe };
+      chain = λ k keeps x. groundAt x;
+    }
+
+    led : 3 * c .f < c .n → Led (equals (c .n) (c .f)) (c .keeps) (Voted (past l)) Began
+    led third = record {
+      leader = λ w. leaderOf w (c .n);
+      number = λ w. mod-lt w (omega arith);
+      reason = λ keeps x leads. exactly (groundAt (groundAt x .1 leads));
+    }
+      where
+        exactly : {w p : ℕ} → Reason (equals (c .n) (c .f)) (c .keeps) (ExactNow (past l) rule1 w) Began w p
+            → Reason (equals (c .n) (c .f)) (c .keeps) (λ j. Exact (Voted (past l) j) rule1 w) Began w p
+        exactly (own b) = own b
+        exactly (found s rs from unsafe safe) = found s rs (λ j r h e. from j r h e .1) unsafe safe
+
+    decided : (i : ℕ) {p : ℕ} → Decides l i p → (w : ℕ) × (3 * c .f < c .n) × Locked (equals (c .n) (c .f)) (c .keeps) (Voted (past l)) w p
+    decided i (w, at) = let (r, id, third, g) = author v i _ at in (w, third, toldAt v i _ at)
+
+    mostly : 3 * c .f < c .n → Mostly (equals (c .n) (c .f)) (c .keeps)
+    mostly third = mostlyEquals (c .n) (c .f) (c .keeps) third (omega (arith, c .most))
+
+-- In every run any two decisions are for the same plan; and if all vaults keep the rules, for the plan of an accepted start.
+pub demand3 : Demand3
+demand3 c l run = record {
+  agreement = λ i j p q a b.
+      let (u, third, x) = decided c Began v i a in
+      let (w, third′, y) = decided c Began v j b in
+      locksAgree (mostly c Began v third) (lawful c Began v) x y;
+  validity = λ all i p a.
+      let (u, third, x) = decided c Began v i a in
+      lockBegan (mostly c Began v third) all (lawful c Began v) (led c Began v third) x;
+}
+  where
+    Began : ℕ → Type 0
+    Began p = Started p l
+
+    v : Inv c (λ p. Started p l) l
+    v = invariant c (λ p. Started p l) run (λ p s. s)

@@ -1,0 +1,17 @@
+pub mod Tables
+pub mod Past
+pub mod May
+pub mod Tops
+pub mod Good
+pub mod Went
+pub mod Demand
+pub mod Passes
+pub mod Agreed
+pub mod Read
+pub mod Slots
+pub mod Sound
+pub mod Size
+pub mod Proper
+pub mod Settled
+pub mod Lasting
+pub mod Tested

@@ -1,0 +1,179 @@
+-- A whole pass, and each call, leaves the record good and the past later: by going on from act to act.
+-- A start is the first thing that its vault writes, a frame is kept before the pass, and a timer's view-change is an act.
+-- Assumes nothing.
+use Prim.Native.Nat.{ℕ, zero, suc, _*_, _≤_, _<_}
+use mathlib.Core.Path.{_≡_, refl, sym, _∙_, ap, subst}
+use mathlib.Core.Logic.{_≢_, _⊎_, inl, inr}
+use mathlib.Core.Bool.{Bool, true, false, cond}
+use mathlib.Core.List.{List, [], _∷_, _++_, append-nil, append-assoc, List·Memᴰ·eq-of-singleton}
+use mathlib.Core.Option.{Option, none, some}
+use native.Mathlib.Omega.{arith}
+use lib.Dec.{leb, ltb, eqb}
+use borrow.Author.Tests.{eqb-true, leb-false, ltb-true}
+use Rattle.quorum.proofs.Bools.{which}
+use Rattle.agreement.proofs.Reports.{none≢some}
+use Rattle.frame.specs.declared.Frame.{Frame}
+use Rattle.frame.specs.Refusal.{Row, row, first}
+use Rattle.frame.proofs.Laws.{neither}
+use Rattle.entry.specs.declared.Entry.{Entry}
+use Rattle.protocol.specs.Record.{Settings, Record, put, changeOf}
+use Rattle.protocol.specs.Pass.{Act, ask, timerEntry, does, Out, Step, taken, onward, pass, fromC, fromA}
+use Rattle.protocol.specs.Calls.{settingRows, fresh, started, keep, heard, wantedFrom, wanted, rung, accepted, unless}
+use Rattle.protocol.specs.Runs.{_∈_, Setting}
+use Rattle.protocol.proofs.Tables.{putSame, putAgain, putOwn}
+use Rattle.protocol.proofs.Past.{Past, Voted, Later, laterTrans, Fine}
+use Rattle.protocol.proofs.Past as Past′
+use Rattle.protocol.proofs.Tops.{topsNone}
+use Rattle.protocol.proofs.May.{May, Sure, done, and, sureC, sureA}
+use Rattle.protocol.proofs.Good.{onto, Good, doesSet, actLater, actGood, heardGood}
+
+-- ---- tables of refusals
+
+-- No row is given.
+abbrev pub NoneGiven : List Row → Type 0
+NoneGiven [] = Unit {0}
+NoneGiven (row zero given ∷ rows) = Unit {0}
+NoneGiven (row (suc k) given ∷ rows) = (given ≡ false) × NoneGiven rows
+
+pub noneGiven : (rows : List Row) → first rows ≡ 0 → NoneGiven rows
+noneGiven [] e = tt
+noneGiven (row zero given ∷ rows) e = tt
+noneGiven (row (suc k) true ∷ rows) e = absurd (omega arith)
+noneGiven (row (suc k) false ∷ rows) e = (refl, noneGiven rows e)
+
+pub unlessAccepted : (k : ℕ) (o : Out) {o′ : Out} → unless k o ≡ accepted o′ → (k ≡ 0) × (o ≡ o′)
+unlessAccepted zero o e = (refl, cc)
+unlessAccepted (suc k) o e = let z : _≡_ {A = ℕ} 0 1 = cc in absurd (omega arith)
+
+-- Row 6 leaves 3f below n.
+pub thirdOf : (s : Settings) → first (settingRows s) ≡ 0 → 3 * s .f < s .n
+thirdOf s e = leb-false (s .n) (3 * s .f) (neither (eqb (s .f) 0) (leb (s .n) (3 * s .f)) (noneGiven (settingRows s) e .1 .0) .1)
+
+-- A timer's view-change is for a view above the current one.
+pub wantedMay : (r : Record) → r .view ≢ 4294967295 → May r (ask (wanted r))
+wantedMay r room = go (changeOf r (r .set .id)) refl
+  where
+    go : (o : Option ℕ) → changeOf r (r .set .id) ≡ o → May r (ask (wantedFrom (r .view) o))
+    go none e = (omega arith, inr (refl, room))
+    go (some w) e = by (ltb (r .view) w) refl
+      where
+        by : (b : Bool) → ltb (r .view) w ≡ b → May r (ask (cond b w (suc (r .view))))
+        by true above = (ltb-true (r .view) w above, inl (r .set .id, e))
+        by false below = (omega arith, inr (refl, room))
+
+-- ---- the past of several answers
+
+ontoNone : (h : Past) (i : ℕ) (r : Record) → h .at i ≡ r .view → onto h i (record { left = r; wrote = [] }) ≡ h
+ontoNone h i r now z = record { wrote = wrote z; at = at z }
+  where
+    wrote : put i (h .wrote i ++ []) (h .wrote) ≡ h .wrote
+    wrote = ap (λ (l : List Entry). put i l (h .wrote)) (append-nil (h .wrote i)) ∙ putOwn i (h .wrote)
+
+    at : put i (r .view) (h .at) ≡ h .at
+    at = ap (λ (v : ℕ). put i v (h .at)) (sym now) ∙ putOwn i (h .at)
+
+ontoTwice : (h : Past) (i : ℕ) (o u : Out) → onto (onto h i o) i u ≡ onto h i (onward (o .wrote) u)
+ontoTwice h i o u z = record { wrote = wrote z; at = putAgain i (u .left .view) (o .left .view) (h .at) z }
+  where
+    wrote : put i (put i (h .wrote i ++ o .wrote) (h .wrote) i ++ u .wrote) (put i (h .wrote i ++ o .wrote) (h .wrote)) ≡ put i (h .wrote i ++ (o .wrote ++ u .wrote)) (h .wrote)
+    wrote =
+        ap (λ (l : List Entry). put i (l ++ u .wrote) (put i (h .wrote i ++ o .wrote) (h .wrote))) (putSame i (h .wrote i ++ o .wrote) (h .wrote))
+        ∙ putAgain i ((h .wrote i ++ o .wrote) ++ u .wrote) (h .wrote i ++ o .wrote) (h .wrote)
+        ∙ ap (λ (l : List Entry). put i l (h .wrote)) (append-assoc (h .wrote i) (o .wrote) (u .wrote))
+
+laterSame : {h g : Past} → g ≡ h → Later h g
+laterSame {h} e = subst (Later h) (sym e) (record { more = λ j e at. at; rises = λ j. omega arith; settled = λ j k u p low at. at })
+
+module _ (c : Setting) (Began : ℕ → Type 0) where
+  -- What a vault's answer o, after the past h, comes to.
+  pub record Went (h : Past) (i : ℕ) (o : Out) : Type 0 where
+    pub id : o .left .set .id ≡ i
+    pub good : Good c Began (onto h i o) (o .left)
+    pub later : Later h (onto h i o)
+
+  -- An answer goes on from another.
+  further : {h : Past} {i : ℕ} (o u : Out) → Later h (onto h i o) → Went (onto h i o) i u → Went h i (onward (o .wrote) u)
+  further {h} {i} o u on w = record {
+    id = w .id;
+    good = subst (λ (g : Past). Good c Began g (u .left)) (ontoTwice h i o u) (w .good);
+    later = subst (Later h) (ontoTwice h i o u) (laterTrans on (w .later));
+  }
+
+  passWent : {steps : List Step} → Sure steps → (h : Past) (r : Record) → Good c Began h r → Went h (r .set .id) (pass steps r)
+  unfolding pass
+  passWent done h r g = record {
+    id = refl;
+    good = subst (λ (z : Past). Good c Began z r) (sym (ontoNone h (r .set .id) r (g .now))) g;
+    later = laterSame (ontoNone h (r .set .id) r (g .now));
+  }
+  passWent (and {s = s} {l = rest} law sure) h r g =
+      subst (λ (o : Out). Went h (r .set .id) (onward (o .wrote) (pass rest (o .left)))) (sym (law .does r)) (go (law .act r) refl (passWent sure))
+    where
+      go : (b : Option Act) → law .act r ≡ b → ((h : Past) (r : Record) → Good c Began h r → Went h (r .set .id) (pass rest r))
+          → Went h (r .set .id) (onward ((taken r b) .wrote) (pass rest ((taken r b) .left)))
+      go none e then = then h r g
+      go (some a) e then = further (taken r (some a)) (pass rest (does r a)) (actLater c Began g a (law .may r a e))
+          (subst (λ (i : ℕ). Went (onto h (r .set .id) (taken r (some a))) i (pass rest (does r a))) (ap (λ (s : Settings). s .id) (doesSet r a))
+          (then (onto h (r .set .id) (taken r (some a))) (does r a) (actGood c Began g a (law .may r a e))))
+
+  -- ---- the calls
+
+  pub startWent : (h : Past) (s : Settings) (p : ℕ) → s .n ≡ c .n → s .f ≡ c .f → Began p → h .wrote (s .id) ≡ [] → h .at (s .id) ≡ 0 → Went h (s .id) (started s p)
+  unfolding started
+  startWent h s p en ef began blank zero-view = further first-out (pass fromC (fresh s p)) later (passWent sureC h₁ (fresh s p) good)
+    where
+      first-out : Out
+      first-out = record { left = fresh s p; wrote = timerEntry (fresh s p) 0 ∷ [] }
+
+      h₁ : Past
+      h₁ = onto h (s .id) first-out
+
+      only : (e : Entry) → e ∈ h₁ .wrote (s .id) → e ≡ timerEntry (fresh s p) 0
+      only e at = List·Memᴰ·eq-of-singleton (subst (λ (l : List Entry). e ∈ l) (putSame (s .id) _ (h .wrote) ∙ ap (λ (l : List Entry). l ++ (timerEntry (fresh s p) 0 ∷ [])) blank) at)
+
+      silent : (k u q : ℕ) → ¬ Voted h₁ (s .id) k u q
+      silent k u q at = let e = only _ at in let z : _≡_ {A = ℕ} 0 1 = cc in omega arith
+
+      good : Good c Began h₁ (fresh s p)
+      good = record {
+        n = en;
+        f = ef;
+        plan = began;
+        now = putSame (s .id) 0 (h .at);
+        below = λ k u q at. absurd (silent k u q at);
+        once = λ k v q q′ at at′. absurd (silent k v q at);
+        highest = λ k low. topsNone (λ u q at. silent k u q at);
+        previous = λ k has. topsNone (λ u q (at, o). silent k u q at);
+        kept = λ k j x e. absurd (none≢some e);
+        told = λ e at. subst (Past′.Told c Began h₁ (s .id)) (sym (only e at)) tt;
+      }
+
+      later : Later h h₁
+      later = record {
+        more = λ j e at. more j e (which (eqb (s .id) j)) at;
+        rises = λ j. rises j (which (eqb (s .id) j));
+        settled = λ j k u q low at. settled j k u q (which (eqb (s .id) j)) at;
+      }
+        where
+          more : (j : ℕ) (e : Entry) → (eqb (s .id) j ≡ true) ⊎ (eqb (s .id) j ≡ false) → e ∈ h .wrote j → e ∈ h₁ .wrote j
+          more j e (inl same) at = elim (subst (λ (l : List Entry). e ∈ l) (ap (h .wrote) (sym (eqb-true (s .id) j same)) ∙ blank) at) [ ]
+          more j e (inr other) at = rw other at
+
+          rises : (j : ℕ) → (eqb (s .id) j ≡ true) ⊎ (eqb (s .id) j ≡ false) → h .at j ≤ h₁ .at j
+          rises j (inl same) = rw same (omega (arith, ap (h .at) (sym (eqb-true (s .id) j same)), zero-view))
+          rises j (inr other) = rw other (omega arith)
+
+          settled : (j k u q : ℕ) → (eqb (s .id) j ≡ true) ⊎ (eqb (s .id) j ≡ false) → Voted h₁ j k u q → Voted h j k u q
+          settled j k u q (inl same) at = absurd (silent k u q (subst (λ (x : ℕ). Voted h₁ x k u q) (sym (eqb-true (s .id) j same)) at))
+          settled j k u q (inr other) at = rw other at at
+
+  pub heardWent : (h : Past) (r : Record) (x : Frame) → x .sender ≢ r .set .id → (c .keeps (x .sender) ≡ true → Fine h (x .sender) x) → Good c Began h r
+      → Went h (r .set .id) (heard r x)
+  unfolding heard keep
+  heardWent h r x other fine g = passWent sureA h (keep x r) (heardGood c Began x other fine g)
+
+  pub rungWent : (h : Past) (r : Record) → r .view ≢ 4294967295 → Good c Began h r → Went h (r .set .id) (rung r)
+  unfolding rung does
+  rungWent h r room g =
+      further (taken r (some (ask (wanted r)))) (pass fromA (does r (ask (wanted r)))) (actLater c Began g (ask (wanted r)) (wantedMay r room))
+      (passWent sureA (onto h (r .set .id) (taken r (some (ask (wanted r))))) (does r (ask (wanted r))) (actGood c Began g (ask (wanted r)) (wantedMay r room)))

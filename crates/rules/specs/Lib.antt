@@ -1,0 +1,4 @@
+pub mod Counts
+pub mod Options
+pub mod Rules
+pub mod Views

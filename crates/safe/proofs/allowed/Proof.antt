@@ -1,0 +1,83 @@
+use borrow.Author.Needs.{needs}
+use Prim.Native.Nat.{_-_, _≤_}
+use mathlib.Core.Path.{_≡_, sym, _∙_, ap}
+use native.Mathlib.Omega.{arith}
+use Rattle.quorum.specs.Sets.{weigh}
+use Rattle.quorum.proofs.Laws.{weighNone, weighStep, shareMost, quorumCount}
+use Rattle.rules.specs.Rules.{reporting}
+use Rattle.rules.specs.Views.{allowsTo}
+use Rattle.claims.specs.Layout.{reportsIn}
+use Rattle.safe.proofs.allowed.Statement.{statement}
+use Rattle.safe.proofs.allowed.Tie as tie
+use Rattle.safe.proofs.allowed.Reads as reads
+use Rattle.safe.proofs.allowed.Lts as lts
+use Rattle.safe.proofs.allow_share.Reads as allow-share-reads
+use Rattle.safe.proofs.is_quorum.Reads as is-quorum-reads
+
+abbrev Inv-loop : tie.InvT-loop
+Inv-loop kept at marks views plans n f v p t count₀ r₀ count r = (r ≤ n) × (count ≤ r) × (count ≡ weigh (λ i. 1) (reporting (reportsIn kept at marks views plans v) (allowsTo p t)) r)
+
+abbrev μ-loop : tie.MeasureT-loop
+μ-loop kept at marks views plans n f v p t count₀ r₀ count r = n - r
+
+-- src/lib.rt:60:5
+loop-holds : tie.Need-loop-holds Inv-loop μ-loop
+loop-holds c = (omega arith, omega arith, sym (weighNone _ _))
+
+-- src/lib.rt:61:18
+allow-share-requires : tie.Need-allow-share-requires Inv-loop μ-loop
+allow-share-requires c κs = search needs
+
+-- src/lib.rt:61:9
+add-count : tie.Need-add-count Inv-loop μ-loop
+add-count c =
+    let a = c .before .before .before .before .before .before .before .before .args in
+    let at = c .before .before .loop in
+    let add = c .allow-share in
+    omega (arith, shareMost (reporting (reportsIn (a .kept .now) (a .at .now) (a .marks .now) (a .views .now) (a .plans .now) (a .v)) (allowsTo (a .p) (a .t)) (at .r)) 1 (add .result) (add .ensures))
+
+-- src/lib.rt:62:9
+add-r : tie.Need-add-r Inv-loop μ-loop
+add-r c = search needs
+
+-- src/lib.rt:60:5
+loop-less : tie.Need-loop-less Inv-loop μ-loop
+loop-less c = search needs
+
+-- src/lib.rt:60:5
+loop-again : tie.Need-loop-again Inv-loop μ-loop
+loop-again c =
+    let a = c .before .before .before .before .before .before .before .before .args in
+    let at = c .before .before .loop in
+    let add = c .allow-share in
+    let s = reporting (reportsIn (a .kept .now) (a .at .now) (a .marks .now) (a .views .now) (a .plans .now) (a .v)) (allowsTo (a .p) (a .t)) in
+    let most : add .result ≤ 1 = shareMost (s (at .r)) 1 (add .result) (add .ensures) in
+    (omega arith, omega arith, weighStep (λ i. 1) s (at .r) (at .count) (add .result) (at .inv .2) (add .ensures))
+
+-- src/lib.rt:64:5
+is-quorum-requires : tie.Need-is-quorum-requires Inv-loop μ-loop
+is-quorum-requires c κs = search needs
+
+-- src/lib.rt:54:1
+returns : tie.Need-returns Inv-loop μ-loop
+returns c =
+    let a = c .before .before .before .before .before .before .before .before .args in
+    let at = c .before .before .loop in
+    let s = reporting (reportsIn (a .kept .now) (a .at .now) (a .marks .now) (a .views .now) (a .plans .now) (a .v)) (allowsTo (a .p) (a .t)) in
+    let e : at .r ≡ a .n = omega arith in
+    c .is-quorum .ensures ∙ quorumCount (a .n) (a .f) s (at .count) (at .inv .2 ∙ ap (weigh (λ i. 1) s) e)
+
+pub allowed-spec : {M : Type 1} → statement M
+allowed-spec =
+    tie.close
+    (tie.spec
+    Inv-loop
+    μ-loop
+    loop-holds
+    allow-share-requires
+    add-count
+    add-r
+    loop-less
+    loop-again
+    is-quorum-requires
+    returns)

@@ -1,0 +1,19 @@
+-- No delay is above 5000 milliseconds ("20, 50, 100, 200, 500, 1000, 2000, 5000"), so that 9 of them fit 32 bits: one look at
+-- each class, and at no class the delay is 0.
+-- Assumes nothing.
+use Prim.Native.Nat.{ℕ, zero, suc, _≤_, _+_}
+use mathlib.Core.Path.{_≡_}
+use native.Mathlib.Omega.{arith}
+use Rattle.settings.specs.Settings.{delayOf}
+
+pub delay-below : (class : ℕ) → delayOf class ≤ 5000
+unfolding delayOf
+delay-below zero = omega arith
+delay-below (suc zero) = omega arith
+delay-below (suc (suc zero)) = omega arith
+delay-below (suc (suc (suc zero))) = omega arith
+delay-below (suc (suc (suc (suc zero)))) = omega arith
+delay-below (suc (suc (suc (suc (suc zero))))) = omega arith
+delay-below (suc (suc (suc (suc (suc (suc zero)))))) = omega arith
+delay-below (suc (suc (suc (suc (suc (suc (suc zero))))))) = omega arith
+delay-below (suc (suc (suc (suc (suc (suc (suc (suc class)))))))) = omega arith

@@ -1,0 +1,168 @@
+-- Laws of the tests of soundness (01, "What a vault keeps"): what each conjunction gives at the first part that fails and at its
+-- last part, and a loop that stops at the first fault. The code returns in just these cases.
+-- Assumes nothing.
+use Prim.Native.Nat.{ℕ, zero, suc, _+_, _<_, _≤_}
+use mathlib.Core.Path.{_≡_, refl, ap, sym, subst, _∙_}
+use mathlib.Core.Logic.{⊎-elim}
+use mathlib.Core.Bool.{Bool, true, false, not, _&&_, _||_, cond}
+use mathlib.Core.List.{List, _++_}
+use native.Mathlib.Nat.{le-of-suc-le-suc, not-suc-le-zero, eq-or-lt-of-le}
+use native.Mathlib.Numerals.{add-one}
+use native.Mathlib.Omega.{arith}
+use borrow.Author.Tests.{eq-eqb, ne-eqb, lt-ltb, le-ltb, not-true, not-false}
+use lib.Dec.{ltb, eqb}
+use lib.ListN.{length}
+use Rattle.frame.specs.declared.Report.{Report}
+use Rattle.frame.specs.declared.Frame.{Frame}
+use Rattle.frame.specs.Refusal.{first, present, absent, badForm, badPrevious, contentRows, leaderRows}
+use Rattle.settings.specs.Settings.{settingRows}
+use Rattle.record.specs.Slots.{frameSlot, reportSlot, previousSlot, decisionSlot}
+use Rattle.layout.specs.Layout.{decodeRecord}
+use Rattle.kept.specs.Kept.{frameIn}
+use Rattle.sound.specs.Sound.{all, reportsAbsent, emptyAt, noPlan, ahead, frameSound, placeSound, stands, previousSound, votesSound, rowsSound, soundIn, sound, lentIs}
+use Rattle.sound.specs.declared.Lent.the-variants.{Blank, Unsound, Sound}
+
+-- ---- flags
+
+-- what a call ensures of its flag, where `if !flag` was taken, and where it was passed
+pub off : {b x : Bool} → b ≡ x → not b ≡ true → x ≡ false
+off {b} p q = sym p ∙ not-true b q
+
+pub on : {b x : Bool} → b ≡ x → not b ≡ false → x ≡ true
+on {b} p q = sym p ∙ not-false b q
+
+not-not : (b : Bool) → not (not b) ≡ b
+not-not true = refl
+not-not false = refl
+
+-- ---- slots
+
+pub formed-other : (slot : Report) → (slot .mark ≡ 1 → ⊥) → not (badForm slot) ≡ absent slot
+unfolding badForm
+formed-other slot h = rw (ne-eqb (slot .mark) 1 h) (not-not (absent slot))
+
+and-true : (b : Bool) → (b && true) ≡ b
+and-true true = refl
+and-true false = refl
+
+pub stands-absent : (highest previous : Report) → (previous .mark ≡ 1 → ⊥) → stands highest previous ≡ absent previous
+unfolding stands badPrevious
+stands-absent highest previous h = rw (formed-other previous h, ne-eqb (previous .mark) 1 h) (and-true (absent previous))
+
+-- ---- conjunctions
+
+module _ (slots : ℕ → Report) (kind sender : ℕ) where
+  pub reports-highest : absent (slots (reportSlot kind 0 sender)) ≡ false → reportsAbsent slots kind sender ≡ false
+  unfolding reportsAbsent
+  reports-highest a = rw a
+
+  pub reports-previous : absent (slots (reportSlot kind 0 sender)) ≡ true → absent (slots (reportSlot kind 1 sender)) ≡ false → reportsAbsent slots kind sender ≡ false
+  unfolding reportsAbsent
+  reports-previous a b = rw (a, b)
+
+  pub reports-lock : absent (slots (reportSlot kind 0 sender)) ≡ true → absent (slots (reportSlot kind 1 sender)) ≡ true
+      → reportsAbsent slots kind sender ≡ absent (slots (reportSlot kind 2 sender))
+  unfolding reportsAbsent
+  reports-lock a b = rw (a, b)
+
+  pub empty-frame : absent (slots (frameSlot kind sender)) ≡ false → emptyAt slots kind sender ≡ false
+  unfolding emptyAt
+  empty-frame a = rw a
+
+  pub empty-short : absent (slots (frameSlot kind sender)) ≡ true → kind < 7 → emptyAt slots kind sender ≡ true
+  unfolding emptyAt
+  empty-short a h = rw (a, lt-ltb kind 7 h)
+
+  pub empty-reports : absent (slots (frameSlot kind sender)) ≡ true → 7 ≤ kind → emptyAt slots kind sender ≡ reportsAbsent slots kind sender
+  unfolding emptyAt
+  empty-reports a h = rw (a, le-ltb kind 7 h)
+
+module _ (n id view : ℕ) (f : Frame) where
+  pub frame-row : n ≤ f .sender → frameSound n id view f ≡ false
+  unfolding frameSound
+  frame-row h = rw (le-ltb (f .sender) n h)
+
+  pub frame-ahead : f .sender < n → ahead id view f ≡ true → frameSound n id view f ≡ false
+  unfolding frameSound
+  frame-ahead h a = rw (lt-ltb (f .sender) n h, a)
+
+  pub frame-rows : f .sender < n → ahead id view f ≡ false → frameSound n id view f ≡ eqb (first (contentRows f ++ leaderRows f n id)) 0
+  unfolding frameSound
+  frame-rows h a = rw (lt-ltb (f .sender) n h, a)
+
+module _ (slots : ℕ → Report) (n id view kind sender : ℕ) where
+  pub place-empty : (slots (frameSlot kind sender) .mark ≡ 1 → ⊥) → placeSound slots n id view kind sender ≡ emptyAt slots kind sender
+  unfolding placeSound
+  place-empty h = rw (ne-eqb (slots (frameSlot kind sender) .mark) 1 h)
+
+  pub place-plan : slots (frameSlot kind sender) .mark ≡ 1 → noPlan kind (slots (frameSlot kind sender) .plan) ≡ false → placeSound slots n id view kind sender ≡ false
+  unfolding placeSound
+  place-plan h a = rw (eq-eqb (slots (frameSlot kind sender) .mark) 1 h, a)
+
+  pub place-frame : slots (frameSlot kind sender) .mark ≡ 1 → noPlan kind (slots (frameSlot kind sender) .plan) ≡ true
+      → placeSound slots n id view kind sender ≡ frameSound n id view (frameIn slots kind sender)
+  unfolding placeSound
+  place-frame h a = rw (eq-eqb (slots (frameSlot kind sender) .mark) 1 h, a)
+
+module _ (slots : ℕ → Report) (id : ℕ) where
+  pub votes-first : previousSound slots id 2 ≡ false → votesSound slots id ≡ false
+  unfolding votesSound
+  votes-first a = rw a
+
+  pub votes-second : previousSound slots id 2 ≡ true → previousSound slots id 3 ≡ false → votesSound slots id ≡ false
+  unfolding votesSound
+  votes-second a b = rw (a, b)
+
+  pub votes-decision : previousSound slots id 2 ≡ true → previousSound slots id 3 ≡ true → votesSound slots id ≡ not (badForm (slots decisionSlot))
+  unfolding votesSound
+  votes-decision a b = rw (a, b)
+
+module _ (slots : ℕ → Report) (n f id class view : ℕ) where
+  pub sound-settings : (first (settingRows n f id class) ≡ 0 → ⊥) → soundIn slots n f id class view ≡ false
+  unfolding soundIn
+  sound-settings h = rw (ne-eqb (first (settingRows n f id class)) 0 h)
+
+  pub sound-rows : first (settingRows n f id class) ≡ 0 → rowsSound slots n id view ≡ false → soundIn slots n f id class view ≡ false
+  unfolding soundIn
+  sound-rows h a = rw (eq-eqb (first (settingRows n f id class)) 0 h, a)
+
+  pub sound-votes : first (settingRows n f id class) ≡ 0 → rowsSound slots n id view ≡ true → soundIn slots n f id class view ≡ votesSound slots id
+  unfolding soundIn
+  sound-votes h a = rw (eq-eqb (first (settingRows n f id class)) 0 h, a)
+
+-- ---- loops
+
+pub all-none : (test : ℕ → Bool) → all test 0 ≡ true
+unfolding all
+all-none test = refl
+
+pub all-more : (test : ℕ → Bool) (n : ℕ) → all test n ≡ true → test n ≡ true → all test (n + 1) ≡ true
+unfolding all
+all-more test n h k = rw (add-one, h, k)
+
+and-false : (b : Bool) → (b && false) ≡ false
+and-false true = refl
+and-false false = refl
+
+pub all-stop : (test : ℕ → Bool) (n i : ℕ) → i < n → test i ≡ false → all test n ≡ false
+unfolding all
+all-stop test zero i h e = absurd (not-suc-le-zero h)
+all-stop test (suc n) i h e = ⊎-elim
+    (λ (s : i ≡ n). ap (λ (b : Bool). all test n && b) (subst (λ (k : ℕ). test k ≡ false) s e) ∙ and-false (all test n))
+    (λ (k : i < n). ap (λ (b : Bool). b && test n) (all-stop test n i k e))
+    (eq-or-lt-of-le (le-of-suc-le-suc h))
+
+-- ---- lent bytes
+
+module _ (s : List ℕ) where
+  pub lent-length : (length s ≡ 11703 → ⊥) → lentIs s ≡ Unsound
+  unfolding lentIs
+  lent-length h = rw (ne-eqb (length s) 11703 h)
+
+  pub lent-blank : length s ≡ 11703 → decodeRecord s .n ≡ 0 → lentIs s ≡ Blank
+  unfolding lentIs
+  lent-blank h k = rw (eq-eqb (length s) 11703 h, eq-eqb (decodeRecord s .n) 0 k)
+
+  pub lent-other : length s ≡ 11703 → (decodeRecord s .n ≡ 0 → ⊥) → lentIs s ≡ cond (sound (decodeRecord s)) Sound Unsound
+  unfolding lentIs
+  lent-other h k = rw (eq-eqb (length s) 11703 h, ne-eqb (decodeRecord s .n) 0 k)

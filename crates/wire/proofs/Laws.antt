@@ -1,0 +1,115 @@
+-- Laws of digits, numbers and fields. "Numbers are big-endian" (01, Frames) holds for one byte, four and eight alike, so each
+-- law is over the width, by induction: one more byte is one more digit to the base 256. Spelling a number and reading it back
+-- gives the number (`number-digits`); reading bytes and spelling the number gives the bytes (`digits-number`); both carry over
+-- to a list of fields (`read-fields`, `spell-read`).
+-- Assumes nothing.
+use mathlib.Core.Path.{_≡_, refl, ap, _∙_}
+use mathlib.Core.List.{List, [], _∷_, _++_, append-assoc, append-nil}
+use Prim.Native.Nat.{ℕ, zero, suc, _+_, _*_, _/_, _%_, _^_, _<_, _≤_}
+use native.Mathlib.Nat.{add-zero, pow-suc, pow-zero, div-add-mod', div-lt-iff-lt-mul, pow-le-pow-right}
+use native.Mathlib.Numerals.{add-one}
+use native.Mathlib.Omega.{arith}
+use lib.ListN.{length, getD, take, drop, length-append, length-drop}
+use lib.Arith.{digits-div, digits-mod}
+use lib.Seq.{getD-at, take-add, take-suc, drop-drop, getD-drop, take-all}
+use Rattle.wire.specs.Digits.{numberAt, digits}
+use Rattle.wire.specs.Fields.{Field, field, spell, widths, total, fieldsAt, Sized, Bytes}
+
+pub length-digits : (w n : ℕ) → length (digits w n) ≡ w
+unfolding digits
+length-digits zero n = refl
+length-digits (suc w) n = simp (length-append, length-digits w (n / 256)) (add-one w)
+
+-- a number of i digits, i below 8, has room for one more in 64 bits
+pub room : (i n : ℕ) → i < 8 → n < 256 ^ i → n * 256 + 255 < 2 ^ 64
+room i n h b = let p : 256 ^ i ≤ 256 ^ 7 = pow-le-pow-right {n = 256} (omega arith) {i = i} {j = 7} (omega arith) in omega arith
+
+pub more : (i n b : ℕ) → n < 256 ^ i → b < 256 → n * 256 + b < 256 ^ (i + 1)
+more i n b h k = rw (add-one, pow-suc) (omega arith)
+
+pub number-below : (w : ℕ) (s : List ℕ) (at : ℕ) → Bytes s → numberAt w s at < 256 ^ w
+unfolding numberAt
+number-below zero s at h = rw pow-zero (omega arith)
+number-below (suc w) s at h = rw add-one at (more w (numberAt w s at) (getD s (at + w) 0) (number-below w s at h) (h (at + w)))
+
+-- a number that has been spelt is read back
+pub number-digits : (w n : ℕ) (p t : List ℕ) → n < 256 ^ w → numberAt w (p ++ (digits w n ++ t)) (length p) ≡ n
+unfolding numberAt digits
+number-digits zero n p t h = let k : n < 1 = rw pow-zero at h in omega arith
+number-digits (suc w) n p t h =
+    let q : ℕ = n / 256 in
+    let r : ℕ = n % 256 in
+    let k : q < 256 ^ w = div-lt-iff-lt-mul {k = 256} {x = n} {y = 256 ^ w} (omega arith) .1 (rw pow-suc at h) in
+    let e : p ++ ((digits w q ++ (r ∷ [])) ++ t) ≡ p ++ (digits w q ++ (r ∷ t)) = ap (λ (l : List ℕ). p ++ l) (append-assoc (digits w q) (r ∷ []) t) in
+    let g : getD (p ++ (digits w q ++ (r ∷ t))) (length p + w) 0 ≡ r =
+    rw (← append-assoc p (digits w q) (r ∷ t))
+    (getD-at (p ++ digits w q) r t 0 (length p + w) (length-append p (digits w q) ∙ ap (λ (m : ℕ). length p + m) (length-digits w q))) in
+    rw (e, number-digits w q p (r ∷ t) k, g) (div-add-mod' n 256)
+
+-- bytes that have been read are spelt as they stood
+pub digits-number : (w : ℕ) (s : List ℕ) (at : ℕ) → Bytes s → at + w ≤ length s → digits w (numberAt w s at) ≡ take w (drop at s)
+unfolding numberAt digits
+digits-number zero s at b h = refl
+digits-number (suc w) s at b h =
+    let m : ℕ = numberAt w s at in
+    let inside : w < length (drop at s) = rw length-drop (omega arith) in
+    rw (digits-div m (b (at + w)), digits-mod m (b (at + w)), digits-number w s at b (omega arith), take-suc (drop at s) w 0 inside, getD-drop)
+
+pub length-spell : (fs : List Field) → length (spell fs) ≡ total (widths fs)
+length-spell [] = refl
+length-spell (field w v ∷ fs) = rw (length-append, length-digits, length-spell fs)
+
+pub fields-spell : (fs : List Field) (p t : List ℕ) → Sized fs → fieldsAt (widths fs) (p ++ (spell fs ++ t)) (length p) ≡ fs
+fields-spell [] p t h = refl
+fields-spell (field w v ∷ fs) p t h =
+    let e : (digits w v ++ spell fs) ++ t ≡ digits w v ++ (spell fs ++ t) = append-assoc (digits w v) (spell fs) t in
+    let l : length (p ++ digits w v) ≡ length p + w = length-append p (digits w v) ∙ ap (λ (m : ℕ). length p + m) (length-digits w v) in
+    let rest : fieldsAt (widths fs) (p ++ (digits w v ++ (spell fs ++ t))) (length p + w) ≡ fs =
+    rw (← l, ← append-assoc p (digits w v) (spell fs ++ t)) (fields-spell fs (p ++ digits w v) t (h .1)) in
+    rw (e, number-digits w v p (spell fs ++ t) (h .0), rest)
+
+pub spell-fields : (ws s : List ℕ) (at : ℕ) → Bytes s → at + total ws ≤ length s → spell (fieldsAt ws s at) ≡ take (total ws) (drop at s)
+spell-fields [] s at b h = refl
+spell-fields (w ∷ ws) s at b h =
+    rw (digits-number w s at b (omega arith), spell-fields ws s (at + w) b (omega arith), take-add, drop-drop)
+
+-- one byte is its own number
+pub number-one : (s : List ℕ) (at : ℕ) → numberAt 1 s at ≡ getD s at 0
+unfolding numberAt
+number-one s at = rw (add-zero) (omega arith)
+
+-- fields that have been spelt are read back
+pub read-fields : (fs : List Field) → Sized fs → fieldsAt (widths fs) (spell fs) 0 ≡ fs
+read-fields fs h = rw append-nil at (fields-spell fs [] [] h)
+
+-- a whole string of bytes that has been read is spelt as it stood
+pub spell-read : (ws s : List ℕ) → Bytes s → length s ≡ total ws → spell (fieldsAt ws s 0) ≡ s
+spell-read ws s b e = spell-fields ws s 0 b (omega arith) ∙ take-all (total ws) s (omega arith)
+
+pub spell-append : (fs gs : List Field) → spell (fs ++ gs) ≡ spell fs ++ spell gs
+spell-append [] gs = refl
+spell-append (field w v ∷ fs) gs = rw (append-assoc, spell-append fs gs)
+
+-- fields that have been read fit their widths
+pub sized-fields : (ws s : List ℕ) (at : ℕ) → Bytes s → Sized (fieldsAt ws s at)
+sized-fields [] s at b = tt
+sized-fields (w ∷ ws) s at b = (number-below w s at b, sized-fields ws s (at + w) b)
+
+bytes-append : (a b : List ℕ) → Bytes a → Bytes b → Bytes (a ++ b)
+bytes-append [] b p q i = q i
+bytes-append (x ∷ a) b p q zero = p zero
+bytes-append (x ∷ a) b p q (suc i) = bytes-append a b (λ j. p (suc j)) q i
+
+-- what is spelt is bytes, whether or not it fits
+bytes-digits : (w n : ℕ) → Bytes (digits w n)
+unfolding digits
+bytes-digits zero n i = omega arith
+bytes-digits (suc w) n i = bytes-append (digits w (n / 256)) (n % 256 ∷ []) (bytes-digits w (n / 256)) last i
+  where
+    last : Bytes (n % 256 ∷ [])
+    last zero = omega arith
+    last (suc i) = omega arith
+
+pub bytes-spell : (fs : List Field) → Bytes (spell fs)
+bytes-spell [] i = omega arith
+bytes-spell (field w v ∷ fs) i = bytes-append (digits w v) (spell fs) (bytes-digits w v) (bytes-spell fs) i

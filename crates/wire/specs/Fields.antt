@@ -1,0 +1,39 @@
+-- Fields one after the other, each a number in a fixed count of bytes: how they are spelt, and how they are read.
+-- Assumes nothing.
+use Prim.Native.Nat.{ℕ, _+_, _^_, _<_}
+use mathlib.Core.List.{List, [], _∷_, _++_}
+use lib.ListN.{getD}
+use Rattle.wire.specs.Digits.{numberAt, digits}
+
+-- A number and the count of bytes that it is written in: "plan, 8 bytes" is `field 8 plan`.
+pub data Field : Type 0 where
+  field : ℕ → ℕ → Field
+
+-- The bytes of some fields, end to end.
+abbrev pub spell : List Field → List ℕ
+spell [] = []
+spell (field w v ∷ fs) = digits w v ++ spell fs
+
+-- How many bytes each field takes.
+abbrev pub widths : List Field → List ℕ
+widths [] = []
+widths (field w v ∷ fs) = w ∷ widths fs
+
+-- How many bytes fields of these widths take together.
+abbrev pub total : List ℕ → ℕ
+total [] = 0
+total (w ∷ ws) = w + total ws
+
+-- The fields of the given widths that stand at a place.
+abbrev pub fieldsAt : List ℕ → List ℕ → ℕ → List Field
+fieldsAt [] s at = []
+fieldsAt (w ∷ ws) s at = field w (numberAt w s at) ∷ fieldsAt ws s (at + w)
+
+-- Each number is one that its bytes can spell.
+abbrev pub Sized : List Field → Type 0
+Sized [] = Unit {0}
+Sized (field w v ∷ fs) = (v < 256 ^ w) × Sized fs
+
+-- Every element is a byte, as those of a slice of bytes are.
+abbrev pub Bytes : List ℕ → Type 0
+Bytes s = (i : ℕ) → getD s i 0 < 256

@@ -1,0 +1,48 @@
+// Big-endian numbers in byte slices: one reader and one writer for every width up to eight bytes.
+ghost use mathlib.Core.Path.{_≡_};
+ghost use Prim.Native.Nat.{_+_, _≤_};
+ghost use lib.ListN.{length};
+ghost use Rattle.wire.specs.Digits.{numberAt, digits};
+ghost use Rattle.wire.specs.Placed.{placed};
+
+fn wide(x: u8) -> u64
+    ensures { λ r. ⌜ r ≡ x ⌝ }
+{
+    x as u64
+}
+
+// The number that the width bytes at a place spell.
+pub fn number(s: &[u8], at: usize, width: usize) -> u64
+    requires { ⌜ (width ≤ 8) × (at + width ≤ length (now s)) ⌝ }
+    ensures { λ r. ⌜ r ≡ numberAt width (now (s .entry)) at ⌝ }
+{
+    let mut n: u64 = 0;
+    let mut i = 0;
+    while i < width {
+        n = n * 256 + wide(s[at + i]);
+        i += 1;
+    }
+    n
+}
+
+// The same for four bytes, as a number of 32 bits.
+pub fn number32(s: &[u8], at: usize) -> u32
+    requires { ⌜ at + 4 ≤ length (now s) ⌝ }
+    ensures { λ r. ⌜ r ≡ numberAt 4 (now (s .entry)) at ⌝ }
+{
+    number(s, at, 4) as u32
+}
+
+// Writes a number as width bytes at a place; every other byte stays.
+pub fn put(out: &mut [u8], at: usize, width: usize, value: u64)
+    requires { ⌜ at + width ≤ length (now out) ⌝ }
+    ensures { λ r. ⌜ now (out .exit) ≡ placed (now (out .entry)) at (digits width value) ⌝ }
+{
+    let mut n = value;
+    let mut i = width;
+    while 0 < i {
+        i -= 1;
+        out[at + i] = (n % 256) as u8;
+        n = n / 256;
+    }
+}

@@ -1,0 +1,897 @@
+//! Random input scripts for the line program, and a count of what they reach.
+//! The generator runs the vault alongside, so that it knows the state which it drives.
+
+use crate::entry::Entry;
+use crate::frame::{
+    self, leader, Body, Frame, Report, PROOF, PROPOSAL, SUGGEST, VIEW_CHANGE, VOTE_1, VOTE_4,
+};
+use crate::record::Record;
+use crate::rng::Rng;
+use crate::rules::{Clause, Reports};
+use crate::sim::{below, chance, false_reports, kept_reports, lower_report, shuffle};
+use crate::vault::{self, Done, Step};
+
+/// The longest line that may be read, in digits.
+const MOST_DIGITS: usize = 90;
+
+// ---------------------------------------------------------------------------------------------
+// Lines.
+
+/// What a line asks for, once its text is taken in.
+#[derive(Clone, PartialEq, Eq, Debug)]
+enum Line {
+    Refused(u8),
+    Start { n: u8, f: u8, id: u8, class: u8, plan: u64 },
+    Timer { view: u32 },
+    Frame(Vec<u8>),
+}
+
+/// The lines of an input; after a final 0a there is no further one.
+fn split_lines(input: &[u8]) -> Vec<&[u8]> {
+    let mut lines: Vec<&[u8]> = input.split(|&byte| byte == b'\n').collect();
+    if lines.last().is_some_and(|last| last.is_empty()) {
+        lines.pop();
+    }
+    lines
+}
+
+fn read_line(text: &[u8]) -> Line {
+    let Some(bytes) = from_hex(text) else { return Line::Refused(20) };
+    match (bytes.first(), bytes.len()) {
+        (Some(0), 13) => Line::Start {
+            n: bytes[1],
+            f: bytes[2],
+            id: bytes[3],
+            class: bytes[4],
+            plan: big_endian(&bytes[5..]),
+        },
+        (Some(9), 5) => Line::Timer { view: big_endian(&bytes[1..]) as u32 },
+        (Some(0 | 9), _) => Line::Refused(10),
+        _ => Line::Frame(bytes),
+    }
+}
+
+fn from_hex(text: &[u8]) -> Option<Vec<u8>> {
+    if text.len() % 2 == 1 || text.len() > MOST_DIGITS {
+        return None;
+    }
+    let digit = |byte: u8| match byte {
+        b'0'..=b'9' => Some(byte - b'0'),
+        b'a'..=b'f' => Some(byte - b'a' + 10),
+        _ => None,
+    };
+    text.chunks(2).map(|pair| Some(digit(pair[0])? * 16 + digit(pair[1])?)).collect()
+}
+
+fn to_hex(bytes: &[u8]) -> Vec<u8> {
+    bytes.iter().flat_map(|byte| format!("{byte:02x}").into_bytes()).collect()
+}
+
+fn big_endian(bytes: &[u8]) -> u64 {
+    bytes.iter().fold(0, |number, &byte| number << 8 | u64::from(byte))
+}
+
+/// One vault as lines drive it; None while its record is blank.
+#[derive(Default)]
+struct Driven {
+    record: Option<Box<Record>>,
+}
+
+impl Driven {
+    fn apply(&mut self, line: &Line) -> Result<Done, u8> {
+        let done = match (line, self.record.as_deref()) {
+            (&Line::Refused(refusal), _) => Err(refusal),
+            (Line::Start { .. }, Some(_)) => Err(4),
+            (&Line::Start { n, f, id, class, plan }, None) => vault::start(n, f, id, class, plan),
+            (_, None) => Err(2),
+            (&Line::Timer { view }, Some(record)) => vault::timer(record, view),
+            // A line too short for a sender is refused for its length, whatever the link.
+            (Line::Frame(bytes), Some(record)) => {
+                vault::frame(record, bytes.get(1).copied().unwrap_or(0), bytes)
+            }
+        }?;
+        self.record = Some(Box::new(done.record.clone()));
+        Ok(done)
+    }
+}
+
+// ---------------------------------------------------------------------------------------------
+// Coverage.
+
+/// What scripts reached when run through the vault.
+#[derive(Clone, Default, PartialEq, Eq, Debug)]
+pub struct Coverage {
+    pub scripts: u64,
+    pub lines: u64,
+    /// Steps A to H that acted.
+    pub steps: [u64; 8],
+    /// By refusal number; 0 is not used.
+    pub refusals: [u64; 21],
+    /// What made the proposal safe where step D voted.
+    pub view_zero: u64,
+    pub no_lock: u64,
+    pub one_set: u64,
+    pub two_sets: u64,
+    /// Step C: the starting plan, another safe plan, or no proposal yet.
+    pub proposed_start: u64,
+    pub proposed_other: u64,
+    pub waited: u64,
+    /// Of those waits, the ones with a quorum of suggests.
+    pub none_safe: u64,
+    pub decisions: u64,
+    pub late_decisions: u64,
+    /// Timers that repeated the vault's own view-change, and those that repeated one for a view
+    /// beyond the next.
+    pub timer_repeats: u64,
+    pub far_repeats: u64,
+    /// Times that the last view of all was entered.
+    pub last_views: u64,
+    /// Decisions among 64 vaults.
+    pub decisions_of_64: u64,
+}
+
+impl Coverage {
+    pub fn step(&self, step: Step) -> u64 {
+        self.steps[step as usize]
+    }
+}
+
+/// Runs one script through the vault by contents and counts what it reached.
+pub fn cover(script: &[u8], coverage: &mut Coverage) {
+    let mut vault = Driven::default();
+    coverage.scripts += 1;
+    for text in split_lines(script) {
+        coverage.lines += 1;
+        let line = read_line(text);
+        let ahead = vault.record.as_deref().map_or(0, view_change_ahead);
+        match vault.apply(&line) {
+            Err(refusal) => coverage.refusals[usize::from(refusal)] += 1,
+            Ok(done) => {
+                if matches!(line, Line::Timer { .. }) {
+                    coverage.timer_repeats += u64::from(ahead > 0);
+                    coverage.far_repeats += u64::from(ahead > 1);
+                }
+                count_done(&done, coverage);
+            }
+        }
+    }
+}
+
+/// How far the vault's own view-change is above its current view.
+fn view_change_ahead(record: &Record) -> u32 {
+    own_view(record, VIEW_CHANGE).map_or(0, |view| view.saturating_sub(record.view))
+}
+
+fn own_view(record: &Record, kind: u8) -> Option<u32> {
+    record.rows[usize::from(record.settings.id)][usize::from(kind - 1)].map(|frame| frame.view)
+}
+
+fn count_done(done: &Done, coverage: &mut Coverage) {
+    for &step in &done.steps {
+        coverage.steps[step as usize] += 1;
+    }
+    match done.clause {
+        None => {}
+        Some(Clause::ViewZero) => coverage.view_zero += 1,
+        Some(Clause::NoLock) => coverage.no_lock += 1,
+        Some(Clause::OneSet { .. }) => coverage.one_set += 1,
+        Some(Clause::TwoSets { .. }) => coverage.two_sets += 1,
+    }
+    for entry in &done.entries {
+        match *entry {
+            Entry::All(Frame { kind: PROPOSAL, body: Body::Plan(plan), .. })
+                if plan == done.record.start_plan =>
+            {
+                coverage.proposed_start += 1;
+            }
+            Entry::All(Frame { kind: PROPOSAL, .. }) => coverage.proposed_other += 1,
+            Entry::Decision { view, .. } => {
+                coverage.decisions += 1;
+                coverage.late_decisions += u64::from(view > 0);
+                coverage.decisions_of_64 += u64::from(done.record.settings.n == 64);
+            }
+            Entry::Timer { view: u32::MAX, .. } => coverage.last_views += 1,
+            _ => {}
+        }
+    }
+    count_wait(&done.record, coverage);
+}
+
+fn count_wait(record: &Record, coverage: &mut Coverage) {
+    let Settled { n, quorum, id, .. } = Settled::of(record);
+    if leader(record.view, n) != id || own_view(record, PROPOSAL) == Some(record.view) {
+        return;
+    }
+    coverage.waited += 1;
+    let suggests = kept_reports(record, SUGGEST).iter().flatten().count();
+    coverage.none_safe += u64::from(suggests >= quorum);
+}
+
+// ---------------------------------------------------------------------------------------------
+// The generator.
+
+/// The settings of a started vault with the sizes that follow from them.
+#[derive(Clone, Copy)]
+struct Settled {
+    n: u8,
+    f: u8,
+    id: u8,
+    quorum: usize,
+}
+
+impl Settled {
+    fn of(record: &Record) -> Settled {
+        let settings = &record.settings;
+        Settled {
+            n: settings.n,
+            f: settings.f,
+            id: settings.id,
+            quorum: usize::from(settings.n - settings.f),
+        }
+    }
+}
+
+/// A random script for one vault. The same seed gives the same script.
+pub fn script(seed: u64) -> Vec<u8> {
+    let mut writer =
+        Writer { rng: Rng(seed), text: Vec::new(), vault: Driven::default(), plans: Vec::new() };
+    writer.plans = plans(&mut writer.rng);
+    writer.before_start();
+    // Now and then nothing starts, and the input may even be empty.
+    if !writer.rng.one_in(40) {
+        writer.start();
+        writer.moves();
+    }
+    writer.end();
+    writer.text
+}
+
+/// Three or four plans, so that plans meet again; both ends of 64 bits are common.
+fn plans(rng: &mut Rng) -> Vec<u64> {
+    let mut all = vec![0, 1, 2, 3, u64::MAX, u64::MAX - 1, 1 << 63, rng.next()];
+    shuffle(rng, &mut all);
+    all.truncate(3 + rng.below(2) as usize);
+    all
+}
+
+struct Writer {
+    rng: Rng,
+    text: Vec<u8>,
+    vault: Driven,
+    plans: Vec<u64>,
+}
+
+impl Writer {
+    // ----- Lines out.
+
+    fn text_line(&mut self, text: &[u8]) {
+        self.text.extend_from_slice(text);
+        self.text.push(b'\n');
+        // A line feed inside the text would make it two lines.
+        debug_assert!(!text.contains(&b'\n'));
+        let _ = self.vault.apply(&read_line(text));
+    }
+
+    fn bytes_line(&mut self, bytes: &[u8]) {
+        self.text_line(&to_hex(bytes));
+    }
+
+    fn frame(&mut self, kind: u8, sender: u8, view: u32, body: Body) {
+        self.bytes_line(&frame::write(&Frame { kind, sender, view, body }));
+    }
+
+    fn timer(&mut self, view: u32) {
+        let mut bytes = vec![9];
+        bytes.extend(view.to_be_bytes());
+        self.bytes_line(&bytes);
+    }
+
+    fn start_line(&mut self, settings: [u8; 4], plan: u64) {
+        let mut bytes = vec![0];
+        bytes.extend(settings);
+        bytes.extend(plan.to_be_bytes());
+        self.bytes_line(&bytes);
+    }
+
+    // ----- What is known of the vault.
+
+    fn settled(&self) -> Settled {
+        Settled::of(self.record())
+    }
+
+    fn record(&self) -> &Record {
+        self.vault.record.as_deref().expect("started")
+    }
+
+    fn view(&self) -> u32 {
+        self.record().view
+    }
+
+    fn plan(&mut self) -> u64 {
+        self.rng.pick(&self.plans)
+    }
+
+    /// All vaults but this one, in random order.
+    fn others(&mut self) -> Vec<u8> {
+        let Settled { n, id, .. } = self.settled();
+        let mut others: Vec<u8> = (0..n).filter(|&other| other != id).collect();
+        shuffle(&mut self.rng, &mut others);
+        others
+    }
+
+    fn other(&mut self) -> u8 {
+        self.others()[0]
+    }
+
+    /// All vaults but this one, mostly without those whose frame would be refused as kept already.
+    fn senders(&mut self, kind: u8, view: u32) -> Vec<u8> {
+        let mut senders = self.others();
+        if !self.rng.one_in(8) {
+            let rows = &self.record().rows;
+            let kept =
+                |id: u8| rows[usize::from(id)][usize::from(kind - 1)].map(|frame| frame.view);
+            senders.retain(|&id| kept(id).is_none_or(|kept| kept < view));
+        }
+        senders
+    }
+
+    /// A view around the current one, or one from the ends of 32 bits.
+    fn any_view(&mut self) -> u32 {
+        let view = self.view();
+        match self.rng.below(12) {
+            0 => 0,
+            1 => u32::MAX,
+            2 => self.rng.next() as u32,
+            3 => view.saturating_sub(1 + self.rng.below(3) as u32),
+            4..=6 => view.saturating_add(1 + self.rng.below(4) as u32),
+            _ => view,
+        }
+    }
+
+    // ----- Before and at the start.
+
+    fn before_start(&mut self) {
+        while self.rng.one_in(2) {
+            match self.rng.below(8) {
+                0 => self.timer(0),
+                1 => self.frame(VOTE_1, 1, 0, Body::Plan(7)),
+                2 => self.odd_text(),
+                3 => self.wrong_length(),
+                4 => self.text_line(b""),
+                _ => self.wrong_start(),
+            }
+        }
+    }
+
+    /// One or two settings out of range, so that the order of 5 to 8 matters.
+    fn wrong_start(&mut self) {
+        let mut settings = self.settings();
+        for _ in 0..1 + self.rng.below(2) {
+            let [n, _, _, _] = settings;
+            match self.rng.below(5) {
+                0 => settings[0] = self.rng.pick(&[0, 1, 3, 3, 65, 65, 128, 255]),
+                1 => settings[1] = self.rng.pick(&[0, n.div_ceil(3), n, 22, 85, 86, 255]),
+                2 => settings[2] = self.rng.pick(&[n, n.saturating_add(1), 64, 255]),
+                // Three times f just reaches n, or is as little above it as it can be.
+                3 => settings[..2].copy_from_slice(&self.rng.pick(&[
+                    [6, 2],
+                    [9, 3],
+                    [12, 4],
+                    [63, 21],
+                    [64, 22],
+                    [5, 2],
+                ])),
+                _ => settings[3] = self.rng.pick(&[8, 8, 9, 255]),
+            }
+        }
+        let plan = self.plan();
+        // Some of these pass after all; the script then goes on with that start.
+        self.start_line(settings, plan);
+    }
+
+    fn settings(&mut self) -> [u8; 4] {
+        let n = match self.rng.below(16) {
+            0 => 64,
+            1 => 4 + self.rng.below(61) as u8,
+            2..=4 => 7,
+            5 => self.rng.pick(&[5, 6, 8, 9, 10]),
+            _ => 4,
+        };
+        let most = (n - 1) / 3;
+        let f = if self.rng.one_in(6) { 1 + self.rng.below(u64::from(most)) as u8 } else { most };
+        [n, f, self.rng.below(u64::from(n)) as u8, self.rng.below(8) as u8]
+    }
+
+    fn start(&mut self) {
+        if self.vault.record.is_none() {
+            let settings = self.settings();
+            let plan = self.plan();
+            self.start_line(settings, plan);
+        }
+    }
+
+    // ----- Moves.
+
+    fn moves(&mut self) {
+        // A quorum of 64 vaults takes many lines, so such scripts get fewer moves.
+        let moves =
+            if self.settled().n > 16 { 6 + self.rng.below(6) } else { 10 + self.rng.below(30) };
+        for _ in 0..moves {
+            match self.rng.below(21) {
+                0..=3 => self.whole_view(),
+                4 | 5 => self.vote_round(),
+                6 => self.some_view_changes(),
+                7 => self.some_reports(),
+                8 => self.any_proposal(),
+                9 | 10 => self.any_timer(),
+                11..=13 => self.any_frame(),
+                14 | 15 => self.damaged(),
+                16 => self.odd_text(),
+                17 => self.wrong_length(),
+                18 => self.again(),
+                19 => self.damaged_reports(),
+                _ => self.text_line(b""),
+            }
+        }
+    }
+
+    /// Enters a view and goes through it as far as chance has it.
+    fn whole_view(&mut self) {
+        let next = self.next_view();
+        if next > self.view() {
+            self.enter(next);
+        }
+        let view = self.view();
+        let Settled { n, id, .. } = self.settled();
+        if view > 0 {
+            let shape = Shape::draw(&mut self.rng, view, &self.plans);
+            if leader(view, n) == id {
+                self.reports(SUGGEST, view, &shape);
+            }
+            let proposal_first = self.rng.one_in(3);
+            if proposal_first {
+                self.proposal(view, shape.plan);
+            }
+            self.reports(PROOF, view, &shape);
+            if !proposal_first {
+                self.proposal(view, shape.plan);
+            }
+        } else {
+            let plan = self.plan();
+            self.proposal(view, plan);
+        }
+        self.votes_up_to(view);
+    }
+
+    /// The next views mostly; now and then one that this vault leads, or one of the last of all.
+    fn next_view(&mut self) -> u32 {
+        let view = self.view();
+        let Settled { n, id, .. } = self.settled();
+        match self.rng.below(48) {
+            0 => u32::MAX - self.rng.below(6) as u32,
+            1 => u32::MAX,
+            2 => (1 << 31) - 2 + self.rng.below(4) as u32,
+            3..=8 => {
+                let ahead =
+                    (u32::from(id) + u32::from(n) - view % u32::from(n) - 1) % u32::from(n) + 1;
+                view.saturating_add(ahead)
+            }
+            9..=14 => view.saturating_add(1 + self.rng.below(5) as u32),
+            15..=17 => view,
+            // The two-set clause wants at least three views below.
+            18..=28 if view < 3 => 3 + self.rng.below(3) as u32,
+            _ => view.saturating_add(1),
+        }
+    }
+
+    /// The vault's own view-change counts too, once f + 1 others made it join.
+    fn enter(&mut self, view: u32) {
+        let needed = self.settled().quorum - usize::from(self.rng.one_in(2));
+        for sender in self.senders(VIEW_CHANGE, view).into_iter().take(needed) {
+            self.frame(VIEW_CHANGE, sender, view, Body::Empty);
+        }
+    }
+
+    /// Few view-changes, enough to join or not; a timer afterwards repeats what was joined.
+    fn some_view_changes(&mut self) {
+        let view = self.view().saturating_add(1 + self.rng.below(3) as u32);
+        let count = self.rng.below(u64::from(self.settled().f) + 3) as usize;
+        for sender in self.senders(VIEW_CHANGE, view).into_iter().take(count) {
+            self.frame(VIEW_CHANGE, sender, view, Body::Empty);
+        }
+        if self.rng.one_in(2) {
+            let view = self.view();
+            self.timer(view);
+        }
+    }
+
+    /// About a quorum of reporters, this vault's own report counted.
+    fn reports(&mut self, kind: u8, view: u32, shape: &Shape) {
+        let Settled { f, quorum, .. } = self.settled();
+        let count = quorum - 1 + self.rng.below(u64::from(f) + 1) as usize;
+        for (turn, sender) in self.senders(kind, view).into_iter().take(count).enumerate() {
+            let reports = shape.reports(&mut self.rng, turn, view, &self.plans);
+            self.frame(kind, sender, view, Body::Reports(reports));
+        }
+    }
+
+    fn some_reports(&mut self) {
+        let view = self.view().saturating_add(self.rng.below(2) as u32).max(1);
+        let Settled { n, id, .. } = self.settled();
+        // One suggest for a view led by another shows the refusal; more show nothing new.
+        let leads = leader(view, n) == id || self.rng.one_in(16);
+        let kind = if leads { self.rng.pick(&[SUGGEST, PROOF]) } else { PROOF };
+        let shape = Shape::draw(&mut self.rng, view, &self.plans);
+        self.reports(kind, view, &shape);
+    }
+
+    fn proposal(&mut self, view: u32, wanted: u64) {
+        let plan = if chance(&mut self.rng, 3, 4) { wanted } else { self.plan() };
+        let Settled { n, id, .. } = self.settled();
+        if leader(view, n) != id {
+            self.frame(PROPOSAL, leader(view, n), view, Body::Plan(plan));
+        }
+    }
+
+    fn any_proposal(&mut self) {
+        let view = self.any_view();
+        let plan = self.plan();
+        self.proposal(view, plan);
+    }
+
+    /// Votes for one plan, kind after kind, as far as chance has it.
+    fn votes_up_to(&mut self, view: u32) {
+        let kept = self.record().rows[usize::from(leader(view, self.settled().n))][0];
+        let plan = match kept.map(|frame| (frame.view == view, frame.body)) {
+            Some((true, Body::Plan(plan))) if chance(&mut self.rng, 7, 8) => plan,
+            _ => self.plan(),
+        };
+        for kind in VOTE_1..=VOTE_4 {
+            if self.rng.one_in(6) {
+                return;
+            }
+            // Now and then one kind is left out; the later ones must act all the same.
+            if !self.rng.one_in(6) {
+                self.votes(kind, view, plan);
+            }
+        }
+    }
+
+    /// Around a quorum of votes: one too few, just enough, or more. Now and then one is astray.
+    fn votes(&mut self, kind: u8, view: u32, plan: u64) {
+        let quorum = self.settled().quorum;
+        let count = quorum - 1 + self.rng.below(2) as usize - usize::from(self.rng.one_in(6));
+        let astray = self.rng.one_in(5).then(|| self.rng.below(quorum as u64) as usize);
+        let repeated = self.rng.one_in(4).then(|| self.rng.below(quorum as u64) as usize);
+        for (turn, sender) in self.senders(kind, view).into_iter().take(count).enumerate() {
+            let plan = if astray == Some(turn) { self.plan() } else { plan };
+            self.frame(kind, sender, view, Body::Plan(plan));
+            // A repeat must not count as another voter.
+            if repeated == Some(turn) {
+                self.frame(kind, sender, view, Body::Plan(plan));
+            }
+        }
+    }
+
+    fn vote_round(&mut self) {
+        let kind = VOTE_1 + self.rng.below(4) as u8;
+        let view = if self.rng.one_in(4) { self.any_view() } else { self.view() };
+        let plan = self.plan();
+        self.votes(kind, view, plan);
+    }
+
+    fn any_timer(&mut self) {
+        let view = if self.rng.one_in(3) { self.any_view() } else { self.view() };
+        self.timer(view);
+        // A second timer in the same view repeats the view-change.
+        if self.rng.one_in(3) {
+            self.timer(view);
+        }
+    }
+
+    fn any_frame(&mut self) {
+        let frame = self.draw_frame();
+        self.bytes_line(&frame::write(&frame));
+    }
+
+    /// Any frame of another vault, right in form more often than not.
+    fn draw_frame(&mut self) -> Frame {
+        let Settled { n, id, .. } = self.settled();
+        let kind = 1 + self.rng.below(8) as u8;
+        let view = self.any_view();
+        let body = match kind {
+            VIEW_CHANGE => Body::Empty,
+            SUGGEST | PROOF => {
+                Body::Reports(false_reports(&mut self.rng, view, self.plans[0], &self.plans))
+            }
+            _ => Body::Plan(self.plan()),
+        };
+        let led = leader(view, n);
+        let sender =
+            if kind == PROPOSAL && led != id && !self.rng.one_in(8) { led } else { self.other() };
+        Frame { kind, sender, view, body }
+    }
+
+    /// A start on a record that is not blank.
+    fn again(&mut self) {
+        if self.rng.one_in(2) {
+            return self.wrong_start();
+        }
+        let settings = self.settings();
+        let plan = self.plan();
+        self.start_line(settings, plan);
+    }
+
+    // ----- Damage.
+
+    /// One frame with one or two faults in its bytes, so that the order of 9 to 15 matters.
+    fn damaged(&mut self) {
+        let mut frame = self.draw_frame();
+        // Frames that would pass otherwise show best what the damage does.
+        frame.view = if self.rng.one_in(2) { self.view().max(1) } else { frame.view.max(1) };
+        if matches!(frame.body, Body::Reports(_)) {
+            frame.body =
+                Body::Reports(false_reports(&mut self.rng, frame.view, self.plans[0], &self.plans));
+        }
+        let mut bytes = frame::write(&frame);
+        for _ in 0..1 + self.rng.below(2) {
+            self.damage(&mut bytes);
+        }
+        bytes.truncate(MOST_DIGITS / 2);
+        // A damaged kind may turn the line into a start or a timer; that is a case of its own.
+        self.bytes_line(&bytes);
+    }
+
+    /// Reports that would be kept, but for one fault in them.
+    fn damaged_reports(&mut self) {
+        let Settled { n, id, .. } = self.settled();
+        let view = self.view().saturating_add(self.rng.below(3) as u32).max(1);
+        let kind = if leader(view, n) == id { SUGGEST } else { PROOF };
+        let reports = false_reports(&mut self.rng, view, self.plans[0], &self.plans);
+        let sender = self.other();
+        let mut bytes = frame::write(&Frame { kind, sender, view, body: Body::Reports(reports) });
+        self.damage_report(&mut bytes);
+        self.bytes_line(&bytes);
+    }
+
+    fn damage(&mut self, bytes: &mut Vec<u8>) {
+        if bytes.len() < 6 {
+            return;
+        }
+        if bytes.len() == 45 && self.rng.one_in(2) {
+            return self.damage_report(bytes);
+        }
+        let Settled { n, id, .. } = self.settled();
+        match self.rng.below(7) {
+            0 => bytes[0] = self.rng.pick(&[0, 9, 10, 11, 16, 128, 253, 255]),
+            1 => bytes[0] = 1 + self.rng.below(8) as u8,
+            2 => bytes[1] = self.rng.pick(&[id, n, n + 1, 64, 254, 255]),
+            3 => bytes[2..6].fill(0),
+            4 => {
+                let cut = self.rng.below(bytes.len() as u64) as usize;
+                bytes.truncate(cut);
+            }
+            5 => bytes.push(self.rng.next() as u8),
+            _ => {
+                let at = self.rng.below(bytes.len() as u64) as usize;
+                bytes[at] ^= 1 << self.rng.below(8);
+            }
+        }
+    }
+
+    /// Each way of 14, in a frame with reports.
+    fn damage_report(&mut self, bytes: &mut [u8]) {
+        let (highest, previous, lock) = (6, 19, 32);
+        let at = self.rng.pick(&[highest, previous, lock]);
+        match self.rng.below(6) {
+            // A mark that is neither 0 nor 1.
+            0 => bytes[at] = self.rng.pick(&[2, 128, 255]),
+            // Absent with one byte that is not zero.
+            1 => {
+                bytes[at..at + 13].fill(0);
+                bytes[at + 1 + self.rng.below(12) as usize] = 1 << self.rng.below(8);
+            }
+            // A report of the frame's own view or of a higher one.
+            2 => {
+                bytes[at] = 1;
+                bytes.copy_within(2..6, at + 1);
+                if self.rng.one_in(2) {
+                    bytes[at + 1..at + 5].fill(0xff);
+                }
+            }
+            // A previous vote without a highest one.
+            3 => {
+                bytes[previous] = 1;
+                bytes[highest..highest + 13].fill(0);
+            }
+            // A previous vote at the highest one's view.
+            4 => {
+                bytes[highest] = 1;
+                bytes[previous] = 1;
+                bytes.copy_within(highest + 1..highest + 5, previous + 1);
+                bytes[previous + 12] = !bytes[highest + 12];
+            }
+            // A previous vote for the highest one's plan.
+            _ => {
+                bytes[highest] = 1;
+                bytes[previous] = 1;
+                bytes.copy_within(highest + 5..highest + 13, previous + 5);
+                bytes[previous + 1..previous + 5].fill(0);
+            }
+        }
+    }
+
+    // ----- Lines that are no frames.
+
+    fn odd_text(&mut self) {
+        let mut text = to_hex(&[2, 1, 0, 0, 0, 0, 0, 0, 0, 0, 0, 0, 0xab, 0xcd]);
+        match self.rng.below(9) {
+            // An odd count of digits.
+            0 => text.truncate(1 + 2 * self.rng.below(14) as usize),
+            // Upper case.
+            1 => text.make_ascii_uppercase(),
+            // No digit at all in one place, first or second of its pair.
+            2 => {
+                let at = self.rng.below(text.len() as u64) as usize;
+                text[at] = self.rng.pick(b"gG/:@`x .-\t\0\x7f\x80\xff");
+            }
+            3 => text.push(b'\r'),
+            4 => text = b"\r".to_vec(),
+            // Over-long by one digit, by one byte, or by far.
+            5 => text = vec![b'0'; self.rng.pick(&[91, 92, 93, 180, 256, 300, 5000])],
+            // The longest line that is still read.
+            6 => text = to_hex(&[1 + self.rng.below(8) as u8; 45]),
+            7 => text = b"0x0201".to_vec(),
+            // Two digits of one letter case each.
+            _ => text = b"fF".to_vec(),
+        }
+        self.text_line(&text);
+    }
+
+    fn wrong_length(&mut self) {
+        let kind = self.rng.pick(&[0, 9]);
+        let length = match kind {
+            0 => self.rng.pick(&[1, 2, 5, 12, 14, 45]),
+            _ => self.rng.pick(&[1, 4, 6, 13, 45]),
+        };
+        let mut bytes = vec![0; length];
+        self.rng.fill(&mut bytes);
+        bytes[0] = kind;
+        self.bytes_line(&bytes);
+    }
+
+    /// The input's end: with a newline, without one, inside a line, or after a carriage return.
+    fn end(&mut self) {
+        match self.rng.below(8) {
+            0 | 1 => {
+                self.text.pop();
+            }
+            2 => self.text.extend_from_slice(b"0"),
+            3 => self.text.extend_from_slice(b"\r"),
+            4 => self.text.extend_from_slice(b"\n\n"),
+            5 => self.text.extend_from_slice(b"0900000000\r\n"),
+            _ => {}
+        }
+    }
+}
+
+// ---------------------------------------------------------------------------------------------
+// Reports that belong together.
+
+/// What the reporters of one view say between them.
+struct Shape {
+    /// The plan that the reports are made for.
+    plan: u64,
+    /// The view of the lock on that plan, and the two views of the two-set clause.
+    lock_at: u32,
+    first: Report,
+    second: Report,
+    form: Form,
+}
+
+#[derive(Clone, Copy, PartialEq, Eq)]
+enum Form {
+    /// No lock anywhere.
+    Fresh,
+    /// Locks on the plan, and votes for it.
+    OneSet,
+    /// Locks on the plan, and votes for two others.
+    TwoSets,
+    /// Locks on the plan with votes for it, and later votes for another: both plans are safe.
+    Choice,
+    /// Locks on two plans.
+    Split,
+    Any,
+}
+
+impl Shape {
+    fn draw(rng: &mut Rng, view: u32, plans: &[u64]) -> Shape {
+        let mut plans = plans.to_vec();
+        shuffle(rng, &mut plans);
+        let form = rng.pick(&[
+            Form::Fresh,
+            Form::OneSet,
+            Form::OneSet,
+            Form::TwoSets,
+            Form::TwoSets,
+            Form::Choice,
+            Form::Split,
+            Form::Any,
+        ]);
+        // lock_at <= first < second < view, where the view leaves room for them; now and then
+        // first = second, which the two-set clause must not take.
+        let second = back(rng, view, 1);
+        let first = if rng.one_in(5) { second } else { back(rng, second, 1) };
+        let lock_at = back(rng, first, 0);
+        Shape {
+            plan: plans[0],
+            lock_at,
+            first: Report { view: first, plan: plans[1] },
+            second: Report { view: second, plan: plans[2] },
+            form,
+        }
+    }
+
+    /// What the reporter whose turn it is says.
+    fn reports(&self, rng: &mut Rng, turn: usize, view: u32, plans: &[u64]) -> Reports {
+        let lock = Report { view: self.lock_at, plan: self.plan };
+        match self.form {
+            Form::Fresh => {
+                let highest = below(rng, view, plans);
+                [rng.one_in(2).then_some(highest), None, None]
+            }
+            Form::OneSet => {
+                let claim = Report { view: between(rng, self.lock_at, view), plan: self.plan };
+                let highest = rng.pick(&[claim, claim, self.first]);
+                [Some(highest), lower_report(rng, highest, plans), self.some_lock(rng, lock)]
+            }
+            Form::TwoSets if self.lock_at > 0 => {
+                let (highest, previous) = self.two_votes(rng, turn, self.first);
+                [Some(highest), previous, self.some_lock(rng, lock)]
+            }
+            Form::Choice => {
+                let (highest, previous) = self.two_votes(rng, turn, lock);
+                [Some(highest), previous, Some(lock).filter(|_| chance(rng, 3, 4))]
+            }
+            Form::Split => {
+                let other = Report { view: self.first.view, plan: self.first.plan };
+                let lock = rng.pick(&[lock, other]);
+                [Some(lock), lower_report(rng, lock, plans), Some(lock)]
+            }
+            _ => false_reports(rng, view, self.plan, plans),
+        }
+    }
+
+    /// A lower and the second vote by turns. Four vaults are too few for two whole sets, so one of
+    /// them reports both; it claims any plan at the lower view, so there must be few such.
+    fn two_votes(&self, rng: &mut Rng, turn: usize, lower: Report) -> (Report, Option<Report>) {
+        let turn = if rng.one_in(6) { rng.below(3) as usize } else { turn };
+        let both = turn == 2 && lower.view < self.second.view && !rng.one_in(3);
+        match turn % 2 {
+            _ if both => (self.second, Some(lower)),
+            0 => (lower, None),
+            _ => (self.second, None),
+        }
+    }
+
+    /// The lock, none, or now and then one at a lower view for another plan.
+    fn some_lock(&self, rng: &mut Rng, lock: Report) -> Option<Report> {
+        match rng.below(6) {
+            0 if lock.view > 0 => {
+                Some(Report { view: back(rng, lock.view, 1), plan: self.first.plan })
+            }
+            1 | 2 => None,
+            _ => Some(lock),
+        }
+    }
+}
+
+/// A view a little below this one, by `least` or more where there is room.
+fn back(rng: &mut Rng, view: u32, least: u32) -> u32 {
+    view.saturating_sub(least + rng.pick(&[0, 0, 0, 1, 2]))
+}
+
+/// A view from the first to just below the second.
+fn between(rng: &mut Rng, low: u32, view: u32) -> u32 {
+    low + rng.below(u64::from(view - low).clamp(1, 4)) as u32
+}

@@ -1,0 +1,521 @@
+//! Every refusal number in a test of its own, and the order of refusals. `Vault` checks that each
+//! refusal leaves record and output byte for byte.
+mod common;
+use common::*;
+use reference::calls;
+use reference::frame::write;
+use reference::record::{encode, RECORD_LEN};
+use reference::rng::Rng;
+
+/// Sound records to be refused on, and bytes that are unsound.
+fn sound() -> Vec<u8> {
+    Vault::started(4, 1, 1, 7).rec
+}
+
+fn unsound() -> Vec<u8> {
+    let mut rec = sound();
+    rec[3] = 8;
+    rec
+}
+
+/// The number given, with record and output seen to be unchanged.
+fn refused(
+    rec: &[u8],
+    out_len: usize,
+    call: impl Fn(&mut [u8], &mut [u8]) -> Result<usize, u8>,
+) -> Option<u8> {
+    let mut out = vec![0; out_len];
+    Rng(1).fill(&mut out);
+    let (mut rec_after, mut out_after) = (rec.to_vec(), out.clone());
+    let result = call(&mut rec_after, &mut out_after);
+    if result.is_err() {
+        assert!(rec_after == rec && out_after == out, "a refusal changes nothing");
+    }
+    result.err()
+}
+
+#[test]
+fn refusal_1_output_space() {
+    let frame = write(&vote(1, 0, 0, 7));
+    for out_len in 0..=257 {
+        let expected = if out_len < 256 { Some(1) } else { None };
+        assert_eq!(
+            refused(&[0; RECORD_LEN], out_len, |r, o| calls::start(r, 4, 1, 0, 0, 7, o)),
+            expected
+        );
+        assert_eq!(refused(&sound(), out_len, |r, o| calls::frame(r, 0, &frame, o)), expected);
+        assert_eq!(refused(&sound(), out_len, |r, o| calls::timer(r, 0, o)), expected);
+    }
+}
+
+#[test]
+fn refusal_2_blank_record() {
+    let mut vault = Vault::blank();
+    assert_eq!(vault.frame(&vote(1, 0, 0, 7)), Err(2));
+    assert_eq!(vault.bytes(0, &[]), Err(2));
+    assert_eq!(vault.timer(0), Err(2));
+    // blank is n = 0, whatever else the record spells
+    let mut vault = Vault { rec: sound() };
+    vault.rec[0] = 0;
+    assert_eq!(vault.frame(&vote(1, 0, 0, 7)), Err(2));
+    assert_eq!(vault.timer(0), Err(2));
+    assert!(vault.start(4, 1, 1, 2, 7).is_ok());
+    assert_eq!(vault.rec, sound());
+}
+
+#[test]
+fn refusal_3_unsound_record() {
+    for rec in [vec![], vec![0; RECORD_LEN - 1], vec![0; RECORD_LEN + 1], unsound()] {
+        let mut vault = Vault { rec };
+        assert_eq!(vault.frame(&vote(1, 0, 0, 7)), Err(3));
+        assert_eq!(vault.timer(0), Err(3));
+    }
+    // bytes that spell no record are not blank, even where n would be 0
+    let mut rec = vec![0; RECORD_LEN];
+    rec[16] = 2;
+    let mut vault = Vault { rec };
+    assert_eq!(vault.timer(0), Err(3));
+    assert_eq!(vault.start(4, 1, 0, 0, 0), Err(4));
+}
+
+#[test]
+fn refusal_4_start_on_a_record_not_blank() {
+    for rec in [vec![], vec![0; RECORD_LEN - 1], vec![0; RECORD_LEN + 1], unsound(), sound()] {
+        assert_eq!(Vault { rec }.start(4, 1, 0, 0, 0), Err(4));
+    }
+}
+
+#[test]
+fn refusal_5_count_of_vaults() {
+    for n in 0..=255 {
+        let expected = if (4..=64).contains(&n) { None } else { Some(5) };
+        assert_eq!(Vault::blank().start(n, 1, 0, 0, 0).err(), expected);
+    }
+}
+
+#[test]
+fn refusal_6_count_of_faults() {
+    for n in 4..=64u8 {
+        for f in 0..=255u8 {
+            let starts = f >= 1 && 3 * u32::from(f) < u32::from(n);
+            let expected = if starts { None } else { Some(6) };
+            assert_eq!(reference::vault::start(n, f, 0, 0, 0).err(), expected);
+        }
+    }
+    assert_eq!(Vault::blank().start(4, 0, 0, 0, 0), Err(6));
+    assert_eq!(Vault::blank().start(6, 2, 0, 0, 0), Err(6));
+    assert!(Vault::blank().start(7, 2, 0, 0, 0).is_ok());
+    assert_eq!(Vault::blank().start(64, 86, 0, 0, 0), Err(6), "3f does not wrap");
+}
+
+#[test]
+fn refusal_7_own_number() {
+    assert_eq!(Vault::blank().start(4, 1, 4, 0, 0), Err(7));
+    assert_eq!(Vault::blank().start(64, 1, 255, 0, 0), Err(7));
+    assert!(Vault::blank().start(4, 1, 3, 0, 0).is_ok());
+}
+
+#[test]
+fn refusal_8_class() {
+    assert_eq!(Vault::blank().start(4, 1, 0, 8, 0), Err(8));
+    assert_eq!(Vault::blank().start(4, 1, 0, 255, 0), Err(8));
+    assert!(Vault::blank().start(4, 1, 0, 7, 0).is_ok());
+}
+
+#[test]
+fn refusal_9_kind() {
+    let mut vault = Vault::started(4, 1, 1, 7);
+    assert_eq!(vault.bytes(0, &[]), Err(9));
+    for kind in [0u8, 9, 10, 11, 128, 255] {
+        let mut bytes = write(&vote(1, 0, 0, 7));
+        bytes[0] = kind;
+        assert_eq!(vault.bytes(0, &bytes), Err(9));
+        assert_eq!(vault.bytes(0, &[kind]), Err(9));
+    }
+}
+
+#[test]
+fn refusal_10_length() {
+    let mut vault = Vault::started(4, 1, 1, 7);
+    for kind in 1..=8u8 {
+        let right = match kind {
+            1..=5 => 14,
+            6 => 6,
+            _ => 45,
+        };
+        for length in 1..60 {
+            let mut bytes = vec![0; length];
+            bytes[0] = kind;
+            bytes[length.min(6) - 1] = 1;
+            bytes[0] = kind;
+            let result = vault.bytes(255, &bytes);
+            assert_eq!(result, Err(if length == right { 11 } else { 10 }));
+        }
+    }
+}
+
+#[test]
+fn refusal_11_link() {
+    for (n, id) in [(4, 1), (64, 63), (64, 0)] {
+        let mut vault = Vault::started(n, 1, id, 7);
+        for link in 0..=255 {
+            let result = vault.bytes(link, &write(&vote(1, link, 0, link.into())));
+            let expected = if link >= n || link == id { Some(11) } else { None };
+            assert_eq!(result.err(), expected);
+        }
+    }
+}
+
+#[test]
+fn refusal_12_sender_byte() {
+    let mut vault = Vault::started(4, 1, 1, 7);
+    for sender in 0..=255 {
+        let result = vault.bytes(2, &write(&vote(1, sender, 0, 7)));
+        assert_eq!(result.err(), if sender == 2 { None } else { Some(12) });
+    }
+}
+
+#[test]
+fn refusal_13_view_zero() {
+    let mut vault = Vault::started(4, 1, 0, 7);
+    for frame in [view_change(2, 0), suggest(2, 0, NONE), proof(2, 0, NONE)] {
+        assert_eq!(vault.frame(&frame), Err(13));
+    }
+    for number in 1..=4 {
+        assert!(vault.frame(&vote(number, 2, 0, 7)).is_ok());
+    }
+}
+
+#[test]
+fn refusal_14_reports() {
+    // vault 1 leads view 9 of 4 vaults
+    let (n, id, sender, view) = (4, 1, 2, 9u32);
+    let fresh = Vault::started(n, 1, id, 7);
+    for write_frame in [suggest, proof] {
+        let result = |reports| {
+            Vault { rec: fresh.rec.clone() }.frame(&write_frame(sender, view, reports)).err()
+        };
+        let good = [
+            NONE,
+            [rep(8, 5), None, None],
+            [None, None, rep(8, 5)],
+            [rep(8, 5), rep(7, 6), None],
+            [rep(8, 0), rep(0, 6), rep(0, 0)],
+            // lock and votes are not compared
+            [rep(3, 5), rep(2, 6), rep(8, 7)],
+        ];
+        for reports in good {
+            assert_eq!(result(reports), None);
+        }
+        let bad = [
+            // view not below the frame's
+            [rep(9, 5), None, None],
+            [rep(u32::MAX, 5), None, None],
+            [None, None, rep(9, 5)],
+            [rep(9, 5), rep(8, 6), None],
+            // previous without highest
+            [None, rep(3, 5), None],
+            [None, rep(3, 5), rep(4, 5)],
+            // previous not below highest
+            [rep(5, 5), rep(5, 6), None],
+            [rep(5, 5), rep(6, 6), None],
+            // previous for highest's plan
+            [rep(5, 5), rep(4, 5), None],
+        ];
+        for reports in bad {
+            assert_eq!(result(reports), Some(14));
+        }
+        // marks, and nonzero bytes of absent reports
+        for report in 0..3 {
+            for mark in 2..=255 {
+                let mut bytes = write(&write_frame(sender, view, NONE));
+                bytes[6 + 13 * report] = mark;
+                assert_eq!(Vault { rec: fresh.rec.clone() }.bytes(sender, &bytes), Err(14));
+            }
+            for place in 1..13 {
+                let mut bytes = write(&write_frame(sender, view, NONE));
+                bytes[6 + 13 * report + place] = 1;
+                assert_eq!(Vault { rec: fresh.rec.clone() }.bytes(sender, &bytes), Err(14));
+            }
+        }
+    }
+}
+
+#[test]
+fn refusal_15_leader() {
+    let mut vault = Vault::started(5, 1, 1, 7);
+    assert_eq!(vault.frame(&proposal(2, 0, 7)), Err(15));
+    assert_eq!(vault.frame(&proposal(2, 3, 7)), Err(15));
+    assert!(vault.frame(&proposal(2, 2, 7)).is_ok());
+    assert!(vault.frame(&proposal(2, 7, 7)).is_ok());
+    assert!(vault.frame(&proposal(0, u32::MAX, 7)).is_ok(), "4294967295 mod 5 is 0");
+    assert_eq!(vault.frame(&suggest(2, 2, NONE)), Err(15));
+    assert!(vault.frame(&suggest(2, 6, NONE)).is_ok());
+    // proofs and votes come from anyone
+    assert!(vault.frame(&proof(2, 2, NONE)).is_ok());
+    assert!(vault.frame(&vote(1, 2, 3, 7)).is_ok());
+}
+
+#[test]
+fn refusal_16_view_below_current() {
+    let mut vault = in_view(4, 1, 1, 7, 5);
+    for number in 1..=4 {
+        assert_eq!(vault.frame(&vote(number, 2, 4, 7)), Err(16));
+        assert!(vault.frame(&vote(number, 2, 5, 7)).is_ok());
+    }
+    assert_eq!(vault.frame(&proposal(0, 4, 7)), Err(16));
+    assert_eq!(vault.frame(&proof(2, 4, NONE)), Err(16));
+    assert!(vault.frame(&proof(2, 5, NONE)).is_ok());
+    assert_eq!(vault.frame(&suggest(2, 1, NONE)), Err(16));
+    assert!(vault.frame(&suggest(2, 5, NONE)).is_ok());
+    // kind 6: at or below
+    let mut vault = Vault::of(&record_with(4, 1, 1, 7, 5, &[]));
+    assert_eq!(vault.frame(&view_change(2, 4)), Err(16));
+    assert_eq!(vault.frame(&view_change(2, 5)), Err(16));
+    assert!(vault.frame(&view_change(2, 6)).is_ok());
+}
+
+#[test]
+fn refusal_17_kept_already() {
+    let mut vault = Vault::started(4, 1, 1, 7);
+    let frames = |view: u32| {
+        [
+            proposal(2, view, 7),
+            vote(1, 2, view, 7),
+            vote(2, 2, view, 7),
+            vote(3, 2, view, 7),
+            vote(4, 2, view, 7),
+            view_change(2, view),
+            suggest(2, view, NONE),
+            proof(2, view, NONE),
+        ]
+    };
+    // 26 = 2 mod 4 for the proposal; the suggest needs 1 mod 4
+    for mut frame in frames(26) {
+        if frame.kind == 7 {
+            frame.view = 25;
+        }
+        assert!(vault.frame(&frame).is_ok());
+        assert_eq!(vault.frame(&frame), Err(17), "the same again");
+        frame.view -= 4;
+        assert_eq!(vault.frame(&frame), Err(17), "a lower view");
+        frame.view += 8;
+        assert!(vault.frame(&frame).is_ok(), "a higher view");
+    }
+    // another plan at the same view is refused too; another sender or kind is not
+    assert_eq!(vault.frame(&vote(1, 2, 30, 8)), Err(17));
+    assert!(vault.frame(&vote(1, 3, 30, 8)).is_ok());
+}
+
+#[test]
+fn refusal_18_timer_of_another_view() {
+    let mut vault = in_view(4, 1, 1, 7, 5);
+    for view in [0, 4, 6, u32::MAX] {
+        assert_eq!(vault.timer(view), Err(18));
+    }
+    assert!(vault.timer(5).is_ok());
+}
+
+#[test]
+fn refusal_19_last_view() {
+    let mut vault = in_view(4, 1, 1, 7, u32::MAX);
+    assert_eq!(vault.timer(u32::MAX), Err(19));
+    // 18 comes first
+    assert_eq!(vault.timer(0), Err(18));
+}
+
+#[test]
+fn refusal_20_line() {
+    assert_eq!(run_lines(b"0\n"), "fd14\n");
+    assert_eq!(run_lines(b"0A\n"), "fd14\n");
+    assert_eq!(run_lines(&[b'0'; 92]), "fd14\n");
+}
+
+/// Of faults that are all in one call, the first in the table's order gives the number.
+fn first(faults: &[(u8, bool)]) -> Option<u8> {
+    faults.iter().find(|fault| fault.1).map(|fault| fault.0)
+}
+
+#[test]
+fn order_of_start() {
+    for bits in 0..1 << 7 {
+        let on = |bit: u32| bits & (1 << bit) != 0;
+        let rec = match (on(1), on(2)) {
+            (false, false) => vec![0; RECORD_LEN],
+            (true, false) => sound(),
+            (false, true) => unsound(),
+            (true, true) => vec![0; 3],
+        };
+        let n = if on(3) { 65 } else { 4 };
+        let f = if on(4) { 0 } else { 1 };
+        let id = if on(5) { 65 } else { 3 };
+        let class = if on(6) { 8 } else { 7 };
+        let faults =
+            [(1, on(0)), (4, on(1) || on(2)), (5, on(3)), (6, on(4)), (7, on(5)), (8, on(6))];
+        let out_len = if on(0) { 255 } else { 256 };
+        let number = refused(&rec, out_len, |r, o| calls::start(r, n, f, id, class, 7, o));
+        assert_eq!(number, first(&faults));
+    }
+}
+
+#[test]
+fn order_of_frame() {
+    // vault 1 of 4 is in view 6 and keeps a suggest of vault 2 for view 9, which it leads
+    let record = record_with(4, 1, 1, 7, 6, &[suggest(2, 9, NONE)]);
+    let sound = encode(&record);
+    let mut unsound = sound.clone();
+    unsound[1] = 2;
+    for bits in 0..1 << 11 {
+        let on = |bit: u32| bits & (1 << bit) != 0;
+        let (short, kind, length, link, sender) = (on(0), on(1), on(2), on(3), on(4));
+        let (zero, report, misplaced, old, kept) = (on(5), on(6), on(7), on(8), on(9));
+        // 2 and 3 exclude each other
+        for (blank, bad) in [(false, false), (true, false), (false, true)] {
+            let mut rec = if bad { unsound.clone() } else { sound.clone() };
+            if blank {
+                rec[0] = 0;
+            }
+            let view = match (zero, misplaced, old, kept) {
+                (true, ..) => 0,
+                (_, true, ..) if on(10) => 11,
+                (_, true, ..) => 4,
+                (_, _, true, _) => 5,
+                (_, _, _, true) => 9,
+                _ => 13,
+            };
+            let mut bytes = write(&suggest(if sender { 3 } else { 2 }, view, NONE));
+            if report {
+                bytes[6] = 2;
+            }
+            if length {
+                bytes.push(0);
+            }
+            if kind {
+                bytes[0] = 9;
+            }
+            let link = match (link, on(10)) {
+                (false, _) => 2,
+                (true, false) => 1,
+                (true, true) => 4,
+            };
+            let faults = [
+                (1, short),
+                (2, blank),
+                (3, bad),
+                (9, kind),
+                (10, length),
+                (11, link != 2),
+                (12, sender),
+                (13, zero),
+                (14, report),
+                (15, misplaced),
+                (16, old),
+                (17, kept),
+            ];
+            let out_len = if short { 255 } else { 256 };
+            let number = refused(&rec, out_len, |r, o| calls::frame(r, link, &bytes, o));
+            assert_eq!(number, first(&faults), "{faults:?}");
+        }
+    }
+}
+
+#[test]
+fn order_of_timer() {
+    for bits in 0..1 << 4 {
+        let on = |bit: u32| bits & (1 << bit) != 0;
+        let record = record_with(4, 1, 1, 7, if on(3) { u32::MAX } else { 6 }, &[]);
+        for (blank, bad) in [(false, false), (true, false), (false, true)] {
+            let mut rec = encode(&record);
+            if blank {
+                rec[0] = 0;
+            }
+            if bad {
+                rec[2] = 4;
+            }
+            let view = if on(2) { 17 } else { record.view };
+            let faults = [(1, on(0)), (2, blank), (3, bad), (18, on(2)), (19, on(3))];
+            let out_len = if on(0) { 0 } else { 256 };
+            let number = refused(&rec, out_len, |r, o| calls::timer(r, view, o));
+            assert_eq!(number, first(&faults));
+        }
+    }
+}
+
+/// A random frame with any faults against refusals 9 to 17 stated one by one.
+#[test]
+fn frames_against_the_table_as_a_list() {
+    let mut rng = Rng(2024);
+    let mut seen = [0u32; 18];
+    for _ in 0..400 {
+        let vault = wandered(&mut rng, 30);
+        let record = vault.record();
+        for _ in 0..100 {
+            let mut bytes = write(&likely_frame(&mut rng, &record));
+            let mut link = bytes[1];
+            for _ in 0..rng.below(3) {
+                match rng.below(8) {
+                    0 => bytes.push(0),
+                    1 => bytes.truncate(rng.below(46) as usize),
+                    2 => link = rng.pick(&[0, 1, 2, 3, 4, 64, 255, record.settings.id]),
+                    3 if bytes.len() >= 6 => bytes[2..6].fill(0),
+                    _ if !bytes.is_empty() => {
+                        let at = rng.below(bytes.len() as u64) as usize;
+                        bytes[at] = rng.pick(&[0, 1, 2, 3, 7, 8, 9, 255]);
+                    }
+                    _ => {}
+                }
+            }
+            let expected = table_9_to_17(&record, link, &bytes);
+            let result = Vault { rec: vault.rec.clone() }.bytes(link, &bytes);
+            assert_eq!(result.err(), expected);
+            seen[usize::from(expected.unwrap_or(0))] += 1;
+        }
+    }
+    for number in (9..18).chain([0]) {
+        assert!(seen[number] > 0, "refusal {number} never came up");
+    }
+}
+
+/// The rows 9 to 17 of the table, written down once more over bytes alone.
+fn table_9_to_17(record: &reference::record::Record, link: u8, bytes: &[u8]) -> Option<u8> {
+    let (n, id) = (record.settings.n, record.settings.id);
+    let lengths = [0, 14, 14, 14, 14, 14, 6, 45, 45];
+    let kind = usize::from(*bytes.first().unwrap_or(&0));
+    if !(1..9).contains(&kind) {
+        return Some(9);
+    }
+    if bytes.len() != lengths[kind] {
+        return Some(10);
+    }
+    let number = |from: usize, to: usize| {
+        bytes[from..to].iter().fold(0u64, |sum, &b| sum * 256 + u64::from(b))
+    };
+    let view = number(2, 6);
+    let report = |i: usize| {
+        let at = 6 + 13 * i;
+        (bytes[at], number(at + 1, at + 5), number(at + 5, at + 13))
+    };
+    let bad_report = kind >= 7 && {
+        let [highest, previous, lock] = [report(0), report(1), report(2)];
+        [highest, previous, lock].iter().any(|&(mark, at, plan)| {
+            mark > 1 || (mark == 0 && (at, plan) != (0, 0)) || (mark == 1 && at >= view)
+        }) || (previous.0 == 1
+            && (highest.0 != 1 || previous.1 >= highest.1 || previous.2 == highest.2))
+    };
+    let leader = view % u64::from(n);
+    let kept_view =
+        |sender: u8| record.rows[usize::from(sender)][kind - 1].map(|frame| u64::from(frame.view));
+    let conditions = [
+        (11, link >= n || link == id),
+        (12, bytes[1] != link),
+        (13, kind >= 6 && view == 0),
+        (14, bad_report),
+        (
+            15,
+            (kind == 1 && leader != u64::from(bytes[1])) || (kind == 7 && leader != u64::from(id)),
+        ),
+        (16, view < u64::from(record.view) || (kind == 6 && view <= u64::from(record.view))),
+    ];
+    let found = conditions.iter().find(|condition| condition.1).map(|condition| condition.0);
+    found.or_else(|| if kept_view(link).is_some_and(|kept| kept >= view) { Some(17) } else { None })
+}

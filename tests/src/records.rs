@@ -1,0 +1,156 @@
+//! Records by contents, in the byte layout of the Rattle vault: 11,703 bytes, big-endian.
+//! n, f, id, class (1 each), view (4), starting plan (8), then 899 marks (1 each), 899 views (4 each), 899 plans (8 each).
+//! Slots: the kept frame of kind k and sender s at (k - 1) * 64 + s; report j of a kept suggest or proof at
+//! 512 + (k - 7) * 192 + j * 64 + s; the own previous vote-1 and vote-2 at 896 and 897; the decision at 898.
+use reference::frame::{Body, Frame, Report};
+use reference::record::{Record, Settings};
+use reference::{calls, record, scripts};
+
+pub const LEN: usize = 11_703;
+const SLOTS: usize = 899;
+const MARKS: usize = 16;
+const VIEWS: usize = MARKS + SLOTS;
+const PLANS: usize = VIEWS + 4 * SLOTS;
+
+fn frame_slot(kind: usize, sender: usize) -> usize {
+    (kind - 1) * 64 + sender
+}
+
+fn report_slot(kind: usize, which: usize, sender: usize) -> usize {
+    512 + (kind - 7) * 192 + which * 64 + sender
+}
+
+fn put(bytes: &mut [u8], slot: usize, view: u32, plan: u64) {
+    bytes[MARKS + slot] = 1;
+    bytes[VIEWS + 4 * slot..][..4].copy_from_slice(&view.to_be_bytes());
+    bytes[PLANS + 8 * slot..][..8].copy_from_slice(&plan.to_be_bytes());
+}
+
+fn put_report(bytes: &mut [u8], slot: usize, report: Option<Report>) {
+    if let Some(report) = report {
+        put(bytes, slot, report.view, report.plan);
+    }
+}
+
+/// The bytes that spell the contents.
+pub fn spell(record: &Record) -> Vec<u8> {
+    let mut bytes = vec![0; LEN];
+    let Settings { n, f, id, class } = record.settings;
+    bytes[..4].copy_from_slice(&[n, f, id, class]);
+    bytes[4..8].copy_from_slice(&record.view.to_be_bytes());
+    bytes[8..16].copy_from_slice(&record.start_plan.to_be_bytes());
+    for (sender, row) in record.rows.iter().enumerate() {
+        for (place, frame) in row.iter().enumerate() {
+            let Some(frame) = frame else { continue };
+            let kind = place + 1;
+            put(&mut bytes, frame_slot(kind, sender), frame.view, frame.plan().unwrap_or(0));
+            for (which, report) in frame.reports().into_iter().flatten().enumerate() {
+                put_report(&mut bytes, report_slot(kind, which, sender), report);
+            }
+        }
+    }
+    put_report(&mut bytes, 896, record.previous_vote1);
+    put_report(&mut bytes, 897, record.previous_vote2);
+    put_report(&mut bytes, 898, record.decision);
+    bytes
+}
+
+/// A slot's contents; None where its mark is neither 0 nor 1, or it is absent with a nonzero byte.
+fn slot(bytes: &[u8], at: usize) -> Option<Option<Report>> {
+    let view = u32::from_be_bytes(bytes[VIEWS + 4 * at..][..4].try_into().unwrap());
+    let plan = u64::from_be_bytes(bytes[PLANS + 8 * at..][..8].try_into().unwrap());
+    match bytes[MARKS + at] {
+        0 if view == 0 && plan == 0 => Some(None),
+        1 => Some(Some(Report { view, plan })),
+        _ => None,
+    }
+}
+
+/// The frame that is kept for a kind and a sender; None where its slots spell neither a frame nor that there is none.
+fn kept(bytes: &[u8], kind: usize, sender: usize) -> Option<Option<Frame>> {
+    let told = match kind {
+        7 | 8 => {
+            let report = |which| slot(bytes, report_slot(kind, which, sender));
+            [report(0)?, report(1)?, report(2)?]
+        }
+        _ => [None; 3],
+    };
+    let Some(head) = slot(bytes, frame_slot(kind, sender))? else {
+        return (told == [None; 3]).then_some(None);
+    };
+    let body = match kind {
+        1..=5 => Body::Plan(head.plan),
+        6 => Body::Empty,
+        _ => Body::Reports(told),
+    };
+    (kind < 6 || head.plan == 0).then_some(Some(Frame { kind: kind as u8, sender: sender as u8, view: head.view, body }))
+}
+
+/// The contents that bytes of the right length spell; None where some slot spells nothing.
+pub fn contents(bytes: &[u8]) -> Option<Record> {
+    let settings = Settings { n: bytes[0], f: bytes[1], id: bytes[2], class: bytes[3] };
+    let mut record = Record::new(settings, u64::from_be_bytes(bytes[8..16].try_into().unwrap()));
+    record.view = u32::from_be_bytes(bytes[4..8].try_into().unwrap());
+    for kind in 1..=8 {
+        for sender in 0..64 {
+            record.rows[sender][kind - 1] = kept(bytes, kind, sender)?;
+        }
+    }
+    record.previous_vote1 = slot(bytes, 896)?;
+    record.previous_vote2 = slot(bytes, 897)?;
+    record.decision = slot(bytes, 898)?;
+    Some(record)
+}
+
+#[derive(Clone, Copy, PartialEq, Eq, Debug)]
+pub enum Class {
+    Blank,
+    Sound,
+    Unsound,
+}
+
+/// Document 01, 'What a vault keeps', for this layout: every string of the right length spells a record.
+pub fn class(bytes: &[u8]) -> Class {
+    if bytes.len() != LEN {
+        return Class::Unsound;
+    }
+    if bytes[0] == 0 {
+        return Class::Blank;
+    }
+    match contents(bytes) {
+        // The reference's own test needs a row for the vault itself.
+        Some(record) if record.settings.check().is_ok() && record.sound() => Class::Sound,
+        _ => Class::Unsound,
+    }
+}
+
+/// The bytes of a line of a script, where it has any.
+fn bytes_of(line: &[u8]) -> Option<Vec<u8>> {
+    let text = std::str::from_utf8(line).ok()?;
+    (0..text.len() / 2).map(|i| u8::from_str_radix(text.get(2 * i..2 * i + 2)?, 16).ok()).collect()
+}
+
+/// Records that accepted calls leave, from line scripts that drive a vault through views.
+pub fn reached(first_seed: u64, scripts: u64) -> Vec<Record> {
+    let mut records = Vec::new();
+    for seed in first_seed..first_seed + scripts {
+        let mut lent = vec![0; record::RECORD_LEN];
+        let mut out = [0; 256];
+        for line in scripts::script(seed).split(|&byte| byte == b'\n') {
+            let Some(bytes) = bytes_of(line) else { continue };
+            let answer = match bytes.first() {
+                Some(0) if bytes.len() == 13 => {
+                    let plan = u64::from_be_bytes(bytes[5..].try_into().unwrap());
+                    calls::start(&mut lent, bytes[1], bytes[2], bytes[3], bytes[4], plan, &mut out)
+                }
+                Some(9) if bytes.len() == 5 => calls::timer(&mut lent, u32::from_be_bytes(bytes[1..].try_into().unwrap()), &mut out),
+                Some(1..=8) if bytes.len() > 1 => calls::frame(&mut lent, bytes[1], &bytes, &mut out),
+                _ => Err(0),
+            };
+            if answer.is_ok() {
+                records.extend(record::decode(&lent));
+            }
+        }
+    }
+    records
+}

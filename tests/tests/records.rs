@@ -1,0 +1,84 @@
+//! The Rattle record's classes and bytes against the reference, on contents, on damaged records and on random bytes.
+use comparison::records::{class, contents, reached, spell, Class, LEN};
+use comparison::{record_again, record_class};
+use reference::record::encode;
+use reference::rng::Rng;
+
+const DAMAGED: u32 = 60_000;
+
+#[test]
+fn what_calls_leave_is_sound_and_reads_back() {
+    let records = reached(7, 40);
+    assert!(records.len() > 500, "{}", records.len());
+    for record in &records {
+        let bytes = spell(record);
+        assert_eq!(record_class(&bytes), Class::Sound);
+        assert_eq!(contents(&bytes).as_ref(), Some(record));
+        let mut again = bytes.clone();
+        assert!(record_again(&mut again));
+        assert_eq!(again, bytes);
+    }
+}
+
+/// One byte changed, of a place that matters: the answers of the reference and of the Rattle code are the same.
+#[test]
+fn damaged_records_have_the_same_class() {
+    let records = reached(7, 40);
+    let mut rng = Rng(5);
+    let mut classes = [0u32; 3];
+    for _ in 0..DAMAGED {
+        let record = &records[rng.below(records.len() as u64) as usize];
+        let mut bytes = spell(record);
+        for _ in 0..1 + rng.below(2) {
+            let kept: Vec<usize> = (0..899).filter(|s| bytes[16 + s] == 1).collect();
+            let slot = if kept.is_empty() || rng.below(3) == 0 { rng.below(899) as usize } else { kept[rng.below(kept.len() as u64) as usize] };
+            let at = match rng.below(8) {
+                0 => rng.below(LEN as u64) as usize,
+                1 => rng.below(16) as usize,
+                2 => 16 + slot,
+                3 | 4 => 16 + 899 + 4 * slot + 3,
+                5 => 16 + 899 + 4 * slot + rng.below(4) as usize,
+                _ => 16 + 899 * 5 + 8 * slot + 7,
+            };
+            bytes[at] = match rng.below(4) {
+                0 => bytes[at].wrapping_add(1),
+                1 => bytes[at].wrapping_sub(1),
+                2 => rng.below(6) as u8,
+                _ => rng.next() as u8,
+            };
+        }
+        let expected = class(&bytes);
+        assert_eq!(record_class(&bytes), expected);
+        classes[expected as usize] += 1;
+        let before = bytes.clone();
+        assert!(record_again(&mut bytes));
+        assert_eq!(bytes, before);
+        // By contents the two layouts agree: what is sound in one is sound in the other.
+        if expected == Class::Sound {
+            let record = contents(&before).unwrap();
+            assert!(matches!(reference::record::classify(&encode(&record)), reference::record::Lent::Sound(same) if same == record));
+        }
+    }
+    println!("blank, sound, unsound: {classes:?}");
+    assert!(classes.iter().all(|&count| count > 20), "{classes:?}");
+}
+
+#[test]
+fn any_bytes_of_any_length_have_a_class() {
+    let mut rng = Rng(6);
+    for round in 0..400u64 {
+        let len = match round % 4 {
+            0 => rng.below(64) as usize,
+            1 => LEN - 1 + rng.below(3) as usize,
+            _ => LEN,
+        };
+        let mut bytes: Vec<u8> = (0..len).map(|_| rng.next() as u8).collect();
+        if round % 8 == 2 {
+            bytes[0] = 0;
+        }
+        assert_eq!(record_class(&bytes), class(&bytes), "length {len}");
+        let before = bytes.clone();
+        assert_eq!(record_again(&mut bytes), len == LEN);
+        assert_eq!(bytes, before);
+    }
+}
