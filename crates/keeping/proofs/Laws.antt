@@ -2,8 +2,8 @@
 -- same plan leaves previous alone" (01, Wrong turns). Each definition computes to one value once its tests are known.
 -- Assumes nothing.
 use Prim.Native.Nat.{ℕ, _≤_}
-use mathlib.Core.Path.{_≡_, refl}
-use mathlib.Core.Bool.{Bool, true, false, not, _&&_}
+use mathlib.Core.Path.{_≡_}
+use mathlib.Core.Bool.{true, false, not, _&&_}
 use lib.Dec.{eqb}
 use Rattle.frame.specs.declared.Report.{Report}
 use Rattle.frame.specs.Format.{within}

@@ -1,9 +1,9 @@
 -- What a kept frame and keeping a frame are, by the form of the kind (01, Frames, column "Rest"): a plan in kinds 1 to 5, nothing
 -- in kind 6, three reports in kinds 7 and 8. Each definition over the kind or the body computes to one value on each form.
 -- Assumes nothing.
-use Prim.Native.Nat.{ℕ, _+_, _≤_, _<_}
-use mathlib.Core.Path.{_≡_, refl, ap, sym, _∙_}
-use mathlib.Core.Bool.{Bool, true, false}
+use Prim.Native.Nat.{ℕ, _≤_}
+use mathlib.Core.Path.{_≡_, ap, sym, _∙_}
+use mathlib.Core.Bool.{true}
 use native.Mathlib.Omega.{arith}
 use borrow.Author.Tests.{eq-eqb, ne-eqb, eqb-true}
 use Rattle.frame.specs.declared.Report.{Report}
@@ -11,13 +11,12 @@ use Rattle.frame.specs.declared.Reports.{Reports}
 use Rattle.frame.specs.declared.Body.{Body}
 use Rattle.frame.specs.declared.Body.the-variants.{Plan, Empty, Told}
 use Rattle.frame.specs.declared.Frame.{Frame}
-use Rattle.frame.specs.Format.{within, fits}
-use Rattle.frame.specs.Refusal.{present}
+use Rattle.frame.specs.Format.{fits}
 use Rattle.frame.proofs.Laws.{inside, over, bounds}
 use Rattle.record.specs.declared.Record.{Record}
 use Rattle.record.specs.Slots.{frameSlot, withSlot}
 use Rattle.kept.specs.declared.Kept.the-variants as kept
-use Rattle.kept.specs.Kept.{reportsIn, bodyIn, frameIn, keptIn, headSlot, withReports, withBody, keepFrame}
+use Rattle.kept.specs.Kept.{reportsIn, bodyIn, frameIn, keptIn, planOf, withReports, withBody, keepFrame}
 
 module _ (slots : ℕ → Report) (kind sender : ℕ) where
   pub body-plan : 1 ≤ kind → kind ≤ 5 → bodyIn slots kind sender ≡ Plan (slots (frameSlot kind sender) .plan)
@@ -50,17 +49,21 @@ pub told-kind : (kind : ℕ) {body : Body} {t : Reports} → body ≡ Told t →
 told-kind kind {body} {t} e h = let k : fits kind (Told t) ≡ true = ap (fits kind) (sym e) ∙ h in bounds 7 8 kind k .0
 
 module _ (r : Record) (sender : ℕ) (f : Frame) where
+  -- the record with the frame's head and what follows it, by the form of the body
+  keep-body : {b : Body} → f .body ≡ b
+      → keepFrame r sender f ≡ withBody (withSlot r (frameSlot (f .kind) sender) (record { mark = 1; view = f .view; plan = planOf b })) (f .kind) sender b
+  unfolding keepFrame
+  keep-body e = λ i. withBody (withSlot r (frameSlot (f .kind) sender) (record { mark = 1; view = f .view; plan = planOf (e i) })) (f .kind) sender (e i)
+
   pub keep-plan : {p : ℕ} → f .body ≡ Plan p
       → keepFrame r sender f ≡ withSlot r (frameSlot (f .kind) sender) (record { mark = 1; view = f .view; plan = p })
-  unfolding keepFrame
-  keep-plan e = ap (λ (b : Body). withBody (withSlot r (frameSlot (f .kind) sender) (headSlot (record { kind = f .kind; sender = f .sender; view = f .view; body = b }))) (f .kind) sender b) e
+  keep-plan e = keep-body e
 
-  pub keep-bare : f .body ≡ Empty → keepFrame r sender f ≡ withSlot r (frameSlot (f .kind) sender) (record { mark = 1; view = f .view; plan = 0 })
-  unfolding keepFrame
-  keep-bare e = ap (λ (b : Body). withBody (withSlot r (frameSlot (f .kind) sender) (headSlot (record { kind = f .kind; sender = f .sender; view = f .view; body = b }))) (f .kind) sender b) e
+  pub keep-bare : f .body ≡ Empty
+      → keepFrame r sender f ≡ withSlot r (frameSlot (f .kind) sender) (record { mark = 1; view = f .view; plan = 0 })
+  keep-bare e = keep-body e
 
   pub keep-told : {t : Reports} → f .body ≡ Told t
       → keepFrame r sender f
       ≡ withReports (withSlot r (frameSlot (f .kind) sender) (record { mark = 1; view = f .view; plan = 0 })) (f .kind) sender t
-  unfolding keepFrame
-  keep-told e = ap (λ (b : Body). withBody (withSlot r (frameSlot (f .kind) sender) (headSlot (record { kind = f .kind; sender = f .sender; view = f .view; body = b }))) (f .kind) sender b) e
+  keep-told e = keep-body e

@@ -3,11 +3,11 @@
 -- previous votes and the decision at 896 and above; so the slots of the frame hold it (`kept-same`), and those of every other
 -- kind and sender hold what they held (`kept-other`, `slot-beyond`).
 -- Assumes nothing.
-use Prim.Native.Nat.{ℕ, _+_, _*_, _-_, _≤_, _<_}
+use Prim.Native.Nat.{ℕ, _-_, _≤_, _<_}
 use mathlib.Core.Path.{_≡_, refl, ap, sym, subst, _∙_}
 use mathlib.Core.Logic.{_≢_}
-use mathlib.Core.Bool.{Bool, true, false, cond}
-use mathlib.Core.Option.{Option, none, some}
+use mathlib.Core.Bool.{true, cond}
+use mathlib.Core.Option.{some}
 use native.Mathlib.Omega.{arith}
 use borrow.Author.Tests.{eqb-true}
 use Rattle.frame.specs.declared.Report.{Report}
@@ -28,7 +28,9 @@ use Rattle.kept.proofs.Forms.{body-plan, body-bare, body-reports, kept-
 
 -- ---- a kept frame is what its slots hold
 
-module _ (σ τ : ℕ → Report) (kind sender : ℕ) (low : 1 ≤ kind) (high : kind ≤ 8) (e : σ (frameSlot kind sender) ≡ τ (frameSlot kind sender)) (es : 7 ≤ kind → (j : ℕ) → j < 3 → σ (reportSlot kind j sender) ≡ τ (reportSlot kind j sender)) where
+module _ (σ τ : ℕ → Report) (kind sender : ℕ) (low : 1 ≤ kind) (high : kind ≤ 8)
+    (e : σ (frameSlot kind sender) ≡ τ (frameSlot kind sender))
+    (es : 7 ≤ kind → (j : ℕ) → j < 3 → σ (reportSlot kind j sender) ≡ τ (reportSlot kind j sender)) where
   body-by-slots : bodyIn σ kind sender ≡ bodyIn τ kind sender
   body-by-slots = go (form kind low high)
     where
@@ -61,7 +63,8 @@ module _ (q : Record) (kind sender at : ℕ) where
       ∙ slot-other a (reportSlot kind 1 sender) (t .previous) at (h 1 (omega arith))
       ∙ slot-other q (reportSlot kind 0 sender) (t .highest) at (h 0 (omega arith))
 
-  body-left : (b : Body) → fits kind b ≡ true → (7 ≤ kind → (j : ℕ) → j < 3 → at ≢ reportSlot kind j sender) → slotOf (withBody q kind sender b) at ≡ slotOf q at
+  body-left : (b : Body) → fits kind b ≡ true → (7 ≤ kind → (j : ℕ) → j < 3 → at ≢ reportSlot kind j sender)
+      → slotOf (withBody q kind sender b) at ≡ slotOf q at
   body-left (Plan p) e h = refl
   body-left Empty e h = refl
   body-left (Told t) e h = reports-left t (h (bounds 7 8 kind e .0))
@@ -80,7 +83,8 @@ unfolding withReports
 sized-reports q kind sender t z =
     let a = withSlot q (reportSlot kind 0 sender) (t .highest) in
     let b = withSlot a (reportSlot kind 1 sender) (t .previous) in
-    sized-slot b (reportSlot kind 2 sender) (t .lock) (sized-slot a (reportSlot kind 1 sender) (t .previous) (sized-slot q (reportSlot kind 0 sender) (t .highest) z))
+    sized-slot b (reportSlot kind 2 sender) (t .lock)
+    (sized-slot a (reportSlot kind 1 sender) (t .previous) (sized-slot q (reportSlot kind 0 sender) (t .highest) z))
 
 sized-body : (q : Record) (kind sender : ℕ) (b : Body) → Sized q → Sized (withBody q kind sender b)
 sized-body q kind sender (Plan p) z = z
@@ -115,10 +119,12 @@ module _ (r : Record) (sender : ℕ) (f : Frame) (shape : fits (f .kind) (f .bod
 
   pub sized-keep : Sized r → Sized (keepFrame r sender f)
   unfolding keepFrame
-  sized-keep z = sized-body (withSlot r (frameSlot (f .kind) sender) (headSlot f)) (f .kind) sender (f .body) (sized-slot r (frameSlot (f .kind) sender) (headSlot f) z)
+  sized-keep z = sized-body (withSlot r (frameSlot (f .kind) sender) (headSlot f)) (f .kind) sender (f .body)
+      (sized-slot r (frameSlot (f .kind) sender) (headSlot f) z)
 
   -- A slot that is none of the frame's stays.
-  pub slot-left : (at : ℕ) → at ≢ frameSlot (f .kind) sender → (7 ≤ f .kind → (j : ℕ) → j < 3 → at ≢ reportSlot (f .kind) j sender) → slotOf (keepFrame r sender f) at ≡ slotOf r at
+  pub slot-left : (at : ℕ) → at ≢ frameSlot (f .kind) sender → (7 ≤ f .kind → (j : ℕ) → j < 3 → at ≢ reportSlot (f .kind) j sender)
+      → slotOf (keepFrame r sender f) at ≡ slotOf r at
   unfolding keepFrame
   slot-left at h hs =
       body-left (withSlot r (frameSlot (f .kind) sender) (headSlot f)) (f .kind) sender at (f .body) shape hs
@@ -136,12 +142,14 @@ module _ (r : Record) (sender : ℕ) (f : Frame) (shape : fits (f .kind) (f .bod
       pub frame-left : slotOf (keepFrame r sender f) (frameSlot kind other) ≡ slotOf r (frameSlot kind other)
       frame-left =
           let k = fits-kind (f .kind) (f .body) shape in
-          slot-left (frameSlot kind other) (λ e. ne (omega (arith, p .low, p .high, p .row)) (omega (arith, p .low, p .high, p .row))) (λ l j b e. omega (arith, p .low, p .high, p .row))
+          slot-left (frameSlot kind other) (λ e. ne (omega (arith, p .low, p .high, p .row)) (omega (arith, p .low, p .high, p .row)))
+          (λ l j b e. omega (arith, p .low, p .high, p .row))
 
       pub reports-left-at : 7 ≤ kind → (j : ℕ) → j < 3 → slotOf (keepFrame r sender f) (reportSlot kind j other) ≡ slotOf r (reportSlot kind j other)
       reports-left-at l j b =
           let k = fits-kind (f .kind) (f .body) shape in
-          slot-left (reportSlot kind j other) (λ e. omega (arith, p .high, p .row)) (λ l′ i b′ e. ne (omega (arith, p .high, p .row)) (omega (arith, p .high, p .row)))
+          slot-left (reportSlot kind j other) (λ e. omega (arith, p .high, p .row))
+          (λ l′ i b′ e. ne (omega (arith, p .high, p .row)) (omega (arith, p .high, p .row)))
 
       pub kept-other : keptFrame (keepFrame r sender f) kind other ≡ keptFrame r kind other
       kept-other = ap asOption (kept-by-slots (slotOf (keepFrame r sender f)) (slotOf r) kind other (p .low) (p .high) frame-left reports-left-at)
@@ -159,7 +167,8 @@ module _ (r : Record) (sender : ℕ) (f : Frame) (shape : fits (f .kind) (f .bod
       body-put (Plan p) e =
           let h : fits (f .kind) (Plan p) ≡ true = subst (λ (b : Body). fits (f .kind) b ≡ true) e shape in
           let k = bounds 1 5 (f .kind) h in
-          body-plan (slotOf (keepFrame r sender f)) (f .kind) sender (k .0) (k .1) ∙ ap (λ (x : Report). Plan (x .plan)) head-put ∙ ap (λ (b : Body). Plan (planOf b)) e
+          body-plan (slotOf (keepFrame r sender f)) (f .kind) sender (k .0) (k .1) ∙ ap (λ (x : Report). Plan (x .plan)) head-put
+          ∙ ap (λ (b : Body). Plan (planOf b)) e
       body-put Empty e =
           let h : fits (f .kind) Empty ≡ true = subst (λ (b : Body). fits (f .kind) b ≡ true) e shape in
           body-bare (slotOf (keepFrame r sender f)) (f .kind) sender (eqb-true (f .kind) 6 h)

@@ -14,13 +14,13 @@ use lib.ListN.{length, getD, take, drop, length-append, length-take, length-drop
 use lib.Seq.{take-at, drop-at, drop-drop, take-all, take-add, drop-cons, getD-take, getD-drop}
 use Rattle.wire.specs.Digits.{numberAt, digits}
 use Rattle.wire.specs.Fields.{Bytes}
-use Rattle.wire.proofs.Laws.{number-digits, digits-number, number-below, length-digits}
+use Rattle.wire.proofs.Laws.{number-digits, digits-number, number-below}
 use Rattle.words.specs.Words.{numbers, spelled, Below}
 use Rattle.words.proofs.Laws.{numbers-spelled, spelled-numbers, length-spelled, length-numbers, numbers-below}
 use Rattle.record.specs.declared.Record.{Record}
 use Rattle.record.specs.Slots.{Sized}
 use Rattle.layout.specs.Layout.{headOf, encodeRecord, decodeRecord, Fits}
-use Rattle.layout.proofs.Parts.{length-head, length-encoded, length-part}
+use Rattle.layout.proofs.Parts.{length-head, length-part}
 
 -- ---- written, then read
 
@@ -51,7 +51,8 @@ decode-encode r z =
     let lv : length ((h ++ r .marks) ++ v) ≡ 4511 = rw (length-append, length-spelled) (omega (arith, z .views .0)) in
     let s₂ : h ++ (r .marks ++ (v ++ p)) ≡ (h ++ r .marks) ++ (v ++ p) = sym (append-assoc h (r .marks) (v ++ p)) in
     let s₃ : h ++ (r .marks ++ (v ++ p)) ≡ ((h ++ r .marks) ++ v) ++ (p ++ []) = simp (append-assoc, append-nil) in
-    let marks : take 899 (drop 16 (h ++ (r .marks ++ (v ++ p)))) ≡ r .marks = rw (drop-at h (r .marks ++ (v ++ p)) 16 lh, take-at (r .marks) (v ++ p) 899 (z .marks .0)) in
+    let marks : take 899 (drop 16 (h ++ (r .marks ++ (v ++ p)))) ≡ r .marks = rw
+    (drop-at h (r .marks ++ (v ++ p)) 16 lh, take-at (r .marks) (v ++ p) 899 (z .marks .0)) in
     let views : numbers 4 899 (take 3596 (drop 915 (h ++ (r .marks ++ (v ++ p))))) ≡ r .views =
     rw s₂ (numbers-behind 4 899 (h ++ r .marks) (r .views) p 915 3596 lm refl (z .views .0) (z .views .1)) in
     let plans : numbers 8 899 (take 7192 (drop 4511 (h ++ (r .marks ++ (v ++ p))))) ≡ r .plans =
@@ -72,7 +73,8 @@ front s h b =
     (drop-cons s 1 0 (omega arith)
     ∙ ap (λ (l : List ℕ). getD s 1 0 ∷ l) (drop-cons s 2 0 (omega arith) ∙ ap (λ (l : List ℕ). getD s 2 0 ∷ l) (drop-cons s 3 0 (omega arith)))) in
     let rest : digits 4 (numberAt 4 s 4) ++ digits 8 (numberAt 8 s 8) ≡ take 12 (drop 4 s) =
-    rw (digits-number 4 s 4 b (omega arith), digits-number 8 s 8 b (omega arith)) (sym (take-add 4 8 (drop 4 s) ∙ ap (λ (l : List ℕ). take 4 (drop 4 s) ++ take 8 l) (drop-drop 4 4 s))) in
+    rw (digits-number 4 s 4 b (omega arith), digits-number 8 s 8 b (omega arith))
+    (sym (take-add 4 8 (drop 4 s) ∙ ap (λ (l : List ℕ). take 4 (drop 4 s) ++ take 8 l) (drop-drop 4 4 s))) in
     ap (λ (l : List ℕ). getD s 0 0 ∷ getD s 1 0 ∷ getD s 2 0 ∷ getD s 3 0 ∷ l) rest ∙ sym (ap (take 16) four)
 
 below-part : (at k : ℕ) (s : List ℕ) → Bytes s → Bytes (take k (drop at s))

@@ -2,7 +2,6 @@
 // (8 each), big-endian. Every string of so many bytes spells one record, and every record has one spelling.
 use record::Record;
 ghost use mathlib.Core.Path.{_≡_};
-ghost use Prim.Native.Nat.{_≤_};
 ghost use lib.ListN.{length};
 ghost use Rattle.wire.specs.Placed.{placed};
 ghost use Rattle.words.specs.Words.{spelled};

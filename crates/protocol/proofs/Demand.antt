@@ -35,7 +35,7 @@ use Rattle.protocol.specs.Claim.{Demand3}
 use Rattle.protocol.proofs.Tables.{putOther, putOwn}
 use Rattle.protocol.proofs.Past.{Past, Voted, ExactNow, Fine, Ground}
 use Rattle.protocol.proofs.Past as Past′
-use Rattle.protocol.proofs.Good.{onto, Good, waits}
+use Rattle.protocol.proofs.Good.{onto, Good, Seed, chosenSeed, waits, anySeed}
 use Rattle.protocol.proofs.Went.{noneGiven, unlessAccepted, thirdOf, Went, startWent, heardWent, rungWent}
 
 -- The view of a record, 0 where it is blank.
@@ -116,10 +116,10 @@ module _ (c : Setting) (Began : ℕ → Type 0) where
   never : {A : Type 0} {k : ℕ} {o : Out} → refused k ≡ accepted o → A
   never e = let z : _≡_ {A = ℕ} 0 1 = cc in absurd (omega arith)
 
-  callWent : {l : List Item} (v : Inv l) (i : ℕ) (a : Call) → ((s : Settings) (p : ℕ) → a ≡ start s p → Began p) → Fair c l i a → (o : Out) → answer (recordAt l i) a ≡ accepted o
+  callWent : Seed c Began → {l : List Item} (v : Inv l) (i : ℕ) (a : Call) → ((s : Settings) (p : ℕ) → a ≡ start s p → Began p) → Fair c l i a → (o : Out) → answer (recordAt l i) a ≡ accepted o
       → (3 * c .f < c .n) × Went c Began (past l) i o
   unfolding answer
-  callWent {l} v i a began fair o is = go a (recordAt l i) refl began fair is
+  callWent seed {l} v i a began fair o is = go a (recordAt l i) refl began fair is
     where
       go : (a : Call) (b : Option Record) → recordAt l i ≡ b → ((s : Settings) (p : ℕ) → a ≡ start s p → Began p) → Fair c l i a → answer b a ≡ accepted o
           → (3 * c .f < c .n) × Went c Began (past l) i o
@@ -136,7 +136,7 @@ module _ (c : Setting) (Began : ℕ → Type 0) where
           let zero-view : viewIn (recordAt l (s .id)) ≡ 0 = ap (λ (j : ℕ). viewIn (recordAt l j)) id ∙ ap viewIn e in (
             third,
             subst (λ (u : Out). Went c Began (past l) i u) same
-                (subst (λ (j : ℕ). Went c Began (past l) j (started s p)) id (startWent c Began (past l) s p en ef (began s p refl) blank zero-view)),
+                (subst (λ (j : ℕ). Went c Began (past l) j (started s p)) id (startWent c Began seed (past l) s p en ef (began s p refl) blank zero-view)),
           )
       go (frame (Accepted x)) (some r) e began fair is =
           let (read, sent) = fair in
@@ -145,13 +145,13 @@ module _ (c : Setting) (Began : ℕ → Type 0) where
           let apart : x .sender ≢ r .set .id = λ (z : x .sender ≡ r .set .id). othersFrame i x read (z ∙ id) in (
             third,
             subst (λ (u : Out). Went c Began (past l) i u) same
-                (subst (λ (j : ℕ). Went c Began (past l) j (heard r x)) id (heardWent c Began (past l) r x apart (λ keeps. sentFine v i x (sent keeps)) g)),
+                (subst (λ (j : ℕ). Went c Began (past l) j (heard r x)) id (heardWent c Began seed (past l) r x apart (λ keeps. sentFine v i x (sent keeps)) g)),
           )
       go (timer w) (some r) e began fair is =
           let (given, same) = unlessAccepted (first (timerRows r w)) (rung r) is in
           let (id, third, g) = v .good i r e in
           let room : r .view ≢ 4294967295 = eqb-false (r .view) 4294967295 (noneGiven (timerRows r w) given .1 .0) in
-          (third, subst (λ (u : Out). Went c Began (past l) i u) same (subst (λ (j : ℕ). Went c Began (past l) j (rung r)) id (rungWent c Began (past l) r room g)))
+          (third, subst (λ (u : Out). Went c Began (past l) i u) same (subst (λ (j : ℕ). Went c Began (past l) j (rung r)) id (rungWent c Began seed (past l) r room g)))
 
   invNone : Inv []
   unfolding recordAt written
@@ -203,14 +203,14 @@ module _ (c : Setting) (Began : ℕ → Type 0) where
       keptAt i e (inl same) at = subst (λ (j : ℕ). c .keeps j ≡ true) (eqb-true (x .at) i same) keeps
       keptAt i e (inr other) at = v .kept i e (rw other at at)
 
-  pub invariant : {l : List Item} → Run c l → ((p : ℕ) → Started p l → Began p) → Inv l
-  invariant nothingYet began = invNone
-  invariant (andThen {l = l} {x = x} run keeps fair) began = go (invariant run (λ p s. began p (earlier s))) (answer (recordAt l (x .at)) (x .call)) refl
+  pub invariant : Seed c Began → {l : List Item} → Run c l → ((p : ℕ) → Started p l → Began p) → Inv l
+  invariant seed nothingYet began = invNone
+  invariant seed (andThen {l = l} {x = x} run keeps fair) began = go (invariant seed run (λ p s. began p (earlier s))) (answer (recordAt l (x .at)) (x .call)) refl
     where
       go : Inv l → (a : Answer) → answer (recordAt l (x .at)) (x .call) ≡ a → Inv (x ∷ l)
       go v (refused k) is = invRefused x k is v
       go v (accepted o) is =
-          let (third, w) = callWent v (x .at) (x .call) (λ s p e. began p (here {s = s} e is)) fair o is in
+          let (third, w) = callWent seed v (x .at) (x .call) (λ s p e. began p (here {s = s} e is)) fair o is in
           invAccepted x o keeps is third w v
 
   -- ---- the history is lawful
@@ -244,20 +244,26 @@ module _ (c : Setting) (Began : ℕ → Type 0) where
     mostly : 3 * c .f < c .n → Mostly (equals (c .n) (c .f)) (c .keeps)
     mostly third = mostlyEquals (c .n) (c .f) (c .keeps) third (omega (arith, c .most))
 
--- In every run any two decisions are for the same plan; and if all vaults keep the rules, for the plan of an accepted start.
-pub demand3 : Demand3
-demand3 c l run = record {
-  agreement = λ i j p q a b.
-      let (u, third, x) = decided c Began v i a in
-      let (w, third′, y) = decided c Began v j b in
-      locksAgree (mostly c Began v third) (lawful c Began v) x y;
-  validity = λ all i p a.
-      let (u, third, x) = decided c Began v i a in
-      lockBegan (mostly c Began v third) all (lawful c Began v) (led c Began v third) x;
-}
-  where
-    Began : ℕ → Type 0
-    Began p = Started p l
+-- ---- demand 3
 
+-- Any two decisions are for the same plan: whatever plans leaders propose.
+pub runsAgree : (c : Setting) (l : List Item) → Run c l → (i j p q : ℕ) → Decides l i p → Decides l j q → p ≡ q
+runsAgree c l run i j p q a b =
+    let (u, third, x) = decided c (λ p. Unit {0}) v i a in
+    let (w, third′, y) = decided c (λ p. Unit {0}) v j b in
+    locksAgree (mostly c (λ p. Unit {0}) v third) (lawful c (λ p. Unit {0}) v) x y
+  where
+    v : Inv c (λ p. Unit {0}) l
+    v = invariant c (λ p. Unit {0}) (anySeed c) run (λ p s. tt)
+
+-- If all vaults keep the rules, each decision's plan is that of an accepted start.
+pub runsValid : (c : Setting) (l : List Item) → Run c l → ((i : ℕ) → i < c .n → c .keeps i ≡ true) → (i p : ℕ) → Decides l i p → Started p l
+runsValid c l run all i p a =
+    let (u, third, x) = decided c (λ p. Started p l) v i a in
+    lockBegan (mostly c (λ p. Started p l) v third) all (lawful c (λ p. Started p l) v) (led c (λ p. Started p l) v third) x
+  where
     v : Inv c (λ p. Started p l) l
-    v = invariant c (λ p. Started p l) run (λ p s. s)
+    v = invariant c (λ p. Started p l) (chosenSeed c (λ p. Started p l)) run (λ p s. s)
+
+pub demand3 : Demand3
+demand3 c l run = record { agreement = runsAgree c l run; validity = runsValid c l run }

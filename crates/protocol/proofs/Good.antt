@@ -26,14 +26,14 @@ use Rattle.frame.specs.Refusal.{leaderOf}
 use Rattle.entry.specs.declared.Entry.{Entry}
 use Rattle.entry.specs.declared.Entry.the-variants.{ForAll}
 use Rattle.protocol.specs.Record.{Settings, Record, put, each, reported, spelt, voteBy, reportBy, kindOf, keeping, vaults, leader, leads, voteOf, reportsOf, sentNow, tells, changeFrame, voteFrame, reportFrame}
-use Rattle.protocol.specs.Pass.{Act, ask, enter, cast, decide, shift, hasPrevious, timerEntry, entered, does, suggestEntry, writes, Out, taken}
+use Rattle.protocol.specs.Pass.{Act, ask, enter, cast, decide, shift, hasPrevious, timerEntry, entered, does, suggestEntry, writes, actC, Out, taken}
 use Rattle.protocol.specs.Calls.{keep}
 use Rattle.protocol.specs.Runs.{_∈_, Setting}
 use Rattle.protocol.proofs.Tables.{putSame, putOther, keepSame, keepOtherKind, keepOtherSender, keepWas, eachSome, whenSome}
 use Rattle.protocol.proofs.Past.{Past, Voted, Later, ExactNow, Fine, fineOn, vaultsOf, Ground, groundOn, toldOn}
 use Rattle.protocol.proofs.Past as Past′
 use Rattle.protocol.proofs.Tops.{Tops, topsOn, newTops, shiftTops, claimBelow, lockBelow, exactReport}
-use Rattle.protocol.proofs.May.{Held, Reached, May}
+use Rattle.protocol.proofs.May.{Held, Reached, May, proposedChosen}
 
 -- ---- frames and entries
 
@@ -172,6 +172,12 @@ module _ (c : Setting) (Began : ℕ → Type 0) where
     pub kept : (k j : ℕ) (x : Frame) → r .kept k j ≡ some x → c .keeps j ≡ true → (x .kind ≡ k) × Fine h j x
     pub told : (e : Entry) → e ∈ h .wrote (r .set .id) → Past′.Told c Began h (r .set .id) e
 
+  -- What makes a proposal a reasoned one: given for any plan where all count as begun, which is enough for agreement, and from step
+  -- C's choice otherwise (`chosenSeed`).
+  abbrev pub Seed : Type 0
+  Seed =
+      (h : Past) (r : Record) → Good h r → (p : ℕ) → actC r ≡ some (cast 0 p) → Reason (vaultsOf c Began) (c .keeps) (ExactNow h rule1 (r .view)) Began (r .view) p
+
   -- ---- what a good record shows of others
 
   module _ {h : Past} {r : Record} (g : Good h r) where
@@ -206,13 +212,13 @@ module _ (c : Setting) (Began : ℕ → Type 0) where
         found (r .start) (reportsOf r rule1) (keptIsExact rule1) (subst (λ (vs : Vaults). ¬ Safe rule1 vs (reportsOf r rule1) (r .view) (r .start)) vaultsAre never)
         (subst (λ (vs : Vaults). Safe rule1 vs (reportsOf r rule1) (r .view) p) vaultsAre (subst (λ (x : ℕ). Safe rule1 (vaults r) (reportsOf r rule1) (r .view) x) is (least .0)))
 
-    ground : (k p : ℕ) → Reached r k p → Ground c Began h k (r .view) p
-    ground zero p (lead, chosen) = chosenReason p chosen refl
-    ground (suc zero) p (safe, e) = (
+    ground : Seed → (k p : ℕ) → Reached r k p → Ground c Began h k (r .view) p
+    ground seed zero p (lead, e) = seed h r g p e
+    ground seed (suc zero) p (safe, e) = (
       record { proofs = reportsOf r rule3; from = keptIsExact rule3; safe = subst (λ (vs : Vaults). Safe rule3 vs (reportsOf r rule3) (r .view) p) vaultsAre safe },
       subst (λ (n : ℕ). c .keeps (leaderOf (r .view) n) ≡ true → Voted h (leaderOf (r .view) n) 0 (r .view) p) (g .n) (λ keeps. keptWasSent 0 (leader r (r .view)) p keeps e),
     )
-    ground (suc (suc k)) p q = quorumSent (suc k) p q
+    ground seed (suc (suc k)) p q = quorumSent (suc k) p q
 
     -- A vote that was not sent in this view was not sent in it.
     notSentNow : (k p : ℕ) → k < 5 → sentNow r k ≡ false → ¬ Voted h (r .set .id) k (r .view) p
@@ -222,6 +228,9 @@ module _ (c : Setting) (Began : ℕ → Type 0) where
         let same : eqb (x .view) (r .view) ≡ true = eq-eqb (x .view) (r .view) (omega arith) in
         let sent : sentNow r k ≡ true = rw (e, same) in
         clash sent new
+
+  pub chosenSeed : Seed
+  chosenSeed h r g p e = chosenReason g p (proposedChosen r p e) refl
 
   -- ---- keeping a frame
 
@@ -412,10 +421,10 @@ module _ (c : Setting) (Began : ℕ → Type 0) where
         go (cast k p) is = keptBy h′ (voteFrame r k p) (r .kept) (λ keeps. fineVote k p is) old
         go (decide p) is = old
 
-    toldNow : (b : Act) → a ≡ b → (e : Entry) → e ∈ writes r b → Past′.Told c Began h′ i e
+    toldNow : Seed → (b : Act) → a ≡ b → (e : Entry) → e ∈ writes r b → Past′.Told c Began h′ i e
     unfolding writes
-    toldNow (ask w) is e at = subst (Past′.Told c Began h′ i) (sym (List·Memᴰ·eq-of-singleton at)) (fineChange w, λ k p kind body. absurd (notPlan body (inl refl)))
-    toldNow (enter w) is e at = ⊎-elim timer (λ rest. ⊎-elim proof (suggest (leads r w)) (List·Memᴰ·cases-cons rest)) (List·Memᴰ·cases-cons at)
+    toldNow seed (ask w) is e at = subst (Past′.Told c Began h′ i) (sym (List·Memᴰ·eq-of-singleton at)) (fineChange w, λ k p kind body. absurd (notPlan body (inl refl)))
+    toldNow seed (enter w) is e at = ⊎-elim timer (λ rest. ⊎-elim proof (suggest (leads r w)) (List·Memᴰ·cases-cons rest)) (List·Memᴰ·cases-cons at)
       where
         timer : e ≡ timerEntry r w → Past′.Told c Began h′ i e
         timer same = subst (Past′.Told c Began h′ i) (sym same) tt
@@ -426,19 +435,19 @@ module _ (c : Setting) (Began : ℕ → Type 0) where
         suggest : (b : Bool) → e ∈ suggestEntry r w b → Past′.Told c Began h′ i e
         suggest true rest = elim rest [ ]
         suggest false rest = subst (Past′.Told c Began h′ i) (sym (List·Memᴰ·eq-of-singleton rest)) (reportExact w is rule1)
-    toldNow (cast k p) is e at = subst (Past′.Told c Began h′ i) (sym (List·Memᴰ·eq-of-singleton at)) (fineVote k p is, why)
+    toldNow seed (cast k p) is e at = subst (Past′.Told c Began h′ i) (sym (List·Memᴰ·eq-of-singleton at)) (fineVote k p is, why)
       where
         why : (k′ p′ : ℕ) → suc k ≡ suc k′ → Plan p ≡ Plan p′ → Ground c Began h′ k′ (r .view) p′
         why k′ p′ kind body =
             let same : k ≡ k′ = cc in
             let plan : p ≡ p′ = cc in
-            groundOn c Began actLater k′ (r .view) p′ (ground g k′ p′ (rw (same, plan) at (subst (May r) is may .2)))
-    toldNow (decide p) is e at =
+            groundOn c Began actLater k′ (r .view) p′ (ground g seed k′ p′ (rw (same, plan) at (subst (May r) is may .2)))
+    toldNow seed (decide p) is e at =
         subst (Past′.Told c Began h′ i) (sym (List·Memᴰ·eq-of-singleton at))
         (groupMap (λ j low was keeps. entryOld j _ (was keeps)) (quorumSent g 4 p (subst (May r) is may .1)))
 
-    pub actGood : Good h′ (does r a)
-    actGood = record {
+    pub actGood : Seed → Good h′ (does r a)
+    actGood seed = record {
       n = ap (λ (s : Settings). s .n) (doesSet r a) ∙ g .n;
       f = ap (λ (s : Settings). s .f) (doesSet r a) ∙ g .f;
       plan = subst Began (sym (doesStart r a)) (g .plan);
@@ -450,7 +459,7 @@ module _ (c : Setting) (Began : ℕ → Type 0) where
       previous = at-own (λ (j : ℕ). (k : ℕ) → hasPrevious k ≡ true → Tops (Other (Voted h′ j k) (voteOf (does r a) k j)) ((does r a) .previous k)) previousNow;
       kept = keptNow a refl;
       told = at-own (λ (j : ℕ). (e : Entry) → e ∈ h′ .wrote j → Past′.Told c Began h′ j e)
-          (λ e at. ⊎-elim (λ old. toldOn c Began actLater i e (g .told e old)) (toldNow a refl e) (entrySplit e at));
+          (λ e at. ⊎-elim (λ old. toldOn c Began actLater i e (g .told e old)) (toldNow seed a refl e) (entrySplit e at));
     }
       where
         at-own : (P : ℕ → Type 0) → P i → P ((does r a) .set .id)
@@ -497,3 +506,7 @@ module _ (c : Setting) (Began : ℕ → Type 0) where
     where
       own-row : (k : ℕ) → voteOf (keep x r) k (r .set .id) ≡ voteOf r k (r .set .id)
       own-row k = ap (λ (o : Option Frame). each o (λ y. voteBy (y .view) (y .body))) (keepOtherSender x (r .kept) (suc k) (r .set .id) other)
+
+-- Where all plans count as begun, every proposal is reasoned.
+pub anySeed : (c : Setting) → Seed c (λ p. Unit {0})
+anySeed c h r g p e = own tt

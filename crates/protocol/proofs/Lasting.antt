@@ -20,6 +20,7 @@ use Rattle.protocol.specs.Sound.{Sound, Ranged, Fed, Proper}
 use Rattle.protocol.specs.Runs.{Setting, Item, recordAt, written, Fair, Run, nothingYet, andThen}
 use Rattle.protocol.proofs.Demand.{Inv, invariant, pastRefused, recordAccepted, pastAccepted}
 use Rattle.protocol.proofs.Past.{Past}
+use Rattle.protocol.proofs.Good.{anySeed}
 use Rattle.protocol.proofs.Proper.{allJoin, callProper}
 
 -- 'A plan is any 64-bit number', of every start in the list.
@@ -84,7 +85,7 @@ module _ (c : Setting) where
   -- Refusal 3 never meets a record of a run, and every output of a run reads as its entries.
   pub runLasts : {l : List Item} → Run c l → Wide l → Lasting l
   runLasts nothingYet wide = lastsNone
-  runLasts (andThen {l = l} {x = x} run keeps fair) (brings, wide) = go (runLasts run wide) (invariant c (λ p. Unit {0}) run (λ p s. tt)) (answer (recordAt l (x .at)) (x .call)) refl
+  runLasts (andThen {l = l} {x = x} run keeps fair) (brings, wide) = go (runLasts run wide) (invariant c (λ p. Unit {0}) (anySeed c) run (λ p s. tt)) (answer (recordAt l (x .at)) (x .call)) refl
     where
       go : Lasting l → Inv c (λ p. Unit {0}) l → (a : Answer) → answer (recordAt l (x .at)) (x .call) ≡ a → Lasting (x ∷ l)
       go v inv (refused k) is = lastsRefused x k is v

@@ -2,7 +2,7 @@
 -- All that agreement uses of how a view is entered is that it is above the current one.
 -- Assumes nothing.
 use Prim.Native.Nat.{ℕ, zero, suc, _<_}
-use mathlib.Core.Path.{_≡_, refl, _∙_, subst}
+use mathlib.Core.Path.{_≡_, refl, sym, _∙_, ap, subst}
 use mathlib.Core.Logic.{_≢_, _⊎_, inl}
 use mathlib.Core.Bool.{true, false, not}
 use mathlib.Core.List.{List, [], _∷_}
@@ -26,9 +26,10 @@ module _ (r : Record) where
   abbrev pub Held : ℕ → ℕ → ℕ → Type 0
   Held k p j = voteOf r k j ≡ some (record { view = r .view; plan = p })
 
-  -- What lets it send vote-k for p: Rule 1 for a leader's proposal, Rule 3 for vote-1, a quorum of the vote before for the others.
+  -- What lets it send vote-k for p: step C's choice for a leader's proposal (`proposedChosen` says what that is), Rule 3 for vote-1, a
+  -- quorum of the vote before for the others.
   abbrev pub Reached : ℕ → ℕ → Type 0
-  Reached zero p = (leader r (r .view) ≡ r .set .id) × Chosen (vaults r) (reportsOf r rule1) (r .view) (r .start) (some p)
+  Reached zero p = (leader r (r .view) ≡ r .set .id) × (actC r ≡ some (cast 0 p))
   Reached (suc zero) p = Safe rule3 (vaults r) (reportsOf r rule3) (r .view) p × Held 0 p (leader r (r .view))
   Reached (suc (suc k)) p = Quorum (vaults r) (Held (suc k) p)
 
@@ -67,10 +68,15 @@ module _ (r : Record) where
       let (lead, new) = bothSplit (leads r (r .view)) (not (sentNow r 0)) free in
       let (p, is, q) = eachSome (chosen r) _ g in
       let same : cast 0 p ≡ a = cc in
-      rw (← same) (omega arith, not-true (sentNow r 0) new, (eqb-true (leader r (r .view)) (r .set .id) lead, isChosen p is))
-    where
-      isChosen : (p : ℕ) → chosen r ≡ some p → Chosen (vaults r) (reportsOf r rule1) (r .view) (r .start) (some p)
-      isChosen p is = subst (Chosen (vaults r) (reportsOf r rule1) (r .view) (r .start)) is (choiceIs (vaults r) (reportsOf r rule1) (r .view) (r .start))
+      rw (← same) (omega arith, not-true (sentNow r 0) new, (eqb-true (leader r (r .view)) (r .set .id) lead, e ∙ ap some (sym same)))
+
+  -- What a leader proposes is its starting plan, or the smallest safe plan where that is not safe. Only validity uses it.
+  pub proposedChosen : (p : ℕ) → actC r ≡ some (cast 0 p) → Chosen (vaults r) (reportsOf r rule1) (r .view) (r .start) (some p)
+  proposedChosen p e =
+      let (free, g) = whenSome (mayPropose r) _ e in
+      let (q, is, same) = eachSome (chosen r) _ g in
+      let qp : q ≡ p = cc in
+      subst (Chosen (vaults r) (reportsOf r rule1) (r .view) (r .start)) (is ∙ ap some qp) (choiceIs (vaults r) (reportsOf r rule1) (r .view) (r .start))
 
   -- A plan that sender j's vote-k now has is held.
   pub nowHeld : (k j : ℕ) {p : ℕ} → planNow r k j ≡ some p → Held k p j

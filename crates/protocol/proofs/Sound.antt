@@ -30,7 +30,7 @@ use Rattle.protocol.specs.Pass.{Act, ask, enter, cast, decide, shift, ha
 use Rattle.protocol.specs.Calls.{settingRows, start}
 use Rattle.protocol.specs.Sound.{InRow, Sound, Fits, Ranged}
 use Rattle.protocol.proofs.Tables.{keepWas, eachSome, whenSome}
-use Rattle.protocol.proofs.May.{Held, Reached, Wished, May}
+use Rattle.protocol.proofs.May.{Held, Reached, Wished, May, proposedChosen}
 use Rattle.protocol.proofs.Good.{voteByPlan, isCast, voteKept, voteCast, previousKept, previousCast, previousBelow}
 use Rattle.protocol.proofs.Tops.{claimBelow, lockBelow}
 use Rattle.protocol.proofs.Went.{noneGiven, thirdOf}
@@ -139,7 +139,7 @@ module _ {r : Record} (w : Whole r) where
       rw is at (namedWidth q x (reportWidth rule1 j x at) h)
 
   planWidth : (k p : ℕ) → Reached r k p → p < 2 ^ 64
-  planWidth zero p (lead, chosen) = chosenWidth p chosen refl
+  planWidth zero p (lead, e) = chosenWidth p (proposedChosen r p e) refl
   planWidth (suc zero) p (safe, held) = heldWidth 0 p (leader r (r .view)) held
   planWidth (suc (suc k)) p q = let (j, held) = someHeld (suc k) p q in heldWidth (suc k) p j held
 

@@ -25,7 +25,7 @@ use Rattle.protocol.proofs.Past.{Past, Voted, Later, laterTrans, Fine}
 use Rattle.protocol.proofs.Past as Past′
 use Rattle.protocol.proofs.Tops.{topsNone}
 use Rattle.protocol.proofs.May.{May, Sure, done, and, sureC, sureA}
-use Rattle.protocol.proofs.Good.{onto, Good, doesSet, actLater, actGood, heardGood}
+use Rattle.protocol.proofs.Good.{onto, Good, Seed, doesSet, actLater, actGood, heardGood}
 
 -- ---- tables of refusals
 
@@ -99,7 +99,8 @@ module _ (c : Setting) (Began : ℕ → Type 0) where
     later = subst (Later h) (ontoTwice h i o u) (laterTrans on (w .later));
   }
 
-  passWent : {steps : List Step} → Sure steps → (h : Past) (r : Record) → Good c Began h r → Went h (r .set .id) (pass steps r)
+module _ (c : Setting) (Began : ℕ → Type 0) (seed : Seed c Began) where
+  passWent : {steps : List Step} → Sure steps → (h : Past) (r : Record) → Good c Began h r → Went c Began h (r .set .id) (pass steps r)
   unfolding pass
   passWent done h r g = record {
     id = refl;
@@ -107,20 +108,20 @@ module _ (c : Setting) (Began : ℕ → Type 0) where
     later = laterSame (ontoNone h (r .set .id) r (g .now));
   }
   passWent (and {s = s} {l = rest} law sure) h r g =
-      subst (λ (o : Out). Went h (r .set .id) (onward (o .wrote) (pass rest (o .left)))) (sym (law .does r)) (go (law .act r) refl (passWent sure))
+      subst (λ (o : Out). Went c Began h (r .set .id) (onward (o .wrote) (pass rest (o .left)))) (sym (law .does r)) (go (law .act r) refl (passWent sure))
     where
-      go : (b : Option Act) → law .act r ≡ b → ((h : Past) (r : Record) → Good c Began h r → Went h (r .set .id) (pass rest r))
-          → Went h (r .set .id) (onward ((taken r b) .wrote) (pass rest ((taken r b) .left)))
+      go : (b : Option Act) → law .act r ≡ b → ((h : Past) (r : Record) → Good c Began h r → Went c Began h (r .set .id) (pass rest r))
+          → Went c Began h (r .set .id) (onward ((taken r b) .wrote) (pass rest ((taken r b) .left)))
       go none e then = then h r g
-      go (some a) e then = further (taken r (some a)) (pass rest (does r a)) (actLater c Began g a (law .may r a e))
-          (subst (λ (i : ℕ). Went (onto h (r .set .id) (taken r (some a))) i (pass rest (does r a))) (ap (λ (s : Settings). s .id) (doesSet r a))
-          (then (onto h (r .set .id) (taken r (some a))) (does r a) (actGood c Began g a (law .may r a e))))
+      go (some a) e then = further c Began (taken r (some a)) (pass rest (does r a)) (actLater c Began g a (law .may r a e))
+          (subst (λ (i : ℕ). Went c Began (onto h (r .set .id) (taken r (some a))) i (pass rest (does r a))) (ap (λ (s : Settings). s .id) (doesSet r a))
+          (then (onto h (r .set .id) (taken r (some a))) (does r a) (actGood c Began g a (law .may r a e) seed)))
 
   -- ---- the calls
 
-  pub startWent : (h : Past) (s : Settings) (p : ℕ) → s .n ≡ c .n → s .f ≡ c .f → Began p → h .wrote (s .id) ≡ [] → h .at (s .id) ≡ 0 → Went h (s .id) (started s p)
+  pub startWent : (h : Past) (s : Settings) (p : ℕ) → s .n ≡ c .n → s .f ≡ c .f → Began p → h .wrote (s .id) ≡ [] → h .at (s .id) ≡ 0 → Went c Began h (s .id) (started s p)
   unfolding started
-  startWent h s p en ef began blank zero-view = further first-out (pass fromC (fresh s p)) later (passWent sureC h₁ (fresh s p) good)
+  startWent h s p en ef began blank zero-view = further c Began first-out (pass fromC (fresh s p)) later (passWent sureC h₁ (fresh s p) good)
     where
       first-out : Out
       first-out = record { left = fresh s p; wrote = timerEntry (fresh s p) 0 ∷ [] }
@@ -168,12 +169,12 @@ module _ (c : Setting) (Began : ℕ → Type 0) where
           settled j k u q (inr other) at = rw other at at
 
   pub heardWent : (h : Past) (r : Record) (x : Frame) → x .sender ≢ r .set .id → (c .keeps (x .sender) ≡ true → Fine h (x .sender) x) → Good c Began h r
-      → Went h (r .set .id) (heard r x)
+      → Went c Began h (r .set .id) (heard r x)
   unfolding heard keep
   heardWent h r x other fine g = passWent sureA h (keep x r) (heardGood c Began x other fine g)
 
-  pub rungWent : (h : Past) (r : Record) → r .view ≢ 4294967295 → Good c Began h r → Went h (r .set .id) (rung r)
+  pub rungWent : (h : Past) (r : Record) → r .view ≢ 4294967295 → Good c Began h r → Went c Began h (r .set .id) (rung r)
   unfolding rung does
   rungWent h r room g =
-      further (taken r (some (ask (wanted r)))) (pass fromA (does r (ask (wanted r)))) (actLater c Began g (ask (wanted r)) (wantedMay r room))
-      (passWent sureA (onto h (r .set .id) (taken r (some (ask (wanted r))))) (does r (ask (wanted r))) (actGood c Began g (ask (wanted r)) (wantedMay r room)))
+      further c Began (taken r (some (ask (wanted r)))) (pass fromA (does r (ask (wanted r)))) (actLater c Began g (ask (wanted r)) (wantedMay r room))
+      (passWent sureA (onto h (r .set .id) (taken r (some (ask (wanted r))))) (does r (ask (wanted r))) (actGood c Began g (ask (wanted r)) (wantedMay r room) seed))

@@ -1,7 +1,7 @@
 -- Laws of counting ("a quorum of vote-1 for this view and one plan", 01, One pass): a loop that adds the share of each number
 -- below n, 1 where the test holds and 0 where not, has the count of those below n.
 -- Assumes nothing.
-use Prim.Native.Nat.{ℕ, suc, _+_, _≤_}
+use Prim.Native.Nat.{ℕ, _+_, _≤_}
 use mathlib.Core.Path.{_≡_, refl}
 use mathlib.Core.Bool.{Bool, true, false, cond}
 use native.Mathlib.Numerals.{add-one}

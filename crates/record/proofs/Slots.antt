@@ -2,13 +2,13 @@
 -- (`Sized`), and keeps it.
 -- Assumes nothing.
 use Prim.Native.Nat.{ℕ, _<_}
-use mathlib.Core.Path.{_≡_, refl, _∙_}
+use mathlib.Core.Path.{_≡_, _∙_}
 use mathlib.Core.Logic.{_≢_}
-use lib.ListN.{length, getD, set, replicate, length-set, length-replicate}
+use lib.ListN.{length, length-set}
 use lib.Seq.{getD-set-same, getD-set-other}
 use Rattle.frame.specs.declared.Report.{Report}
 use Rattle.record.specs.declared.Record.{Record}
-use Rattle.record.specs.Slots.{slotOf, withSlot, withView, Sized}
+use Rattle.record.specs.Slots.{slotOf, withSlot, Sized}
 
 module _ (r : Record) (at : ℕ) (slot : Report) where
   pub slot-same : Sized r → at < 899 → slotOf (withSlot r at slot) at ≡ slot

@@ -23,9 +23,6 @@ pub struct Record {
     pub plans: [u64; 899],
 }
 
-// How many slots a record has.
-pub const SLOTS: usize = 899;
-
 // The slot of the decision.
 pub const DECISION: usize = 898;
 

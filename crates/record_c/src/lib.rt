@@ -25,7 +25,7 @@ pub extern "C" fn record_class(bytes: &[u8]) -> u32
 pub extern "C" fn record_again(bytes: &mut [u8]) -> u32
     ensures { λ r. ⌜ (r ≡ cond (eqb (length (now (bytes .entry))) 11703) 1 0) × (now (bytes .exit) ≡ now (bytes .entry)) ⌝ }
 {
-    if bytes.len() != 11703 {
+    if bytes.len() != layout::SIZE {
         return 0;
     }
     let r = layout::decode(bytes);

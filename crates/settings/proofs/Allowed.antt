@@ -1,7 +1,7 @@
 -- Settings that are not refused are those of "Words and ranges" (01): a table that gives nothing has no row that is given, and each
 -- row's test is false just where its number is in range.
 -- Assumes nothing.
-use Prim.Native.Nat.{ℕ, _*_, _≤_, _<_}
+use Prim.Native.Nat.{ℕ, _*_, _≤_}
 use mathlib.Core.Path.{_≡_}
 use mathlib.Core.Bool.{_||_}
 use mathlib.Core.List.{[], _∷_}

@@ -4,19 +4,18 @@
 use Prim.Native.Nat.{ℕ, zero, suc, _+_, _<_, _≤_}
 use mathlib.Core.Path.{_≡_, refl, ap, sym, subst, _∙_}
 use mathlib.Core.Logic.{⊎-elim}
-use mathlib.Core.Bool.{Bool, true, false, not, _&&_, _||_, cond}
+use mathlib.Core.Bool.{Bool, true, false, not, _&&_, cond}
 use mathlib.Core.List.{List, _++_}
 use native.Mathlib.Nat.{le-of-suc-le-suc, not-suc-le-zero, eq-or-lt-of-le}
 use native.Mathlib.Numerals.{add-one}
-use native.Mathlib.Omega.{arith}
 use borrow.Author.Tests.{eq-eqb, ne-eqb, lt-ltb, le-ltb, not-true, not-false}
-use lib.Dec.{ltb, eqb}
+use lib.Dec.{eqb}
 use lib.ListN.{length}
 use Rattle.frame.specs.declared.Report.{Report}
 use Rattle.frame.specs.declared.Frame.{Frame}
-use Rattle.frame.specs.Refusal.{first, present, absent, badForm, badPrevious, contentRows, leaderRows}
+use Rattle.frame.specs.Refusal.{first, absent, badForm, badPrevious, contentRows, leaderRows}
 use Rattle.settings.specs.Settings.{settingRows}
-use Rattle.record.specs.Slots.{frameSlot, reportSlot, previousSlot, decisionSlot}
+use Rattle.record.specs.Slots.{frameSlot, reportSlot, decisionSlot}
 use Rattle.layout.specs.Layout.{decodeRecord}
 use Rattle.kept.specs.Kept.{frameIn}
 use Rattle.sound.specs.Sound.{all, reportsAbsent, emptyAt, noPlan, ahead, frameSound, placeSound, stands, previousSound, votesSound, rowsSound, soundIn, sound, lentIs}
@@ -56,7 +55,8 @@ module _ (slots : ℕ → Report) (kind sender : ℕ) where
   unfolding reportsAbsent
   reports-highest a = rw a
 
-  pub reports-previous : absent (slots (reportSlot kind 0 sender)) ≡ true → absent (slots (reportSlot kind 1 sender)) ≡ false → reportsAbsent slots kind sender ≡ false
+  pub reports-previous : absent (slots (reportSlot kind 0 sender)) ≡ true → absent (slots (reportSlot kind 1 sender)) ≡ false
+      → reportsAbsent slots kind sender ≡ false
   unfolding reportsAbsent
   reports-previous a b = rw (a, b)
 
@@ -95,7 +95,8 @@ module _ (slots : ℕ → Report) (n id view kind sender : ℕ) where
   unfolding placeSound
   place-empty h = rw (ne-eqb (slots (frameSlot kind sender) .mark) 1 h)
 
-  pub place-plan : slots (frameSlot kind sender) .mark ≡ 1 → noPlan kind (slots (frameSlot kind sender) .plan) ≡ false → placeSound slots n id view kind sender ≡ false
+  pub place-plan : slots (frameSlot kind sender) .mark ≡ 1 → noPlan kind (slots (frameSlot kind sender) .plan) ≡ false
+      → placeSound slots n id view kind sender ≡ false
   unfolding placeSound
   place-plan h a = rw (eq-eqb (slots (frameSlot kind sender) .mark) 1 h, a)
 

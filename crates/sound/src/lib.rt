@@ -217,7 +217,7 @@ fn votes_sound<'a>(marks: &'a [u8], views: &'a [u32], plans: &'a [u64], id: u8) 
     if !previous_sound(marks, views, plans, id, 3) {
         return false;
     }
-    well_formed(record::slot_in(marks, views, plans, 898))
+    well_formed(record::slot_in(marks, views, plans, record::DECISION))
 }
 
 // Whether a record with these settings, this view and these slots is sound. The arrays are lent: a record by value would be copied.
@@ -247,7 +247,7 @@ pub fn sound_in<'a>(
 pub fn classify(bytes: &[u8]) -> Lent
     ensures { λ r. ⌜ r ≡ lentIs (now (bytes .entry)) ⌝ }
 {
-    if bytes.len() != 11703 {
+    if bytes.len() != layout::SIZE {
         return Lent::Unsound;
     }
     if bytes[0] == 0 {

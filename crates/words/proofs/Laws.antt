@@ -3,7 +3,7 @@
 -- read is spelt as it stood (`spelled-numbers`): by induction on the count, the next number spells the next w bytes.
 -- Assumes nothing.
 use Prim.Native.Nat.{ℕ, zero, suc, _+_, _*_, _^_, _<_, _≤_}
-use mathlib.Core.Path.{_≡_, refl, ap, sym, subst, _∙_}
+use mathlib.Core.Path.{_≡_, refl, ap, sym, _∙_}
 use mathlib.Core.Logic.{⊎-elim}
 use mathlib.Core.List.{List, [], _∷_, _++_, append-nil}
 use native.Mathlib.Nat.{mul-suc, mul-zero, le-of-suc-le-suc, not-suc-le-zero, eq-or-lt-of-le}
@@ -15,7 +15,7 @@ use lib.Dec.{ltb}
 use borrow.Author.Tests.{ltb-true, ltb-false}
 use lib.Seq.{getD-at, ext-getD, split-at, take-all, take-add, length-take-le}
 use Rattle.wire.specs.Digits.{numberAt, digits}
-use Rattle.wire.specs.Fields.{spell, Bytes}
+use Rattle.wire.specs.Fields.{Bytes}
 use Rattle.wire.proofs.Laws.{number-digits, digits-number, number-below, length-digits, spell-append}
 use Rattle.words.specs.Words.{numbers, spelled, alike, Below}
 
@@ -84,7 +84,8 @@ numbers-spelled w xs b =
         let p : List ℕ = spelled w (take i xs) in
         let t : List ℕ = spelled w (drop (suc i) xs) in
         let whole : spelled w xs ≡ p ++ (digits w (getD xs i 0) ++ t) =
-        ap (spelled w) (split-at xs i 0 k) ∙ spelled-append w (take i xs) (getD xs i 0 ∷ drop (suc i) xs) ∙ ap (λ (l : List ℕ). p ++ l) (cons-spelled (getD xs i 0) (drop (suc i) xs)) in
+        ap (spelled w) (split-at xs i 0 k) ∙ spelled-append w (take i xs) (getD xs i 0 ∷ drop (suc i) xs)
+        ∙ ap (λ (l : List ℕ). p ++ l) (cons-spelled (getD xs i 0) (drop (suc i) xs)) in
         let before : length p ≡ w * i = length-spelled w (take i xs) ∙ ap (λ (n : ℕ). w * n) (length-take-le i xs (omega arith)) in
         rw (whole, ← before) (number-digits w (getD xs i 0) p t (b i))
       where

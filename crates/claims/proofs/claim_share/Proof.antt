@@ -1,14 +1,13 @@
+-- `claims::claim_share` meets its contract.
+-- What a reporter adds to the claimers at view w is 1 exactly if w is one of the views of its span.
+-- Assumes nothing.
 use borrow.Author.Tests.{lt-ltb, le-ltb}
 use Rattle.claims.proofs.claim_share.Statement.{statement}
 use Rattle.claims.proofs.claim_share.Tie as tie
-use Rattle.claims.proofs.claim_share.Reads as reads
-use Rattle.claims.proofs.claim_share.Lts as lts
 
--- src/lib.rt:103:1
 returns : tie.Need-returns
 returns c = simp (lt-ltb _ _ (c .if1 .taken))
 
--- src/lib.rt:103:1
 returns-2 : tie.Need-returns-2
 returns-2 c = simp (le-ltb _ _ (c .if1 .left))
 

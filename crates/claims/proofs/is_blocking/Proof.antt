@@ -1,10 +1,10 @@
+-- `claims::is_blocking` meets its contract.
+-- f < count is f + 1 ≤ count.
+-- Assumes nothing.
 use native.Mathlib.Numerals.{add-one}
 use Rattle.claims.proofs.is_blocking.Statement.{statement}
 use Rattle.claims.proofs.is_blocking.Tie as tie
-use Rattle.claims.proofs.is_blocking.Reads as reads
-use Rattle.claims.proofs.is_blocking.Lts as lts
 
--- src/lib.rt:14:1
 returns : tie.Need-returns
 returns c = rw add-one
 

@@ -1,19 +1,19 @@
-use borrow.Author.Needs.{needs}
+-- `claims::serving_view` meets its contract.
+-- The search over candidate views. Outer invariant: too few claim at the last view tried. Inner invariant: the count is that of the
+-- claimers among the first r, and is at most f. A candidate that f + 1 claim is the highest view with enough (`searchFound`);
+-- without a candidate left no view has enough (`searchNone`).
+-- Assumes nothing.
 use Prim.Native.Nat.{_+_, _-_, _≤_}
 use mathlib.Core.Path.{_≡_, sym, _∙_, ap}
 use native.Mathlib.Omega.{arith}
+use borrow.Author.Needs.{needs}
 use borrow.Author.Tests.{leb-true, leb-false}
-use Rattle.quorum.specs.Sets.{weigh}
-use Rattle.quorum.proofs.Laws.{weighNone, weighStep, weighPrefix, shareMost}
-use Rattle.claims.specs.Spans.{claimers}
 use Rattle.claims.proofs.Laws.{claiming, highestLow, nobodyAt, searchFound, searchNone}
+use Rattle.claims.specs.Spans.{claimers}
+use Rattle.quorum.proofs.Laws.{weighNone, weighStep, weighPrefix, shareMost}
+use Rattle.quorum.specs.Sets.{weigh}
 use Rattle.claims.proofs.serving_view.Statement.{statement}
 use Rattle.claims.proofs.serving_view.Tie as tie
-use Rattle.claims.proofs.serving_view.Reads as reads
-use Rattle.claims.proofs.serving_view.Lts as lts
-use Rattle.claims.proofs.claim_share.Reads as claim-share-reads
-use Rattle.claims.proofs.highest_to.Reads as highest-to-reads
-use Rattle.claims.proofs.is_blocking.Reads as is-blocking-reads
 
 abbrev Inv-reporters : tie.InvT-reporters
 Inv-reporters spans n f v last t w claim₀ r₀ claim r = (r ≤ n) × (claim ≤ r) × (claim ≤ f) × (claim ≡ weigh (λ i. 1) (claimers spans w) r)
@@ -27,36 +27,28 @@ Inv-views spans n f v last₀ last = (last ≤ v) × (claiming spans n f last �
 abbrev μ-views : tie.MeasureT-views
 μ-views spans n f v last₀ last = last
 
--- src/lib.rt:116:9
 views-holds : tie.Need-views-holds Inv-reporters μ-reporters Inv-views μ-views
 views-holds c = let a = c .before .args in (omega arith, nobodyAt (a .spans .now) (a .n) (a .f) (a .v) (c .before .pre .2))
 
--- src/lib.rt:117:13
 highest-to-requires : tie.Need-highest-to-requires Inv-reporters μ-reporters Inv-views μ-views
 highest-to-requires c κs = search needs
 
--- src/lib.rt:121:17
 sub-w : tie.Need-sub-w Inv-reporters μ-reporters Inv-views μ-views
 sub-w c = search needs
 
--- src/lib.rt:124:9
 reporters-holds : tie.Need-reporters-holds Inv-reporters μ-reporters Inv-views μ-views
 reporters-holds c = (omega arith, omega arith, omega arith, sym (weighNone _ _))
 
--- src/lib.rt:128:34
 mul-claim-share : tie.Need-mul-claim-share Inv-reporters μ-reporters Inv-views μ-views
 mul-claim-share c = search needs
 
--- src/lib.rt:128:34
 shared-slice-read-claim-share :
     tie.Need-shared-slice-read-claim-share Inv-reporters μ-reporters Inv-views μ-views
 shared-slice-read-claim-share c = search needs
 
--- src/lib.rt:128:22
 claim-share-requires : tie.Need-claim-share-requires Inv-reporters μ-reporters Inv-views μ-views
 claim-share-requires c κs = search needs
 
--- src/lib.rt:128:13
 add-claim : tie.Need-add-claim Inv-reporters μ-reporters Inv-views μ-views
 add-claim c =
     let a = c .before .before .before .before .before .before .before .before .args in
@@ -64,19 +56,15 @@ add-claim c =
     let at = c .before .before .before .reporters in
     omega (arith, shareMost (claimers (a .spans .now) (t .result - 1) (at .r)) 1 (c .claim-share .result) (c .claim-share .ensures))
 
--- src/lib.rt:129:13
 add-r : tie.Need-add-r Inv-reporters μ-reporters Inv-views μ-views
 add-r c = search needs
 
--- src/lib.rt:130:16
 is-blocking-requires : tie.Need-is-blocking-requires Inv-reporters μ-reporters Inv-views μ-views
 is-blocking-requires c κs = search needs
 
--- src/lib.rt:124:9
 reporters-less : tie.Need-reporters-less Inv-reporters μ-reporters Inv-views μ-views
 reporters-less c = search needs
 
--- src/lib.rt:124:9
 reporters-again : tie.Need-reporters-again Inv-reporters μ-reporters Inv-views μ-views
 reporters-again c =
     let a = c .before .before .before .before .before .before .before .before .before .before .args in
@@ -91,7 +79,6 @@ reporters-again c =
       weighStep (λ i. 1) (claimers (a .spans .now) (t .result - 1)) (at .r) (at .claim) (share .result) (at .inv .3) (share .ensures),
     )
 
--- src/lib.rt:116:9
 views-less : tie.Need-views-less Inv-reporters μ-reporters Inv-views μ-views
 views-less c =
     let a = c .before .before .before .before .before .before .args in
@@ -99,7 +86,6 @@ views-less c =
     let last = c .before .before .before .before .views .last in
     omega (arith, t .ensures, highestLow (a .spans .now) (a .n) (a .f) last (a .n))
 
--- src/lib.rt:116:9
 views-again : tie.Need-views-again Inv-reporters μ-reporters Inv-views μ-views
 views-again c =
     let a = c .before .before .before .before .before .before .args in
@@ -111,7 +97,6 @@ views-again c =
       omega (arith, ap (weigh (λ i. 1) (claimers (a .spans .now) (t .result - 1))) e),
     )
 
--- src/lib.rt:111:1
 returns : tie.Need-returns Inv-reporters μ-reporters Inv-views μ-views
 returns c =
     let a = c .before .before .before .before .args in
@@ -119,7 +104,6 @@ returns c =
     let t = c .before .highest-to in
     searchNone (a .spans .now) (a .n) (a .f) (a .v) (last .last) (t .result) (last .inv .0) (last .inv .1) (t .ensures) (c .if1 .taken)
 
--- src/lib.rt:111:1
 returns-2 : tie.Need-returns-2 Inv-reporters μ-reporters Inv-views μ-views
 returns-2 c =
     let a = c .before .before .before .before .before .before .before .before .before .before .args in

@@ -1,16 +1,16 @@
-use borrow.Author.Needs.{needs}
+-- `claims::spans_of` meets its contract.
+-- The first r places hold the spans of the first r reports, and `spansMore` writes one more.
+-- Assumes nothing.
 use Prim.Native.Nat.{_-_, _≤_, _<_}
 use mathlib.Core.Path.{_≡_}
 use native.Mathlib.Omega.{arith}
 use lib.ListN.{length, length-set}
+use borrow.Author.Needs.{needs}
+use Rattle.claims.proofs.Laws.{spansMore}
 use Rattle.claims.specs.Layout.{reportsIn}
 use Rattle.claims.specs.Spans.{AreSpans}
-use Rattle.claims.proofs.Laws.{spansMore}
 use Rattle.claims.proofs.spans_of.Statement.{statement}
 use Rattle.claims.proofs.spans_of.Tie as tie
-use Rattle.claims.proofs.spans_of.Reads as reads
-use Rattle.claims.proofs.spans_of.Lts as lts
-use Rattle.claims.proofs.span_of.Reads as span-of-reads
 
 abbrev Inv-loop : tie.InvT-loop
 Inv-loop kept at marks views plans n v p spans₀ r₀ spans r = (r ≤ n) × (length spans ≡ 64) × AreSpans spans r v p (reportsIn kept at marks views plans v)
@@ -18,31 +18,24 @@ Inv-loop kept at marks views plans n v p spans₀ r₀ spans r = (r ≤ n) × (l
 abbrev μ-loop : tie.MeasureT-loop
 μ-loop kept at marks views plans n v p spans₀ r₀ spans r = n - r
 
--- src/lib.rt:146:5
 loop-holds : tie.Need-loop-holds Inv-loop μ-loop
 loop-holds c = (omega arith, search needs, λ i low. absurd (omega arith))
 
--- src/lib.rt:147:20
 span-of-requires : tie.Need-span-of-requires Inv-loop μ-loop
 span-of-requires c κs = search needs
 
--- src/lib.rt:147:9
 mul-spans : tie.Need-mul-spans Inv-loop μ-loop
 mul-spans c = search needs
 
--- src/lib.rt:147:9
 array-write-spans : tie.Need-array-write-spans Inv-loop μ-loop
 array-write-spans c = search needs
 
--- src/lib.rt:148:9
 add-r : tie.Need-add-r Inv-loop μ-loop
 add-r c = search needs
 
--- src/lib.rt:146:5
 loop-less : tie.Need-loop-less Inv-loop μ-loop
 loop-less c = search needs
 
--- src/lib.rt:146:5
 loop-again : tie.Need-loop-again Inv-loop μ-loop
 loop-again c =
     let a = c .before .before .before .before .before .before .before .before .args in
@@ -53,7 +46,6 @@ loop-again c =
       spansMore (at .spans) (at .r) (a .v) (a .p) (c .span-of .result) (reportsIn (a .kept .now) (a .at .now) (a .marks .now) (a .views .now) (a .plans .now) (a .v)) low (c .span-of .ensures) (at .inv .2),
     )
 
--- src/lib.rt:140:1
 returns : tie.Need-returns Inv-loop μ-loop
 returns c = λ i low. c .before .loop .inv .2 i (omega arith)
 

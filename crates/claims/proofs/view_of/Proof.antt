@@ -1,16 +1,15 @@
+-- `claims::view_of` meets its contract.
+-- A vote counts with its view where it is there.
+-- Assumes nothing.
 use borrow.Author.Tests.{eq-eqb, ne-eqb}
 use Rattle.claims.specs.Layout.{voteOf}
 use Rattle.claims.proofs.view_of.Statement.{statement}
 use Rattle.claims.proofs.view_of.Tie as tie
-use Rattle.claims.proofs.view_of.Reads as reads
-use Rattle.claims.proofs.view_of.Lts as lts
 
--- src/lib.rt:31:9
 returns : tie.Need-returns
 unfolding voteOf
 returns c = simp (eq-eqb _ _ (c .if1 .taken))
 
--- src/lib.rt:27:1
 returns-2 : tie.Need-returns-2
 unfolding voteOf
 returns-2 c = simp (ne-eqb _ _ (c .if1 .left))

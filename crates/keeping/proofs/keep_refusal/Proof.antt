@@ -1,6 +1,6 @@
 -- `keeping::keep_refusal` meets its contract: the two flags decide the two rows.
 -- Assumes nothing.
-use mathlib.Core.Path.{_≡_, refl, ap, sym, _∙_}
+use mathlib.Core.Path.{ap, sym, _∙_}
 use Rattle.frame.specs.declared.Report.{Report}
 use Rattle.frame.proofs.Laws.{told}
 use Rattle.record.specs.Slots.{slotIn}
@@ -16,7 +16,8 @@ is-stale-requires c κs = search needs
 returns : tie.Need-returns
 returns c =
     let a = c .before .before .before .before .before .args in
-    sym (refused-stale (slotIn (a .marks .now) (a .views .now) (a .plans .now)) (a .current) (a .sender) (a .kind) (a .view) (told (c .before .is-stale .ensures) (c .if1 .taken)))
+    sym (refused-stale (slotIn (a .marks .now) (a .views .now) (a .plans .now)) (a .current) (a .sender) (a .kind) (a .view)
+    (told (c .before .is-stale .ensures) (c .if1 .taken)))
 
 frame-slot-requires : tie.Need-frame-slot-requires
 frame-slot-requires c κs = search needs
@@ -30,12 +31,22 @@ is-outdone-requires c κs = search needs
 returns-2 : tie.Need-returns-2
 returns-2 c =
     let a = c .before .before .before .before .before .before .before .before .before .args in
-    sym (refused-outdone (slotIn (a .marks .now) (a .views .now) (a .plans .now)) (a .current) (a .sender) (a .kind) (a .view) (told (c .before .before .before .before .before .is-stale .ensures) (c .before .before .before .before .if1 .left)) (told (c .before .is-outdone .ensures ∙ ap (λ (x : Report). outdone x (a .view)) (c .before .before .slot-in .ensures ∙ ap (slotIn (a .marks .now) (a .views .now) (a .plans .now)) (c .before .before .before .frame-slot .ensures .0))) (c .if2 .taken)))
+    sym (refused-outdone (slotIn (a .marks .now) (a .views .now) (a .plans .now)) (a .current) (a .sender) (a .kind) (a .view)
+    (told (c .before .before .before .before .before .is-stale .ensures) (c .before .before .before .before .if1 .left))
+    (told (c .before .is-outdone .ensures
+    ∙ ap (λ (x : Report). outdone x (a .view))
+    (c .before .before .slot-in .ensures
+    ∙ ap (slotIn (a .marks .now) (a .views .now) (a .plans .now)) (c .before .before .before .frame-slot .ensures .0))) (c .if2 .taken)))
 
 returns-3 : tie.Need-returns-3
 returns-3 c =
     let a = c .before .before .before .before .before .before .before .before .before .args in
-    sym (taken (slotIn (a .marks .now) (a .views .now) (a .plans .now)) (a .current) (a .sender) (a .kind) (a .view) (told (c .before .before .before .before .before .is-stale .ensures) (c .before .before .before .before .if1 .left)) (told (c .before .is-outdone .ensures ∙ ap (λ (x : Report). outdone x (a .view)) (c .before .before .slot-in .ensures ∙ ap (slotIn (a .marks .now) (a .views .now) (a .plans .now)) (c .before .before .before .frame-slot .ensures .0))) (c .if2 .left)))
+    sym (taken (slotIn (a .marks .now) (a .views .now) (a .plans .now)) (a .current) (a .sender) (a .kind) (a .view)
+    (told (c .before .before .before .before .before .is-stale .ensures) (c .before .before .before .before .if1 .left))
+    (told (c .before .is-outdone .ensures
+    ∙ ap (λ (x : Report). outdone x (a .view))
+    (c .before .before .slot-in .ensures
+    ∙ ap (slotIn (a .marks .now) (a .views .now) (a .plans .now)) (c .before .before .before .frame-slot .ensures .0))) (c .if2 .left)))
 
 pub keep-refusal-spec : {M : Type 1} → statement M
 keep-refusal-spec =

@@ -1,6 +1,6 @@
 -- `keeping::own_broadcast` meets its contract: the previous vote, then the frame.
 -- Assumes nothing.
-use mathlib.Core.Path.{_≡_, refl, ap, sym, _∙_}
+use mathlib.Core.Path.{ap, _∙_}
 use Rattle.record.specs.declared.Record.{Record}
 use Rattle.kept.specs.Kept.{keepFrame}
 use Rattle.kept.proofs.Forms.{fits-kind}

@@ -1,10 +1,10 @@
 -- `kept::body_in` meets its contract, by the form of the kind.
 -- Assumes nothing.
-use Prim.Native.Nat.{ℕ, _+_, _*_, _-_, _≤_, _<_}
-use mathlib.Core.Path.{_≡_, refl, ap, sym, _∙_}
+use Prim.Native.Nat.{ℕ, _-_}
+use mathlib.Core.Path.{ap, sym, _∙_}
 use native.Mathlib.Omega.{arith}
 use lib.ListN.{getD}
-use Rattle.record.specs.Slots.{frameSlot, reportSlot, slotIn}
+use Rattle.record.specs.Slots.{slotIn}
 use Rattle.frame.specs.declared.Body.the-variants.{Plan, Told}
 use Rattle.kept.proofs.Forms.{body-plan, body-bare, body-reports}
 use borrow.Author.Needs.{needs}
@@ -23,7 +23,8 @@ shared-slice-read-t11 c = search needs
 returns : tie.Need-returns
 returns c =
     let a = c .before .before .before .before .before .before .args in
-    ap (λ (n : ℕ). Plan (getD (a .plans .now) n 0)) (c .before .frame-slot .ensures .0) ∙ sym (body-plan (slotIn (a .marks .now) (a .views .now) (a .plans .now)) (a .kind) (a .sender) (omega arith) (c .before .before .if1 .taken))
+    ap (λ (n : ℕ). Plan (getD (a .plans .now) n 0)) (c .before .frame-slot .ensures .0)
+    ∙ sym (body-plan (slotIn (a .marks .now) (a .views .now) (a .plans .now)) (a .kind) (a .sender) (omega arith) (c .before .before .if1 .taken))
 
 returns-2 : tie.Need-returns-2
 returns-2 c =

@@ -1,10 +1,8 @@
 -- `kept::frame_at` meets its contract: kind and sender are those of the place.
 -- Assumes nothing.
-use Prim.Native.Nat.{ℕ, _+_, _*_, _-_, _≤_, _<_}
-use mathlib.Core.Path.{_≡_, refl, ap, sym, _∙_}
-use native.Mathlib.Omega.{arith}
+use Prim.Native.Nat.{ℕ, _-_}
+use mathlib.Core.Path.{ap}
 use lib.ListN.{getD}
-use Rattle.record.specs.Slots.{frameSlot, reportSlot, slotIn}
 use Rattle.kept.specs.Kept.{frameIn}
 use borrow.Author.Needs.{needs}
 use Rattle.kept.proofs.frame_at.Statement.{statement}

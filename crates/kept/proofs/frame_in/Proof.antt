@@ -1,10 +1,9 @@
 -- `kept::frame_in` meets its contract: the mark says whether a frame is kept.
 -- Assumes nothing.
-use Prim.Native.Nat.{ℕ, _+_, _*_, _-_, _≤_, _<_}
-use mathlib.Core.Path.{_≡_, refl, ap, sym, _∙_}
-use native.Mathlib.Omega.{arith}
+use Prim.Native.Nat.{ℕ, _-_}
+use mathlib.Core.Path.{ap, sym, _∙_}
 use lib.ListN.{getD}
-use Rattle.record.specs.Slots.{frameSlot, reportSlot, slotIn}
+use Rattle.record.specs.Slots.{slotIn}
 use Rattle.kept.specs.declared.Kept.the-variants as kept
 use Rattle.kept.proofs.Forms.{kept-there, kept-nothing}
 use borrow.Author.Needs.{needs}
@@ -30,7 +29,8 @@ returns-2 : tie.Need-returns-2
 returns-2 c =
     let a = c .before .before .before .before .before .before .before .args in
     let at = ap (λ (n : ℕ). getD (a .marks .now) n 0) (c .before .before .before .frame-slot .ensures .0) in
-    ap kept.Kept (c .frame-at .ensures) ∙ sym (kept-there (slotIn (a .marks .now) (a .views .now) (a .plans .now)) (a .kind) (a .sender) (sym at ∙ c .before .if1 .left))
+    ap kept.Kept (c .frame-at .ensures)
+    ∙ sym (kept-there (slotIn (a .marks .now) (a .views .now) (a .plans .now)) (a .kind) (a .sender) (sym at ∙ c .before .if1 .left))
 
 pub frame-in-spec : {M : Type 1} → statement M
 frame-in-spec =

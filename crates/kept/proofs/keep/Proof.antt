@@ -1,10 +1,6 @@
 -- `kept::keep` meets its contract, by the form of the body.
 -- Assumes nothing.
-use Prim.Native.Nat.{ℕ, _+_, _*_, _-_, _≤_, _<_}
-use mathlib.Core.Path.{_≡_, refl, ap, sym, _∙_}
-use native.Mathlib.Omega.{arith}
-use Rattle.record.specs.Slots.{frameSlot, reportSlot, slotIn}
-use Rattle.frame.specs.declared.Body.the-variants.{Plan, Empty, Told}
+use Prim.Native.Nat.{_-_}
 use Rattle.kept.proofs.Forms.{fits-kind, told-kind, keep-plan, keep-bare, keep-told}
 use borrow.Author.Needs.{needs}
 use Rattle.kept.proofs.keep.Statement.{statement}

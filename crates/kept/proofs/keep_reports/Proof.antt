@@ -1,7 +1,7 @@
 -- `kept::keep_reports` meets its contract: the three reports stand 64 slots apart.
 -- Assumes nothing.
-use Prim.Native.Nat.{ℕ, _+_, _*_, _-_, _≤_, _<_}
-use mathlib.Core.Path.{_≡_, refl, ap, sym, _∙_}
+use Prim.Native.Nat.{_+_, _-_}
+use mathlib.Core.Path.{_≡_, ap, _∙_}
 use native.Mathlib.Omega.{arith}
 use Rattle.record.specs.Slots.{reportSlot, withSlot}
 use Rattle.record.specs.declared.Record.{Record}

@@ -1,9 +1,9 @@
 -- `kept::reports_in` meets its contract: the three reports stand 64 slots apart.
 -- Assumes nothing.
-use Prim.Native.Nat.{ℕ, _+_, _*_, _-_, _≤_, _<_}
-use mathlib.Core.Path.{_≡_, refl, ap, sym, _∙_}
+use Prim.Native.Nat.{_+_, _-_}
+use mathlib.Core.Path.{_≡_, ap, _∙_}
 use native.Mathlib.Omega.{arith}
-use Rattle.record.specs.Slots.{frameSlot, reportSlot, slotIn}
+use Rattle.record.specs.Slots.{reportSlot, slotIn}
 use borrow.Author.Needs.{needs}
 use Rattle.kept.proofs.reports_in.Statement.{statement}
 use Rattle.kept.proofs.reports_in.Tie as tie

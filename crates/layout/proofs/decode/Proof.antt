@@ -1,7 +1,7 @@
 -- `layout::decode` meets its contract: each part is read from its place.
 -- Assumes nothing.
 use Prim.Native.Nat.{_+_, _≤_}
-use mathlib.Core.Path.{_≡_, sym, _∙_}
+use mathlib.Core.Path.{sym, _∙_}
 use native.Mathlib.Omega.{arith}
 use lib.ListN.{length, getD, take, drop, replicate}
 use Rattle.layout.specs.Layout.{decodeRecord}
@@ -76,20 +76,24 @@ shared-slice-read-t32 c = search needs
 returns : tie.Need-returns
 unfolding decodeRecord
 returns c =
-    let s = c .before .before .before .before .before .before .before .before .before .before .before .before .before .before .before .before .before .before .before in
+    let plan = c .before .before .before .before in
+    let plans = plan .before .before .before in
+    let views = plans .before .before .before .before in
+    let marks = views .before .before .before .before in
+    let s = marks .before .before .before .before in
     let b = s .args .bytes .now in
     let l : 16 + 899 ≤ length b = omega arith in
-    let marks = c .before .before .before .before .before .before .before .before .before .before .before .before .before .before .before .copy .ensures .1 ∙ copy-all (take 899 (drop 16 b)) (replicate 899 0) (sym (length-part 16 899 b l)) in
+    let copied = marks .copy .ensures .1 ∙ copy-all (take 899 (drop 16 b)) (replicate 899 0) (sym (length-part 16 899 b l)) in
     λ i. record {
       n = getD b 0 0;
       f = getD b 1 0;
       id = getD b 2 0;
       class = getD b 3 0;
-      view = c .before .before .before .before .before .number32 .ensures i;
-      plan = c .before .before .before .before .number .ensures i;
-      marks = marks i;
-      views = c .before .before .before .before .before .before .before .before .before .before .before .fill32 .ensures i;
-      plans = c .before .before .before .before .before .before .before .fill64 .ensures i;
+      view = plan .before .number32 .ensures i;
+      plan = plan .number .ensures i;
+      marks = copied i;
+      views = views .fill32 .ensures i;
+      plans = plans .fill64 .ensures i;
     }
 
 pub decode-spec : {M : Type 1} → statement M

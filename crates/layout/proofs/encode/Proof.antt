@@ -23,10 +23,14 @@ same-length c = search needs
 
 returns : tie.Need-returns
 returns c =
-    let s = c .before .before .before .before .before .before .before .before .before .before .before .before .before .before .before .before .before .before .before .before .before .before .before .before .before .before in
+    let plans = c .before .before in
+    let views = plans .before .before .before .before .before .before .before in
+    let marks = views .before .before .before .before .before .before .before in
+    let head = marks .before .before .before .before .before .before .before in
+    let s = head .before .before .before in
     let a = s .args .t1 in
     let z : Sized a = record { marks = search needs; views = search needs; plans = search needs } in
-    encoded a (s .args .out .now) (s .pre) z (c .before .before .before .before .before .before .before .before .before .before .before .before .before .before .before .before .before .before .before .before .before .before .before .put-head .ensures) (c .before .before .before .before .before .before .before .before .before .before .before .before .before .before .before .before .put-marks .ensures) (c .before .before .before .before .before .before .before .before .before .put-views .ensures) (c .before .before .put-plans .ensures)
+    encoded a (s .args .out .now) (s .pre) z (head .put-head .ensures) (marks .put-marks .ensures) (views .put-views .ensures) (plans .put-plans .ensures)
 
 pub encode-spec : {M : Type 1} → statement M
 encode-spec =

@@ -41,7 +41,9 @@ returns : tie.Need-returns
 returns c =
     let a = c .before .before .before .before .before .before .before .before .before .before .args in
     head-put (a .out .now) (a .n) (a .f) (a .id) (a .class) (a .view) (a .plan) (omega arith)
-    (c .before .before .before .before .before .before .put .ensures ∙ ap (λ (x : ℕ). placed (sets (a .out .now) 0 (a .n ∷ a .f ∷ a .id ∷ a .class ∷ [])) 4 (digits 4 x)) (c .before .before .before .before .before .before .before .wide .ensures))
+    (c .before .before .before .before .before .before .put .ensures
+    ∙ ap (λ (x : ℕ). placed (sets (a .out .now) 0 (a .n ∷ a .f ∷ a .id ∷ a .class ∷ [])) 4 (digits 4 x))
+    (c .before .before .before .before .before .before .before .wide .ensures))
     (c .before .before .put2 .ensures)
 
 pub put-head-spec : {M : Type 1} → statement M

@@ -26,7 +26,8 @@ same-length c = search needs
 returns : tie.Need-returns
 returns c =
     let a = c .before .before .before .before .before .before .args in
-    let fits : length (take 899 (drop 16 (a .out .now))) ≡ length (a .marks .now) = length-part 16 899 (a .out .now) (omega arith) ∙ sym (c .before .before .before .before .before .before .pre .1) in
+    let fits : length (take 899 (drop 16 (a .out .now))) ≡ length (a .marks .now) = length-part 16 899 (a .out .now) (omega arith)
+    ∙ sym (c .before .before .before .before .before .before .pre .1) in
     rw (c .before .before .copy .ensures .1, copy-all (a .marks .now) (take 899 (drop 16 (a .out .now))) fits)
     (placed-part (a .out .now) 16 899 (a .marks .now) (c .before .before .before .before .before .before .pre .1))
 

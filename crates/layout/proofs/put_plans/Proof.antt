@@ -1,8 +1,5 @@
 -- `layout::put_plans` meets its contract: the part that was lent holds the plans spelt.
 -- Assumes nothing.
-use mathlib.Core.Path.{_≡_, refl, ap, sym, _∙_}
-use lib.ListN.{length}
-use Prim.Native.Nat.{_*_}
 use native.Mathlib.Omega.{arith}
 use Rattle.words.specs.Words.{spelled}
 use Rattle.words.proofs.Laws.{length-spelled}

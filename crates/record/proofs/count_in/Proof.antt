@@ -1,7 +1,7 @@
 -- `record::count_in` meets its contract. The invariant: k is the count of the slots passed that hold the view and the plan.
 -- Assumes nothing.
-use Prim.Native.Nat.{ℕ, _-_, _+_, _≤_, _<_}
-use mathlib.Core.Path.{_≡_, refl}
+use Prim.Native.Nat.{ℕ, _-_, _+_, _≤_}
+use mathlib.Core.Path.{_≡_}
 use mathlib.Core.Bool.{Bool, cond}
 use native.Mathlib.Omega.{arith}
 use borrow.Author.Needs.{needs}
@@ -32,7 +32,13 @@ share-requires c κs = search needs
 
 add-k : tie.Need-add-k Inv-loop μ-loop
 add-k c =
-    omega (arith, share-small (holds (c .before .before .before .before .before .before .before .args .view) (c .before .before .before .before .before .before .before .args .plan) (c .before .slot-in .result)), c .share .ensures)
+    omega (
+      arith,
+      share-small
+          (holds (c .before .before .before .before .before .before .before .args .view)
+          (c .before .before .before .before .before .before .before .args .plan) (c .before .slot-in .result)),
+      c .share .ensures,
+    )
 
 add-s : tie.Need-add-s Inv-loop μ-loop
 add-s c = search needs

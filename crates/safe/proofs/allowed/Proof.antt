@@ -1,18 +1,17 @@
-use borrow.Author.Needs.{needs}
+-- `safe::allowed` meets its contract.
+-- The count is that of the first r reporters whose lock allows p; of all n, it is a quorum exactly if it is n - f or more (`quorumCount`).
+-- Assumes nothing.
 use Prim.Native.Nat.{_-_, _≤_}
 use mathlib.Core.Path.{_≡_, sym, _∙_, ap}
 use native.Mathlib.Omega.{arith}
-use Rattle.quorum.specs.Sets.{weigh}
+use borrow.Author.Needs.{needs}
+use Rattle.claims.specs.Layout.{reportsIn}
 use Rattle.quorum.proofs.Laws.{weighNone, weighStep, shareMost, quorumCount}
+use Rattle.quorum.specs.Sets.{weigh}
 use Rattle.rules.specs.Rules.{reporting}
 use Rattle.rules.specs.Views.{allowsTo}
-use Rattle.claims.specs.Layout.{reportsIn}
 use Rattle.safe.proofs.allowed.Statement.{statement}
 use Rattle.safe.proofs.allowed.Tie as tie
-use Rattle.safe.proofs.allowed.Reads as reads
-use Rattle.safe.proofs.allowed.Lts as lts
-use Rattle.safe.proofs.allow_share.Reads as allow-share-reads
-use Rattle.safe.proofs.is_quorum.Reads as is-quorum-reads
 
 abbrev Inv-loop : tie.InvT-loop
 Inv-loop kept at marks views plans n f v p t count₀ r₀ count r = (r ≤ n) × (count ≤ r) × (count ≡ weigh (λ i. 1) (reporting (reportsIn kept at marks views plans v) (allowsTo p t)) r)
@@ -20,15 +19,12 @@ Inv-loop kept at marks views plans n f v p t count₀ r₀ count r = (r ≤ n) �
 abbrev μ-loop : tie.MeasureT-loop
 μ-loop kept at marks views plans n f v p t count₀ r₀ count r = n - r
 
--- src/lib.rt:60:5
 loop-holds : tie.Need-loop-holds Inv-loop μ-loop
 loop-holds c = (omega arith, omega arith, sym (weighNone _ _))
 
--- src/lib.rt:61:18
 allow-share-requires : tie.Need-allow-share-requires Inv-loop μ-loop
 allow-share-requires c κs = search needs
 
--- src/lib.rt:61:9
 add-count : tie.Need-add-count Inv-loop μ-loop
 add-count c =
     let a = c .before .before .before .before .before .before .before .before .args in
@@ -36,15 +32,12 @@ add-count c =
     let add = c .allow-share in
     omega (arith, shareMost (reporting (reportsIn (a .kept .now) (a .at .now) (a .marks .now) (a .views .now) (a .plans .now) (a .v)) (allowsTo (a .p) (a .t)) (at .r)) 1 (add .result) (add .ensures))
 
--- src/lib.rt:62:9
 add-r : tie.Need-add-r Inv-loop μ-loop
 add-r c = search needs
 
--- src/lib.rt:60:5
 loop-less : tie.Need-loop-less Inv-loop μ-loop
 loop-less c = search needs
 
--- src/lib.rt:60:5
 loop-again : tie.Need-loop-again Inv-loop μ-loop
 loop-again c =
     let a = c .before .before .before .before .before .before .before .before .args in
@@ -54,11 +47,9 @@ loop-again c =
     let most : add .result ≤ 1 = shareMost (s (at .r)) 1 (add .result) (add .ensures) in
     (omega arith, omega arith, weighStep (λ i. 1) s (at .r) (at .count) (add .result) (at .inv .2) (add .ensures))
 
--- src/lib.rt:64:5
 is-quorum-requires : tie.Need-is-quorum-requires Inv-loop μ-loop
 is-quorum-requires c κs = search needs
 
--- src/lib.rt:54:1
 returns : tie.Need-returns Inv-loop μ-loop
 returns c =
     let a = c .before .before .before .before .before .before .before .before .args in

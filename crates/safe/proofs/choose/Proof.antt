@@ -1,5 +1,8 @@
+-- `safe::choose` meets its contract.
+-- Step C: the starting plan where it is safe, else the smallest safe plan, which is among the plans kept (`choiceOther`).
+-- Assumes nothing.
+use mathlib.Core.Path.{sym, _∙_}
 use borrow.Author.Needs.{needs}
-use mathlib.Core.Path.{_≡_, sym, _∙_}
 use Rattle.safe.proofs.Laws.{choiceStart, choiceOther}
 use Rattle.safe.proofs.choose.Statement.{statement}
 use Rattle.safe.proofs.choose.Tie as tie

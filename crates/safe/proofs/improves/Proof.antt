@@ -1,25 +1,22 @@
+-- `safe::improves` meets its contract.
+-- Any plan is smaller than none, and else the plans are compared.
+-- Assumes nothing.
 use mathlib.Core.Path.{sym, ap}
+use borrow.Author.Needs.{needs}
 use Rattle.safe.specs.Choices.{chosen, better}
 use Rattle.safe.specs.declared.Choice.{Choice}
-use borrow.Author.Needs.{needs}
 use Rattle.safe.proofs.improves.Statement.{statement}
 use Rattle.safe.proofs.improves.Tie as tie
-use Rattle.safe.proofs.improves.Reads as reads
-use Rattle.safe.proofs.improves.Lts as lts
 
--- src/lib.rt:170:22
 enum-known-best : tie.Need-enum-known-best
 enum-known-best c = search needs
 
--- src/lib.rt:171:28
 enum-told : tie.Need-enum-told
 enum-told c = search needs
 
--- src/lib.rt:166:1
 returns : tie.Need-returns
 returns c = sym (ap (λ (b : Choice). better (c .before .before .before .args .x) (chosen b)) (c .before .best .given .1))
 
--- src/lib.rt:166:1
 returns-2 : tie.Need-returns-2
 returns-2 c = search needs
 

@@ -1,22 +1,19 @@
-use Prim.Native.Nat.{ℕ}
-use Rattle.safe.proofs.Laws.{slotsNone}
-use borrow.Author.Needs.{needs}
-use Prim.Native.Nat.{_+_, _-_, _≤_}
-use mathlib.Core.Path.{_≡_, sym, _∙_, ap, subst}
+-- `safe::two_views` meets its contract.
+-- Of plans 0 and 1 and of the first r plans kept, the two that are claimed in most views (`leadsStart`, `leadsMore`); they tell how high
+-- the two-set clause holds (`leadersServe`).
+-- Assumes nothing.
+use Prim.Native.Nat.{_+_, _-_, _≤_, ℕ}
+use mathlib.Core.Path.{_≡_, sym, _∙_, subst}
 use native.Mathlib.Omega.{arith}
 use lib.ListN.{getD}
+use borrow.Author.Needs.{needs}
+use Rattle.claims.specs.Layout.{reportsIn}
 use Rattle.quorum.specs.Sets.{equals}
 use Rattle.rules.specs.Views.{claimedViews}
-use Rattle.claims.specs.Layout.{reportsIn}
+use Rattle.safe.proofs.Laws.{Leads, leadsStart, leadsMore, InSlots, slotsMore, leadersServe, slotsNone}
 use Rattle.safe.specs.declared.Top.{Top}
-use Rattle.safe.proofs.Laws.{Leads, leadsStart, leadsMore, InSlots, slotsMore, leadersServe}
 use Rattle.safe.proofs.two_views.Statement.{statement}
 use Rattle.safe.proofs.two_views.Tie as tie
-use Rattle.safe.proofs.two_views.Reads as reads
-use Rattle.safe.proofs.two_views.Lts as lts
-use Rattle.claims.proofs.claimed_views.Reads as claimed-views-reads
-use Rattle.safe.proofs.ranked.Reads as ranked-reads
-use Rattle.safe.proofs.two_of.Reads as two-of-reads
 
 abbrev Inv-loop : tie.InvT-loop
 Inv-loop kept at marks views plans n f v zero one best₀ r₀ best r = (r ≤ n) × Leads (claimedViews (equals n f) (reportsIn kept at marks views plans v) v) (InSlots plans r) best
@@ -24,19 +21,15 @@ Inv-loop kept at marks views plans n f v zero one best₀ r₀ best r = (r ≤ n
 abbrev μ-loop : tie.MeasureT-loop
 μ-loop kept at marks views plans n f v zero one best₀ r₀ best r = n - r
 
--- src/lib.rt:113:9
 claimed-views-requires : tie.Need-claimed-views-requires Inv-loop μ-loop
 claimed-views-requires c κs = c .before .before .before .before .before .pre
 
--- src/lib.rt:114:9
 claimed-views-requires-2 : tie.Need-claimed-views-requires-2 Inv-loop μ-loop
 claimed-views-requires-2 c κs = c .before .before .before .before .before .before .pre
 
--- src/lib.rt:115:9
 ranked-requires : tie.Need-ranked-requires Inv-loop μ-loop
 ranked-requires c κs = search needs
 
--- src/lib.rt:125:5
 loop-holds : tie.Need-loop-holds Inv-loop μ-loop
 loop-holds c =
     let a = c .before .before .before .before .before .before .before .before .args in
@@ -46,31 +39,24 @@ loop-holds c =
           (leadsStart claims (c .before .before .claimed-views .result) (c .before .claimed-views2 .result) (c .before .before .claimed-views .ensures) (c .before .claimed-views2 .ensures) (slotsNone (a .plans .now))),
     )
 
--- src/lib.rt:126:17
 mul-x : tie.Need-mul-x Inv-loop μ-loop
 mul-x c = search needs
 
--- src/lib.rt:126:17
 shared-slice-read-x : tie.Need-shared-slice-read-x Inv-loop μ-loop
 shared-slice-read-x c = search needs
 
--- src/lib.rt:127:13
 claimed-views-requires-3 : tie.Need-claimed-views-requires-3 Inv-loop μ-loop
 claimed-views-requires-3 c κs = c .before .before .before .before .before .before .before .before .before .before .before .pre
 
--- src/lib.rt:128:9
 ranked-requires-2 : tie.Need-ranked-requires-2 Inv-loop μ-loop
 ranked-requires-2 c κs = search needs
 
--- src/lib.rt:129:9
 add-r : tie.Need-add-r Inv-loop μ-loop
 add-r c = search needs
 
--- src/lib.rt:125:5
 loop-less : tie.Need-loop-less Inv-loop μ-loop
 loop-less c = search needs
 
--- src/lib.rt:125:5
 loop-again : tie.Need-loop-again Inv-loop μ-loop
 loop-again c =
     let a = c .before .before .before .before .before .before .before .before .before .before .before .before .before .args in
@@ -82,11 +68,9 @@ loop-again c =
           (leadsMore claims (at .best) (getD (a .plans .now) (at .r) 0) (t .result) (t .ensures) (slotsMore (a .plans .now) (at .r)) (at .inv .1)),
     )
 
--- src/lib.rt:131:5
 two-of-requires : tie.Need-two-of-requires Inv-loop μ-loop
 two-of-requires c κs = search needs
 
--- src/lib.rt:109:1
 returns : tie.Need-returns Inv-loop μ-loop
 returns c =
     let a = c .before .before .before .before .before .before .before .before .before .before .before .args in

@@ -1,44 +1,35 @@
-use mathlib.Core.Path.{_≡_, sym, _∙_}
+-- `safe_c::safe_plan` meets its contract.
+-- Each answer's number is that of `safePlan`: safe, not safe, or a call that makes no sense.
+-- Assumes nothing.
 use mathlib.Core.Bool.{true, false}
-use Rattle.safe_c.proofs.Laws.{laidParts, safeSaid, safeUnlaid}
+use mathlib.Core.Path.{sym, _∙_}
 use borrow.Author.Needs.{needs}
+use Rattle.safe_c.proofs.Laws.{laidParts, safeSaid, safeUnlaid}
 use Rattle.safe_c.proofs.safe_plan.Statement.{statement}
 use Rattle.safe_c.proofs.safe_plan.Tie as tie
-use Rattle.safe_c.proofs.safe_plan.Reads as reads
-use Rattle.safe_c.proofs.safe_plan.Lts as lts
-use Rattle.safe.proofs.safe_by.Reads as safe-by-reads
-use Rattle.safe_c.proofs.is_laid.Reads as is-laid-reads
-use Rattle.safe_c.proofs.wide.Reads as wide-reads
 
--- src/lib.rt:43:9
 wide-requires : tie.Need-wide-requires
 wide-requires c κs = search needs
 
--- src/lib.rt:44:9
 wide-requires-2 : tie.Need-wide-requires-2
 wide-requires-2 c κs = search needs
 
--- src/lib.rt:45:8
 is-laid-requires : tie.Need-is-laid-requires
 is-laid-requires c κs = search needs
 
--- src/lib.rt:46:12
 safe-by-requires : tie.Need-safe-by-requires
 safe-by-requires c κs = laidParts _ _ _ _ _ _ _ (sym (c .before .is-laid .ensures) ∙ c .if1 .taken)
 
--- src/lib.rt:47:13
 returns : tie.Need-returns
 returns c =
     let a = c .before .before .before .before .before .before .before .before .before .before .before .args in
     safeSaid (a .kept .now) (a .at .now) (a .marks .now) (a .views .now) (a .plans .now) (a .n) (a .f) (c .before .before .before .before .before .wide .result) (c .before .before .before .before .wide2 .result) (c .before .before .before .before .before .wide .ensures) (c .before .before .before .before .wide2 .ensures) (a .v) (a .p) (a .three) true (sym (c .before .before .before .is-laid .ensures) ∙ c .before .before .if1 .taken) (sym (c .if2 .taken) ∙ c .before .safe-by .ensures)
 
--- src/lib.rt:49:9
 returns-2 : tie.Need-returns-2
 returns-2 c =
     let a = c .before .before .before .before .before .before .before .before .before .before .before .args in
     safeSaid (a .kept .now) (a .at .now) (a .marks .now) (a .views .now) (a .plans .now) (a .n) (a .f) (c .before .before .before .before .before .wide .result) (c .before .before .before .before .wide2 .result) (c .before .before .before .before .before .wide .ensures) (c .before .before .before .before .wide2 .ensures) (a .v) (a .p) (a .three) false (sym (c .before .before .before .is-laid .ensures) ∙ c .before .before .if1 .taken) (sym (c .if2 .left) ∙ c .before .safe-by .ensures)
 
--- src/lib.rt:39:1
 returns-3 : tie.Need-returns-3
 returns-3 c =
     let a = c .before .before .before .before .before .before .before .before .before .args in

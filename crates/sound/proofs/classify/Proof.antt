@@ -1,6 +1,6 @@
 -- `sound::classify` meets its contract: the length, then n, then the record that the bytes spell.
 -- Assumes nothing.
-use mathlib.Core.Path.{_≡_, refl, ap, sym, _∙_}
+use mathlib.Core.Path.{_≡_, ap, sym, _∙_}
 use mathlib.Core.Bool.{Bool, true, false, cond}
 use Rattle.layout.specs.Layout.{decodeRecord}
 use Rattle.sound.specs.declared.Lent.the-variants.{Unsound, Sound}
@@ -30,15 +30,21 @@ returns-3 : tie.Need-returns-3
 unfolding decodeRecord
 returns-3 c =
     let s = c .before .before .before .before .before .before .before .before .before .before .before .before .before .before .args .bytes .now in
-    let e : sound (decodeRecord s) ≡ true = sym (c .before .sound-in .ensures ∙ ap sound (c .before .before .before .before .before .before .before .before .before .decode .ensures)) ∙ c .if3 .taken in
-    sym (lent-other s (c .before .before .before .before .before .before .before .before .before .before .before .before .if1 .left) (c .before .before .before .before .before .before .before .before .before .before .if2 .left) ∙ ap (λ (b : Bool). cond b Sound Unsound) e)
+    let e : sound (decodeRecord s) ≡ true = sym
+    (c .before .sound-in .ensures ∙ ap sound (c .before .before .before .before .before .before .before .before .before .decode .ensures))
+    ∙ c .if3 .taken in
+    sym (lent-other s (c .before .before .before .before .before .before .before .before .before .before .before .before .if1 .left)
+    (c .before .before .before .before .before .before .before .before .before .before .if2 .left) ∙ ap (λ (b : Bool). cond b Sound Unsound) e)
 
 returns-4 : tie.Need-returns-4
 unfolding decodeRecord
 returns-4 c =
     let s = c .before .before .before .before .before .before .before .before .before .before .before .before .before .before .args .bytes .now in
-    let e : sound (decodeRecord s) ≡ false = sym (c .before .sound-in .ensures ∙ ap sound (c .before .before .before .before .before .before .before .before .before .decode .ensures)) ∙ c .if3 .left in
-    sym (lent-other s (c .before .before .before .before .before .before .before .before .before .before .before .before .if1 .left) (c .before .before .before .before .before .before .before .before .before .before .if2 .left) ∙ ap (λ (b : Bool). cond b Sound Unsound) e)
+    let e : sound (decodeRecord s) ≡ false = sym
+    (c .before .sound-in .ensures ∙ ap sound (c .before .before .before .before .before .before .before .before .before .decode .ensures))
+    ∙ c .if3 .left in
+    sym (lent-other s (c .before .before .before .before .before .before .before .before .before .before .before .before .if1 .left)
+    (c .before .before .before .before .before .before .before .before .before .before .if2 .left) ∙ ap (λ (b : Bool). cond b Sound Unsound) e)
 
 pub classify-spec : {M : Type 1} → statement M
 classify-spec =

@@ -1,6 +1,6 @@
 -- `sound::empty` meets its contract: each branch decides one part.
 -- Assumes nothing.
-use Rattle.frame.proofs.Laws.{tests, told}
+use Rattle.frame.proofs.Laws.{tests}
 use Rattle.sound.proofs.empty.Statement.{statement}
 use Rattle.sound.proofs.empty.Tie as tie
 

@@ -1,7 +1,7 @@
 -- `sound::frame_sound` meets its contract: the row, the own row, and the rows 13 to 15.
 -- Assumes nothing.
 use Prim.Native.Nat.{ℕ}
-use mathlib.Core.Path.{_≡_, refl, ap, sym, _∙_}
+use mathlib.Core.Path.{ap, sym, _∙_}
 use lib.Dec.{eqb}
 use Rattle.frame.proofs.Laws.{told}
 use Rattle.sound.proofs.Laws.{frame-row, frame-ahead, frame-rows}
@@ -28,7 +28,9 @@ frame-refusal-requires c κs = search needs
 returns-3 : tie.Need-returns-3
 returns-3 c =
     let a = c .before .before .before .before .before .args in
-    ap (λ (k : ℕ). eqb k 0) (c .frame-refusal .ensures) ∙ sym (frame-rows (a .n) (a .id) (a .view) (a .f) (c .before .before .before .if1 .left) (told (c .before .before .runs-ahead .ensures) (c .before .if2 .left)))
+    ap (λ (k : ℕ). eqb k 0) (c .frame-refusal .ensures)
+    ∙ sym (frame-rows (a .n) (a .id) (a .view) (a .f) (c .before .before .before .if1 .left)
+    (told (c .before .before .runs-ahead .ensures) (c .before .if2 .left)))
 
 pub frame-sound-spec : {M : Type 1} → statement M
 frame-sound-spec =

@@ -1,6 +1,6 @@
 -- `sound::no_plan` meets its contract: each branch decides one part.
 -- Assumes nothing.
-use Rattle.frame.proofs.Laws.{tests, told}
+use Rattle.frame.proofs.Laws.{tests}
 use Rattle.sound.specs.Sound.{noPlan}
 use Rattle.sound.proofs.no_plan.Statement.{statement}
 use Rattle.sound.proofs.no_plan.Tie as tie

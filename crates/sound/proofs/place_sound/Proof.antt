@@ -1,8 +1,7 @@
 -- `sound::place_sound` meets its contract: the mark says which of the two it is.
 -- Assumes nothing.
-use Prim.Native.Nat.{ℕ, _+_, _*_, _-_, _≤_, _<_}
-use mathlib.Core.Path.{_≡_, refl, ap, sym, _∙_}
-use native.Mathlib.Omega.{arith}
+use Prim.Native.Nat.{ℕ, _-_}
+use mathlib.Core.Path.{ap, sym, _∙_}
 use lib.ListN.{getD}
 use Rattle.record.specs.Slots.{slotIn}
 use Rattle.sound.specs.Sound.{noPlan, frameSound}
@@ -41,7 +40,10 @@ returns-2 c =
     let s = c .before .before .before .before .before .before .before .before .before in
     let slots = slotIn (s .args .marks .now) (s .args .views .now) (s .args .plans .now) in
     let at = ap (λ (k : ℕ). getD (s .args .marks .now) k 0) (c .before .before .before .before .before .frame-slot .ensures .0) in
-    sym (place-plan slots (s .args .n) (s .args .id) (s .args .view) (s .args .kind) (s .args .sender) (sym at ∙ c .before .before .before .if1 .left) (off (c .before .no-plan .ensures ∙ ap (λ (k : ℕ). noPlan (s .args .kind) (getD (s .args .plans .now) k 0)) (c .before .before .before .before .before .frame-slot .ensures .0)) (c .if2 .taken)))
+    sym (place-plan slots (s .args .n) (s .args .id) (s .args .view) (s .args .kind) (s .args .sender) (sym at ∙ c .before .before .before .if1 .left)
+    (off (c .before .no-plan .ensures
+    ∙ ap (λ (k : ℕ). noPlan (s .args .kind) (getD (s .args .plans .now) k 0)) (c .before .before .before .before .before .frame-slot .ensures .0))
+    (c .if2 .taken)))
 
 frame-at-requires : tie.Need-frame-at-requires
 frame-at-requires c κs = search needs
@@ -55,7 +57,11 @@ returns-3 c =
     let slots = slotIn (s .args .marks .now) (s .args .views .now) (s .args .plans .now) in
     let at = ap (λ (k : ℕ). getD (s .args .marks .now) k 0) (c .before .before .before .before .before .before .before .frame-slot .ensures .0) in
     c .frame-sound .ensures ∙ ap (frameSound (s .args .n) (s .args .id) (s .args .view)) (c .before .frame-at .ensures)
-    ∙ sym (place-frame slots (s .args .n) (s .args .id) (s .args .view) (s .args .kind) (s .args .sender) (sym at ∙ c .before .before .before .before .before .if1 .left) (on (c .before .before .before .no-plan .ensures ∙ ap (λ (k : ℕ). noPlan (s .args .kind) (getD (s .args .plans .now) k 0)) (c .before .before .before .before .before .before .before .frame-slot .ensures .0)) (c .before .before .if2 .left)))
+    ∙ sym (place-frame slots (s .args .n) (s .args .id) (s .args .view) (s .args .kind) (s .args .sender)
+    (sym at ∙ c .before .before .before .before .before .if1 .left)
+    (on (c .before .before .before .no-plan .ensures
+    ∙ ap (λ (k : ℕ). noPlan (s .args .kind) (getD (s .args .plans .now) k 0))
+    (c .before .before .before .before .before .before .before .frame-slot .ensures .0)) (c .before .before .if2 .left)))
 
 pub place-sound-spec : {M : Type 1} → statement M
 place-sound-spec =

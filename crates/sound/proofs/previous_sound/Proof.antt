@@ -1,6 +1,6 @@
 -- `sound::previous_sound` meets its contract: the two slots stand where the definition has them.
 -- Assumes nothing.
-use mathlib.Core.Path.{_≡_, refl, ap, sym, _∙_}
+use mathlib.Core.Path.{ap, _∙_}
 use Rattle.record.specs.Slots.{slotIn}
 use Rattle.sound.specs.Sound.{stands, previousSound}
 use borrow.Author.Needs.{needs}

@@ -1,7 +1,7 @@
 -- `sound::previous_stands` meets its contract: each branch decides one part of 14.
 -- Assumes nothing.
-use mathlib.Core.Path.{_≡_, refl, ap, sym, _∙_}
-use Rattle.frame.proofs.Laws.{tests, told}
+use mathlib.Core.Path.{sym, _∙_}
+use Rattle.frame.proofs.Laws.{tests}
 use Rattle.frame.specs.Refusal.{badForm, badPrevious}
 use Rattle.sound.specs.Sound.{stands}
 use Rattle.sound.proofs.Laws.{stands-absent}

@@ -1,6 +1,6 @@
 -- `sound::runs_ahead` meets its contract: each branch decides one part.
 -- Assumes nothing.
-use Rattle.frame.proofs.Laws.{tests, told}
+use Rattle.frame.proofs.Laws.{tests}
 use Rattle.sound.specs.Sound.{ahead}
 use Rattle.sound.proofs.runs_ahead.Statement.{statement}
 use Rattle.sound.proofs.runs_ahead.Tie as tie

@@ -1,6 +1,6 @@
 -- `sound::sound_in` meets its contract: settings that pass give an own row to look up.
 -- Assumes nothing.
-use mathlib.Core.Path.{_≡_, refl, ap, sym, _∙_}
+use mathlib.Core.Path.{sym, _∙_}
 use native.Mathlib.Omega.{arith}
 use Rattle.frame.proofs.Laws.{told}
 use Rattle.settings.proofs.Allowed.{allowed}
@@ -17,7 +17,8 @@ returns : tie.Need-returns
 returns c =
     let s = c .before .before .before .before .before in
     let slots = slotIn (s .args .marks .now) (s .args .views .now) (s .args .plans .now) in
-    sym (sound-settings slots (s .args .n) (s .args .f) (s .args .id) (s .args .class) (s .args .view) (λ e. c .if1 .taken (c .before .settings-refusal .ensures ∙ e)))
+    sym (sound-settings slots (s .args .n) (s .args .f) (s .args .id) (s .args .class) (s .args .view)
+    (λ e. c .if1 .taken (c .before .settings-refusal .ensures ∙ e)))
 
 rows-sound-requires : tie.Need-rows-sound-requires
 rows-sound-requires c κs = search needs
@@ -26,12 +27,15 @@ returns-2 : tie.Need-returns-2
 returns-2 c =
     let s = c .before .before .before .before .before .before .before in
     let slots = slotIn (s .args .marks .now) (s .args .views .now) (s .args .plans .now) in
-    sym (sound-rows slots (s .args .n) (s .args .f) (s .args .id) (s .args .class) (s .args .view) (told (c .before .before .before .settings-refusal .ensures) (c .before .before .if1 .left)) (off (c .before .rows-sound .ensures) (c .if2 .taken)))
+    sym (sound-rows slots (s .args .n) (s .args .f) (s .args .id) (s .args .class) (s .args .view)
+    (told (c .before .before .before .settings-refusal .ensures) (c .before .before .if1 .left))
+    (off (c .before .rows-sound .ensures) (c .if2 .taken)))
 
 votes-sound-requires : tie.Need-votes-sound-requires
 votes-sound-requires c κs =
     let s = c .before .before .before .before .before .before .before in
-    let a = allowed (s .args .n) (s .args .f) (s .args .id) (s .args .class) (told (c .before .before .before .settings-refusal .ensures) (c .before .before .if1 .left)) in
+    let a = allowed (s .args .n) (s .args .f) (s .args .id) (s .args .class)
+    (told (c .before .before .before .settings-refusal .ensures) (c .before .before .if1 .left)) in
     (omega arith, s .pre)
 
 returns-3 : tie.Need-returns-3
@@ -39,7 +43,9 @@ returns-3 c =
     let s = c .before .before .before .before .before .before .before .before in
     let slots = slotIn (s .args .marks .now) (s .args .views .now) (s .args .plans .now) in
     c .votes-sound .ensures
-    ∙ sym (sound-votes slots (s .args .n) (s .args .f) (s .args .id) (s .args .class) (s .args .view) (told (c .before .before .before .before .settings-refusal .ensures) (c .before .before .before .if1 .left)) (on (c .before .before .rows-sound .ensures) (c .before .if2 .left)))
+    ∙ sym (sound-votes slots (s .args .n) (s .args .f) (s .args .id) (s .args .class) (s .args .view)
+    (told (c .before .before .before .before .settings-refusal .ensures) (c .before .before .before .if1 .left))
+    (on (c .before .before .rows-sound .ensures) (c .before .if2 .left)))
 
 pub sound-in-spec : {M : Type 1} → statement M
 sound-in-spec =

@@ -1,6 +1,6 @@
 -- `sound::votes_sound` meets its contract: the two previous votes, and the decision.
 -- Assumes nothing.
-use mathlib.Core.Path.{_≡_, refl, ap, sym, _∙_}
+use mathlib.Core.Path.{ap, sym, _∙_}
 use mathlib.Core.Bool.{not}
 use Rattle.frame.specs.declared.Report.{Report}
 use Rattle.frame.specs.Refusal.{badForm}
@@ -26,7 +26,8 @@ returns-2 : tie.Need-returns-2
 returns-2 c =
     let s = c .before .before .before .before .before .before .before in
     let slots = slotIn (s .args .marks .now) (s .args .views .now) (s .args .plans .now) in
-    sym (votes-second slots (s .args .id) (on (c .before .before .before .previous-sound .ensures) (c .before .before .if1 .left)) (off (c .before .previous-sound2 .ensures) (c .if2 .taken)))
+    sym (votes-second slots (s .args .id) (on (c .before .before .before .previous-sound .ensures) (c .before .before .if1 .left))
+    (off (c .before .previous-sound2 .ensures) (c .if2 .taken)))
 
 slot-in-requires : tie.Need-slot-in-requires
 slot-in-requires c κs = search needs
@@ -39,7 +40,9 @@ returns-3 c =
     let s = c .before .before .before .before .before .before .before .before .before in
     let slots = slotIn (s .args .marks .now) (s .args .views .now) (s .args .plans .now) in
     c .well-formed .ensures ∙ ap (λ (x : Report). not (badForm x)) (c .before .slot-in .ensures)
-    ∙ sym (votes-decision slots (s .args .id) (on (c .before .before .before .before .before .previous-sound .ensures) (c .before .before .before .before .if1 .left)) (on (c .before .before .before .previous-sound2 .ensures) (c .before .before .if2 .left)))
+    ∙ sym (votes-decision slots (s .args .id)
+    (on (c .before .before .before .before .before .previous-sound .ensures) (c .before .before .before .before .if1 .left))
+    (on (c .before .before .before .previous-sound2 .ensures) (c .before .before .if2 .left)))
 
 pub votes-sound-spec : {M : Type 1} → statement M
 votes-sound-spec =

@@ -1,7 +1,7 @@
 -- `sound::well_formed` meets its contract: present, or absent with zeros.
 -- Assumes nothing.
-use mathlib.Core.Path.{_≡_, refl, ap, sym, _∙_}
-use Rattle.frame.proofs.Laws.{tests, told}
+use mathlib.Core.Path.{sym, _∙_}
+use Rattle.frame.proofs.Laws.{tests}
 use Rattle.frame.specs.Refusal.{badForm}
 use Rattle.sound.proofs.Laws.{formed-other}
 use borrow.Author.Needs.{needs}

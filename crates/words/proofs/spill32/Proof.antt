@@ -1,13 +1,11 @@
 -- `words::spill32` meets its contract. The invariant: the first i numbers are spelt, and the rest of out is as it was.
 -- Assumes nothing.
-use Prim.Native.Nat.{ℕ, _*_, _-_, _+_, _≤_, _<_}
-use mathlib.Core.Path.{_≡_, refl, ap, _∙_}
-use mathlib.Core.List.{List, _++_}
+use Prim.Native.Nat.{_*_, _-_, _+_, _≤_, _<_}
+use mathlib.Core.Path.{_≡_, refl, _∙_}
+use mathlib.Core.List.{_++_}
 use native.Mathlib.Omega.{arith}
 use borrow.Author.Needs.{needs}
-use lib.ListN.{length, take, drop, getD}
-use Rattle.wire.specs.Digits.{digits}
-use Rattle.wire.specs.Placed.{placed}
+use lib.ListN.{length, take, drop}
 use Rattle.words.specs.Words.{spelled}
 use Rattle.words.proofs.Loops.{spill-none, spill-more, spill-all}
 use Rattle.words.proofs.spill32.Statement.{statement}
@@ -49,8 +47,12 @@ loop-again : tie.Need-loop-again Inv-loop μ-loop
 loop-again c =
     let h = c .before .before .before .before .before .before .before .loop in
     let a = c .before .before .before .before .before .before .before .before .before .before .args in
-    let below : h .i < length (a .src .now) = omega arith in
-    (omega arith, omega arith, rw (c .before .before .put .ensures, c .before .before .before .wide .ensures, h .inv .2) (spill-more 4 (a .src .now) (a .out .now) (h .i) below))
+    let below : h .i < length (a .src .now) = omega arith in (
+      omega arith,
+      omega arith,
+      rw (c .before .before .put .ensures, c .before .before .before .wide .ensures, h .inv .2)
+          (spill-more 4 (a .src .now) (a .out .now) (h .i) below),
+    )
 
 same-length : tie.Need-same-length Inv-loop μ-loop
 same-length c = c .before .loop .inv .1

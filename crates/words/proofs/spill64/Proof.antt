@@ -1,13 +1,11 @@
 -- `words::spill64` meets its contract. The invariant: the first i numbers are spelt, and the rest of out is as it was.
 -- Assumes nothing.
-use Prim.Native.Nat.{ℕ, _*_, _-_, _+_, _≤_, _<_}
-use mathlib.Core.Path.{_≡_, refl, ap, _∙_}
-use mathlib.Core.List.{List, _++_}
+use Prim.Native.Nat.{_*_, _-_, _+_, _≤_, _<_}
+use mathlib.Core.Path.{_≡_, refl, _∙_}
+use mathlib.Core.List.{_++_}
 use native.Mathlib.Omega.{arith}
 use borrow.Author.Needs.{needs}
-use lib.ListN.{length, take, drop, getD}
-use Rattle.wire.specs.Digits.{digits}
-use Rattle.wire.specs.Placed.{placed}
+use lib.ListN.{length, take, drop}
 use Rattle.words.specs.Words.{spelled}
 use Rattle.words.proofs.Loops.{spill-none, spill-more, spill-all}
 use Rattle.words.proofs.spill64.Statement.{statement}

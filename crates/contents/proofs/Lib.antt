@@ -1,0 +1,9 @@
+pub mod Kept
+pub mod Places
+pub mod Clean
+pub mod Parts
+pub mod Acts
+pub mod Slotted
+pub mod Widths
+pub mod Tests
+pub mod Sound

@@ -1,0 +1,4 @@
+pub mod Stays
+pub mod Carry
+pub mod Demand
+pub mod Left

@@ -1,0 +1,87 @@
+-- What no call takes from a vault's record: what holds of it through each act, and through keeping a frame, holds of what a call
+-- leaves (`callStays`). So its settings stay (`callSet`), and each frame that a vault of a run reads is read with the run's n and
+-- the vault's own number; and of votes without a previous one none is kept there (`callPlaced`).
+-- Assumes nothing.
+use Prim.Native.Nat.{ℕ}
+use mathlib.Core.Path.{_≡_, refl, sym, _∙_, ap, subst}
+use mathlib.Core.Bool.{Bool, true, false, cond}
+use mathlib.Core.List.{List}
+use mathlib.Core.Option.{Option, none, some}
+use native.Mathlib.Omega.{arith}
+use Rattle.quorum.proofs.Bools.{clash}
+use Rattle.rules.specs.Rules.{Vote}
+use Rattle.frame.specs.declared.Frame.{Frame}
+use Rattle.frame.specs.declared.Reading.the-variants.{Accepted, Refused}
+use Rattle.frame.specs.Refusal.{first}
+use Rattle.protocol.specs.Record.{Settings, Record, put}
+use Rattle.protocol.specs.Pass.{Act, ask, enter, cast, decide, hasPrevious, does, Out, Step, taken, pass}
+use Rattle.protocol.specs.Calls.{settingRows, recordRows, timerRows, fresh, started, keep, heard, wanted, rung, Call, start, frame, timer, short, accepted, answer}
+use Rattle.protocol.proofs.Tables.{putOther}
+use Rattle.protocol.proofs.Good.{doesSet}
+use Rattle.protocol.proofs.May.{Sure, done, and, sureC, sureA}
+use Rattle.protocol.proofs.Went.{unlessAccepted}
+use Rattle.contents.proofs.Slotted.{Placed}
+
+-- It holds of the record that a call begins with: the vault's own, or that of a start.
+abbrev pub From : (Record → Type 0) → Option Record → Call → Type 0
+From P none (start s p) = P (fresh s p)
+From P none (frame x) = Unit {0}
+From P none (timer v) = Unit {0}
+From P none short = Unit {0}
+From P (some r) a = P r
+
+module _ (P : Record → Type 0) (acts : (r : Record) (a : Act) → P r → P (does r a)) (keeps : (x : Frame) (r : Record) → P r → P (keep x r)) where
+  passStays : {steps : List Step} → Sure steps → (r : Record) → P r → P ((pass steps r) .left)
+  unfolding pass
+  passStays done r h = h
+  passStays (and {s = step} {l = rest} law sure) r h =
+      subst (λ (o : Out). P ((pass rest (o .left)) .left)) (sym (law .does r)) (passStays sure ((taken r (law .act r)) .left) (go (law .act r)))
+    where
+      go : (b : Option Act) → P ((taken r b) .left)
+      go none = h
+      go (some a) = acts r a h
+
+  callStays : (b : Option Record) (a : Call) → From P b a → (o : Out) → answer b a ≡ accepted o → P (o .left)
+  unfolding answer started heard rung
+  callStays none (start s p) h o e = let (given, same) = unlessAccepted (first (settingRows s)) (started s p) e in subst (λ (u : Out). P (u .left)) same (passStays sureC (fresh s p) h)
+  callStays none (frame x) h o e = let z : _≡_ {A = ℕ} 0 1 = cc in absurd (omega arith)
+  callStays none (timer v) h o e = let z : _≡_ {A = ℕ} 0 1 = cc in absurd (omega arith)
+  callStays none short h o e = let z : _≡_ {A = ℕ} 0 1 = cc in absurd (omega arith)
+  callStays (some r) short h o e = let z : _≡_ {A = ℕ} 0 1 = cc in absurd (omega arith)
+  callStays (some r) (start s p) h o e = let z : _≡_ {A = ℕ} 0 1 = cc in absurd (omega arith)
+  callStays (some r) (frame (Refused k)) h o e = let z : _≡_ {A = ℕ} 0 1 = cc in absurd (omega arith)
+  callStays (some r) (frame (Accepted x)) h o e =
+      let (given, same) = unlessAccepted (first (recordRows r x)) (heard r x) e in
+      subst (λ (u : Out). P (u .left)) same (passStays sureA (keep x r) (keeps x r h))
+  callStays (some r) (timer v) h o e =
+      let (given, same) = unlessAccepted (first (timerRows r v)) (rung r) e in
+      subst (λ (u : Out). P (u .left)) same (passStays sureA (does r (ask (wanted r))) (acts r (ask (wanted r)) h))
+
+-- An accepted call leaves a record with the settings that it began with.
+pub callSet : (b : Option Record) (a : Call) (t : Settings) → From (λ r. r .set ≡ t) b a → (o : Out) → answer b a ≡ accepted o → o .left .set ≡ t
+unfolding keep
+callSet b a t = callStays (λ r. r .set ≡ t) (λ r a e. doesSet r a ∙ e) (λ x r e. e) b a
+
+putPlaced : (b : Bool) (k : ℕ) (x : Option Vote) (t : ℕ → Option Vote) → hasPrevious k ≡ b → ((j : ℕ) → hasPrevious j ≡ false → t j ≡ none)
+    → (j : ℕ) → hasPrevious j ≡ false → cond b (put k x t) t j ≡ none
+putPlaced true k x t has old j lacks = putOther k x t j (λ (e : k ≡ j). clash (ap hasPrevious (sym e) ∙ has) lacks) ∙ old j lacks
+putPlaced false k x t has old j lacks = old j lacks
+
+doesPlaced : (r : Record) (a : Act) → Placed r → Placed (does r a)
+unfolding does
+doesPlaced r (ask w) h = h
+doesPlaced r (enter w) h = h
+doesPlaced r (cast k p) h = putPlaced (hasPrevious k) k _ (r .previous) refl h
+doesPlaced r (decide p) h = h
+
+-- It keeps no previous votes but vote-1's and vote-2's.
+pub callPlaced : (b : Option Record) (a : Call) → ((r : Record) → b ≡ some r → Placed r) → (o : Out) → answer b a ≡ accepted o → Placed (o .left)
+unfolding keep
+callPlaced b a was = callStays Placed doesPlaced (λ x r h. h) b a (go b a was)
+  where
+    go : (b : Option Record) (a : Call) → ((r : Record) → b ≡ some r → Placed r) → From Placed b a
+    go none (start s p) was = λ k lacks. refl
+    go none (frame x) was = tt
+    go none (timer v) was = tt
+    go none short was = tt
+    go (some r) a was = was r refl

@@ -1,0 +1,31 @@
+-- What one call leaves, at any lent record, in a run or not.
+-- Assumes nothing.
+use Prim.Native.Nat.{ℕ, _≤_}
+use mathlib.Core.Path.{_≡_}
+use mathlib.Core.List.{List}
+use lib.ListN.{length, take, drop}
+use Rattle.wire.specs.Fields.{Bytes}
+use Rattle.entry.specs.Layout.{layout, AllValid, entriesOf}
+use Rattle.sound.specs.declared.Lent.the-variants.{Sound}
+use Rattle.sound.specs.Sound.{lentIs}
+use Rattle.contents.specs.Calls.{Left, wrote, gave}
+use Rattle.runs.specs.Runs.{Call, InWidth, leaves}
+
+-- After an accepted call: a sound record, that refusal 3 never meets; written bytes that are entries end to end and nothing besides; and the rest of the
+-- output as it was.
+pub record Kept (out : List ℕ) (count : ℕ) (rec′ out′ : List ℕ) : Type 0 where
+  pub sound : lentIs rec′ ≡ Sound
+  pub valid : AllValid (entriesOf (take count out′))
+  pub entries : layout (entriesOf (take count out′)) ≡ take count out′
+  pub few : count ≤ 256
+  pub size : length out′ ≡ length out
+  pub beyond : drop count out′ ≡ drop count out
+
+-- 'Each gives its number, zero bytes written, record and output unchanged', where the call is refused.
+abbrev pub LeavesWell : List ℕ → List ℕ → Left → Type 0
+LeavesWell rec out (wrote count rec′ out′) = Kept out count rec′ out′
+LeavesWell rec out (gave number rec′ out′) = (rec′ ≡ rec) × (out′ ≡ out)
+
+-- Proved as `callLeavesWell` in proofs/Left.
+abbrev pub AlwaysLeavesWell : Type 0
+AlwaysLeavesWell = (rec out : List ℕ) (a : Call) → Bytes rec → InWidth a → LeavesWell rec out (leaves rec a out)

@@ -1,0 +1,116 @@
+-- Runs, as demand 3 means them (document 01, 'Runs, as demand 3 means them'), over the bytes of records, frames and outputs.
+-- The newest call stands first.
+-- Assumes nothing.
+use Prim.Native.Nat.{ℕ, _-_, _^_, _≤_, _<_}
+use mathlib.Core.Path.{_≡_}
+use mathlib.Core.Logic.{_⊎_}
+use mathlib.Core.Bool.{Bool, true, false}
+use mathlib.Core.List.{List, [], _∷_, _++_}
+use lib.ListN.{take}
+use Rattle.quorum.specs.Sets.{Set, equals, size}
+use Rattle.wire.specs.Fields.{Bytes}
+use Rattle.frame.specs.declared.Frame.{Frame}
+use Rattle.frame.specs.Format.{encode}
+use Rattle.entry.specs.declared.Entry.{Entry}
+use Rattle.entry.specs.declared.Entry.the-variants.{ForAll, ForOne, Decision}
+use Rattle.entry.specs.Layout.{entriesOf}
+use Rattle.sound.specs.declared.Lent.the-variants.{Blank}
+use Rattle.sound.specs.Sound.{lentIs}
+use Rattle.protocol.specs.Record.{put}
+use Rattle.protocol.specs.Runs.{_∈_}
+use Rattle.contents.specs.Calls.{Left, wrote, gave, startLeft, frameLeft, timerLeft}
+
+-- A start brings n, f, id, class and plan; a frame call a link's sender and bytes; a timer a view.
+pub data Call : Type 0 where
+  start : ℕ → ℕ → ℕ → ℕ → ℕ → Call
+  frame : ℕ → List ℕ → Call
+  timer : ℕ → Call
+
+-- 'A plan is any 64-bit number', and bytes are below 256. What else a call brings may be any number at all.
+abbrev pub InWidth : Call → Type 0
+InWidth (start n f id class plan) = plan < 2 ^ 64
+InWidth (frame link bytes) = Bytes bytes
+InWidth (timer view) = Unit {0}
+
+-- What a call at a record leaves, down to each byte, 'as this paper fixes': crate contents' definitions.
+abbrev pub leaves : List ℕ → Call → List ℕ → Left
+leaves rec (start n f id class plan) out = startLeft rec n f id class plan out
+leaves rec (frame link bytes) out = frameLeft rec link bytes out
+leaves rec (timer view) out = timerLeft rec view out
+
+-- Which calls keep the rules: record before, call, output space before, and what is left. By the paper it is just this one.
+abbrev pub Rules : Type 1
+Rules = List ℕ → Call → List ℕ → Left → Type 0
+
+abbrev pub Fixed : Rules
+Fixed rec a out left = left ≡ leaves rec a out
+
+-- 'Each item is one start, frame or timer call at one of them, accepted or refused, with output space of any size and contents',
+-- and what it leaves.
+pub record Item : Type 0 where
+  pub at : ℕ
+  pub call : Call
+  pub out : List ℕ
+  pub left : Left
+
+-- The record's bytes afterwards.
+abbrev pub recordIn : Left → List ℕ
+recordIn (wrote count rec out) = rec
+recordIn (gave number rec out) = rec
+
+-- The entries that the written bytes say: 'Accepted calls return the byte count written'.
+abbrev pub entriesIn : Left → List Entry
+entriesIn (wrote count rec out) = entriesOf (take count out)
+entriesIn (gave number rec out) = []
+
+abbrev pub isAccepted : Left → Bool
+isAccepted (wrote count rec out) = true
+isAccepted (gave number rec out) = false
+
+-- What the accepted calls at a vault wrote, in their order.
+unfoldable pub written : List Item → ℕ → List Entry
+written [] = λ i. []
+written (x ∷ l) = put (x .at) (written l (x .at) ++ entriesIn (x .left)) (written l)
+
+-- 'the bytes are a frame that an accepted call at that sender, earlier in the list, wrote in an entry for all or for this vault'.
+abbrev pub Sent : List Item → ℕ → ℕ → List ℕ → Type 0
+Sent l i link bytes = (x : Frame) × (bytes ≡ encode x) × ((ForAll x ∈ written l link) ⊎ (ForOne i x ∈ written l link))
+
+-- 'A run has an n, an f, a set of at least n - f numbers below n'. 'Record: at first any blank one.'
+pub record Setting : Type 0 where
+  pub n : ℕ
+  pub f : ℕ
+  pub keeps : Set
+  pub most : n - f ≤ size (equals n f) keeps
+  pub first : ℕ → List ℕ
+  pub blank : (i : ℕ) → keeps i ≡ true → lentIs (first i) ≡ Blank
+
+module _ (c : Setting) where
+  -- 'Each call gets the record that the last call at the same vault left, and nobody else writes it in between.'
+  unfoldable pub recordAt : List Item → ℕ → List ℕ
+  recordAt [] = c .first
+  recordAt (x ∷ l) = put (x .at) (recordIn (x .left)) (recordAt l)
+
+  -- 'Start: any settings, but an accepted one brings this n, this f and the vault's own number. Class and plan are free.'
+  -- 'Timer: any view, at any place in the list.' 'Frame: a link's sender and bytes. Where the sender keeps the rules, the bytes are a
+  -- frame that .. Where the sender is any other number, the bytes are anything.'
+  abbrev pub Fair : List Item → ℕ → Call → Left → Type 0
+  Fair l i (start n f id class plan) left = isAccepted left ≡ true → (n ≡ c .n) × (f ≡ c .f) × (id ≡ i)
+  Fair l i (frame link bytes) left = c .keeps link ≡ true → Sent l i link bytes
+  Fair l i (timer view) left = Unit {0}
+
+  -- 'a list of calls of any length, the empty one included .. at all of them, mixed in any order'. 'The vaults of that set keep the
+  -- rules: they answer every call as this paper fixes, and so as the program's own calls do.'
+  pub data Run (keepsRules : Rules) : List Item → Type 0 where
+    nothingYet : Run keepsRules []
+    andThen : {l : List Item} {x : Item} → Run keepsRules l → c .keeps (x .at) ≡ true → InWidth (x .call)
+        → keepsRules (recordAt l (x .at)) (x .call) (x .out) (x .left) → Fair l (x .at) (x .call) (x .left) → Run keepsRules (x ∷ l)
+
+-- 'A vault decides p where an accepted call at it writes the host entry 0a with plan p, in whatever view.'
+abbrev pub Decides : List Item → ℕ → ℕ → Type 0
+Decides l i p = (v : ℕ) × (Decision v p ∈ written l i)
+
+-- 'It was started with the plan of its accepted start': some vault of the list was, with p.
+pub data Started (p : ℕ) : List Item → Type 0 where
+  here : {l : List Item} {x : Item} {n f id class : ℕ} → x .call ≡ start n f id class p → isAccepted (x .left) ≡ true → Started p (x ∷ l)
+  earlier : {l : List Item} {x : Item} → Started p l → Started p (x ∷ l)
