@@ -1,0 +1,28 @@
+-- `acts::met` meets its contract: each branch is one case of the definition.
+-- Assumes nothing.
+use borrow.Author.Tests.{eq-eqb, ne-eqb}
+use Rattle.acts.specs.Votes.{meet}
+use borrow.Author.Needs.{needs}
+use Rattle.acts.proofs.met.Statement.{statement}
+use Rattle.acts.proofs.met.Tie as tie
+
+add-t4 : tie.Need-add-t4
+add-t4 c = search needs
+
+returns : tie.Need-returns
+unfolding meet
+returns c = simp (eq-eqb _ _ (c .before .if1 .taken))
+
+returns-2 : tie.Need-returns-2
+unfolding meet
+returns-2 c = simp (ne-eqb _ _ (c .before .before .if1 .left), eq-eqb _ _ (c .if2 .taken))
+
+sub-t5 : tie.Need-sub-t5
+sub-t5 c = search needs
+
+returns-3 : tie.Need-returns-3
+unfolding meet
+returns-3 c = simp (ne-eqb _ _ (c .before .before .before .if1 .left), ne-eqb _ _ (c .before .if2 .left))
+
+pub met-spec : {M : Type 1} → statement M
+met-spec = tie.close (tie.spec add-t4 returns returns-2 sub-t5 returns-3)

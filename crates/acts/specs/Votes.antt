@@ -1,0 +1,48 @@
+-- Votes of this view, slot by slot, and the one plan that may have a quorum of them (document 01, 'One pass', E to H).
+-- A quorum is more than half of the vaults. So votes for two plans are set off against each other, one by one: a plan that more
+-- than half are for is the one that leads in the end.
+-- Assumes nothing.
+use Prim.Native.Nat.{ℕ, zero, suc, _+_, _-_}
+use mathlib.Core.Bool.{Bool, cond, _&&_}
+use mathlib.Core.List.{List}
+use mathlib.Core.Option.{Option, none, some}
+use lib.Dec.{eqb}
+use Rattle.quorum.specs.Sets.{equals, isQuorum}
+use Rattle.rules.specs.Options.{holds}
+use Rattle.frame.specs.declared.Report.{Report}
+use Rattle.frame.specs.Refusal.{present}
+use Rattle.record.specs.Slots.{slotIn}
+use Rattle.protocol.specs.Record.{when}
+use Rattle.acts.specs.declared.Lead.{Lead}
+
+-- 'for this view': the plan of the vote in a slot, where that is of view v.
+unfoldable pub voted : ℕ → Report → Option ℕ
+voted v slot = when (present slot && eqb (slot .view) v) (some (slot .plan))
+
+-- The plans of the votes of view v that lie from a place on.
+abbrev pub votes : List ℕ → List ℕ → List ℕ → ℕ → ℕ → ℕ → Option ℕ
+votes marks views plans v from j = voted v (slotIn marks views plans (from + j))
+
+-- A vote for x: one more for the plan that leads, or one against it.
+unfoldable pub meet : Lead → ℕ → Lead
+meet b x =
+    cond (eqb x (b .plan)) (record { plan = x; by = b .by + 1 })
+    (cond (eqb (b .by) 0) (record { plan = x; by = 1 }) (record { plan = b .plan; by = b .by - 1 }))
+
+-- The plan that leads, once a vote, if there is one, has been met.
+abbrev pub after : Lead → Option ℕ → Lead
+after b none = b
+after b (some x) = meet b x
+
+-- The plan that leads among the first k votes.
+unfoldable pub leading : (ℕ → Option ℕ) → ℕ → Lead
+leading vote zero = record { plan = 0; by = 0 }
+leading vote (suc k) = after (leading vote k) (vote k)
+
+-- 'A quorum .. for this view and one plan'.
+abbrev pub quorumFor : (ℕ → Option ℕ) → ℕ → ℕ → ℕ → Bool
+quorumFor vote n f p = isQuorum (equals n f) (λ j. holds (eqb p) (vote j))
+
+-- The plan that leads, where a quorum is for it.
+unfoldable pub agreedIn : (ℕ → Option ℕ) → ℕ → ℕ → Option ℕ
+agreedIn vote n f = when (quorumFor vote n f (leading vote n .plan)) (some (leading vote n .plan))
