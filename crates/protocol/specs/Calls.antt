@@ -1,9 +1,9 @@
 -- Start, frame and timer, by contents (document 01, 'One pass' and 'Refusals, place by place').
 -- Rows 9 to 15 are in frame's table, and 1 and 3 are tests on bytes; the rest is here.
 -- Assumes nothing.
-use Prim.Native.Nat.{ℕ, zero, suc, _*_}
+use Prim.Native.Nat.{ℕ, zero, suc}
 use mathlib.Core.Path.{_≡_}
-use mathlib.Core.Bool.{Bool, cond, not, _||_}
+use mathlib.Core.Bool.{Bool, cond, not}
 use mathlib.Core.List.{List, [], _∷_}
 use mathlib.Core.Option.{Option, none, some}
 use lib.Dec.{leb, ltb, eqb}
