@@ -46,7 +46,7 @@ passWhole (and {s = s} {l = rest} law sure) r w =
         let (left, valid) = then (does r a) (actWhole w a (law .may r a e)) in
         (left, allJoin (writes r a) ((pass rest (does r a)) .wrote) (actValid w a (law .may r a e)) valid)
 
-freshWhole : (s : Settings) (p : ℕ) → first (settingRows s) ≡ 0 → p < 2 ^ 64 → Whole (fresh s p)
+pub freshWhole : (s : Settings) (p : ℕ) → first (settingRows s) ≡ 0 → p < 2 ^ 64 → Whole (fresh s p)
 unfolding badPrevious
 freshWhole s p given low = record {
   sound = record { settings = given; kept = λ k j x e. absurd (none≢some e); own = λ k x e. absurd (none≢some e); previous = λ k has. refl };
@@ -64,7 +64,7 @@ readInRow s x read = record {
   leader = read .leader;
 }
 
-heardWhole : (r : Record) (x : Frame) → Readable (r .set .n) (r .set .id) x → Whole r → Whole (keep x r)
+pub heardWhole : (r : Record) (x : Frame) → Readable (r .set .n) (r .set .id) x → Whole r → Whole (keep x r)
 unfolding keep
 heardWhole r x read w = record {
   sound = record {
