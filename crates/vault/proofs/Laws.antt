@@ -1,0 +1,145 @@
+-- What a call leaves, by the test that decides it (document 01, 'Refusals, place by place'): a law for each refusal, and one for the
+-- accepted call, whose record is clean, so that its slots are those that its contents fill.
+-- Assumes nothing.
+use Prim.Native.Nat.{ℕ, zero, suc, _+_, _^_, _≤_, _<_}
+use mathlib.Core.Path.{_≡_, refl, sym, _∙_, ap, subst}
+use mathlib.Core.Bool.{Bool, true, false, cond}
+use mathlib.Core.List.{List, _++_}
+use mathlib.Core.Option.{Option, none, some}
+use native.Mathlib.Omega.{arith}
+use lib.ListN.{length, length-append}
+use lib.Dec.{eqb}
+use borrow.Author.Tests.{lt-ltb, le-ltb, eqb-true}
+use Rattle.wire.specs.Placed.{placed}
+use Rattle.wire.proofs.Output.{placed-more, length-placed}
+use Rattle.frame.specs.Refusal.{first}
+use Rattle.entry.specs.declared.Entry.{Entry}
+use Rattle.entry.specs.Layout.{entryBytes, layout}
+use Rattle.entry.proofs.Theorems.{entry-length}
+use Rattle.record.specs.declared.Record as slots
+use Rattle.record.specs.Slots.{fresh}
+use Rattle.layout.specs.Layout.{encodeRecord, decodeRecord}
+use Rattle.sound.specs.declared.Lent.{Lent}
+use Rattle.sound.specs.declared.Lent.the-variants.{Blank, Unsound, Sound}
+use Rattle.sound.specs.Sound.{sound, lentIs}
+use Rattle.protocol.specs.Record.{Settings, Record}
+use Rattle.protocol.specs.Pass.{Out, pass, fromC, timerEntry}
+use Rattle.protocol.specs.Calls as calls
+use Rattle.protocol.specs.Calls.{settingRows, started, start, unless, accepted, refused, answer}
+use Rattle.protocol.proofs.Sound.{Whole}
+use Rattle.protocol.proofs.Proper.{freshWhole}
+use Rattle.protocol.proofs.Size.{outputShort}
+use Rattle.contents.specs.Contents.{contents, slotted, Clean}
+use Rattle.contents.specs.Calls.{Left, wrote, gave, after, onLent, called, startLeft}
+use Rattle.contents.proofs.Parts.{contentsFresh, cleanFresh}
+use Rattle.contents.proofs.Slotted.{slottedContents}
+use Rattle.pass.specs.declared.Passed.{Passed}
+use Rattle.pass.specs.Steps.{Ready, Room, Ran}
+
+-- ---- a fresh record
+
+module _ (n f id class plan : ℕ) (given : first (settingRows (record { n = n; f = f; id = id; class = class })) ≡ 0) where
+  abbrev settings : Settings
+  settings = record { n = n; f = f; id = id; class = class }
+
+  abbrev state : slots.Record
+  state = fresh n f id class plan
+
+  pub readyFresh : plan < 2 ^ 64 → (r : slots.Record) → r ≡ state → Ready r
+  readyFresh low r e = subst Ready (sym e) (record { clean = cleanFresh n f id class plan; sound = whole .sound; ranged = whole .ranged })
+    where
+      whole : Whole (contents state)
+      whole = subst Whole (sym (contentsFresh n f id class plan)) (freshWhole settings plan given low)
+
+  startShort : length (layout ((started settings plan) .wrote)) ≤ 205
+  unfolding answer
+  startShort = outputShort none (start settings plan) (started settings plan) accepts
+    where
+      accepts : answer none (start settings plan) ≡ accepted (started settings plan)
+      accepts = ap (λ (k : ℕ). unless k (started settings plan)) given
+
+  abbrev rest : Out
+  rest = pass fromC (calls.fresh settings plan)
+
+  abbrev timer0 : Entry
+  timer0 = timerEntry (calls.fresh settings plan) 0
+
+  startSize : length (entryBytes timer0) + length (layout (rest .wrote)) ≤ 205
+  unfolding started
+  startSize = omega (arith, startShort, length-append (entryBytes timer0) (layout (rest .wrote)))
+
+  module _ (r : slots.Record) (er : r ≡ state) (t : Entry) (et : t ≡ timer0) (at : ℕ) (ea : at ≡ 0 + length (entryBytes t)) (o o' : List ℕ)
+      (eo : o' ≡ placed o 0 (entryBytes t)) (room : 256 ≤ length o) where
+    here : contents r ≡ calls.fresh settings plan
+    here = ap contents er ∙ contentsFresh n f id class plan
+
+    sameSize : length o' ≡ length o
+    sameSize = ap length eo ∙ length-placed o 0 (entryBytes t) (omega (arith, room, entry-length t .1))
+
+    pub beginRoom : Room (pass fromC (contents r)) at o'
+    beginRoom =
+        subst (λ (x : Record). Room (pass fromC x) at o') (sym here)
+        (omega (arith, ea, ap (λ (e : Entry). length (entryBytes e)) et, startSize, sameSize, room))
+
+    pub beginRan : (p : Passed) (o'' : List ℕ) → Ran (pass fromC (contents r)) at o' o'' p → Ran (started settings plan) 0 o o'' p
+    unfolding started
+    beginRan p o'' ran = record {
+      left = next .left;
+      ready = next .ready;
+      count = omega (arith, next .count, ea, ap (λ (e : Entry). length (entryBytes e)) et, length-append (entryBytes timer0) (layout (rest .wrote)));
+      bytes = next .bytes ∙ (λ i. placed (eo i) (ea i) (layout (rest .wrote))) ∙ placed-more o 0 (entryBytes t) (layout (rest .wrote)) (omega arith)
+          ∙ ap (λ (e : Entry). placed o 0 (entryBytes e ++ layout (rest .wrote))) et;
+    }
+      where
+        next : Ran rest at o' o'' p
+        next = subst (λ (x : Record). Ran (pass fromC x) at o' o'' p) here ran
+
+-- ---- what a call leaves
+
+pub acceptedLeft : (o : Out) (p : Passed) (rec rec' out out' : List ℕ) → Ran o 0 out out' p → rec' ≡ encodeRecord (p .left)
+    → wrote (p .count) rec' out' ≡ after rec out (accepted o)
+acceptedLeft o p rec rec' out out' ran e =
+    let held : rec' ≡ encodeRecord (slotted (o .left)) = e ∙ ap encodeRecord (sym (slottedContents (p .left) (ran .ready .clean)) ∙ ap slotted (ran .left)) in
+    let n : p .count ≡ length (layout (o .wrote)) = omega (arith, ran .count) in
+    λ i. wrote (n i) (held i) (ran .bytes i)
+
+pub blankLength : (rec : List ℕ) → lentIs rec ≡ Blank → length rec ≡ 11703
+unfolding lentIs
+blankLength rec e = go (eqb (length rec) 11703) refl e
+  where
+    go : (b : Bool) → eqb (length rec) 11703 ≡ b
+        → cond b (cond (eqb (decodeRecord rec .n) 0) Blank (cond (sound (decodeRecord rec)) Sound Unsound)) Unsound ≡ Blank → length rec ≡ 11703
+    go true is e = eqb-true (length rec) 11703 is
+    go false is e = let z : _≡_ {A = ℕ} 0 1 = cc in absurd (omega arith)
+
+module _ (s : Settings) (plan : ℕ) (rec out : List ℕ) where
+  pub startRefused : (k : ℕ) → k ≡ first (settingRows s) → (k ≡ 0 → ⊥) → gave k rec out ≡ after rec out (answer none (start s plan))
+  unfolding answer
+  startRefused zero e given = absurd (given refl)
+  startRefused (suc k) e given = ap (λ (j : ℕ). after rec out (unless j (started s plan))) e
+
+  pub startAccepted : first (settingRows s) ≡ 0 → after rec out (accepted (started s plan)) ≡ after rec out (answer none (start s plan))
+  unfolding answer
+  startAccepted e = ap (λ (j : ℕ). after rec out (unless j (started s plan))) (sym e)
+
+module _ (rec : List ℕ) (n f id class plan : ℕ) (out : List ℕ) where
+  abbrev call : calls.Call
+  call = start (record { n = n; f = f; id = id; class = class }) plan
+
+  pub startShort1 : length out < 256 → gave 1 rec out ≡ startLeft rec n f id class plan out
+  unfolding startLeft called
+  startShort1 low = rw (lt-ltb (length out) 256 low)
+
+  startLent : 256 ≤ length out → (l : Lent) → lentIs rec ≡ l → startLeft rec n f id class plan out ≡ after rec out (onLent l 4 (contents (decodeRecord rec)) call)
+  unfolding startLeft called
+  startLent room l e = rw (le-ltb (length out) 256 room, e)
+
+  pub startBlank : 256 ≤ length out → lentIs rec ≡ Blank → after rec out (answer none call) ≡ startLeft rec n f id class plan out
+  startBlank room e = sym (startLent room Blank e)
+
+  pub startUnsound : 256 ≤ length out → lentIs rec ≡ Unsound → gave 4 rec out ≡ startLeft rec n f id class plan out
+  startUnsound room e = sym (startLent room Unsound e)
+
+  pub startSound : 256 ≤ length out → lentIs rec ≡ Sound → gave 4 rec out ≡ startLeft rec n f id class plan out
+  unfolding answer
+  startSound room e = sym (startLent room Sound e)
