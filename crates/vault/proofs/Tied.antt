@@ -1,0 +1,21 @@
+-- Whoever calls learns what the paper fixes: the contract of each call, as its caller reads it, names the answer and every byte of
+-- record and output. Crate tied builds document 01's runs from the same contracts; here a contract that says less is refused at once.
+-- Assumes nothing.
+use Prim.Native.Nat.{ℕ}
+use mathlib.Core.Path.{_≡_}
+use mathlib.Core.List.{List}
+use contract.Lifetimes.{Lfts}
+use denote.Ref.{RefT, now, at-last}
+use Rattle.contents.specs.Calls.{startLeft}
+use Rattle.vault.specs.declared.Answer.{Answer}
+use Rattle.vault.specs.Answers.{leftBy}
+use Rattle.vault.proofs.start.Reads as ofStart
+
+-- Start asks for nothing of what it is lent.
+startTakes : (κs : Lfts 2) (r o : RefT (List ℕ)) (n f id class plan : ℕ) → ofStart.Asked κs (r, (n, (f, (id, (class, (plan, (o, tt)))))))
+startTakes κs r o n f id class plan = tt
+
+startSaid : (κs : Lfts 2) (r o : RefT (List ℕ)) (n f id class plan : ℕ) (a : Answer) (rec out : List ℕ)
+    → ofStart.Learnt κs (r, (n, (f, (id, (class, (plan, (o, tt))))))) a (at-last r rec, (n, (f, (id, (class, (plan, (at-last o out, tt)))))))
+    → leftBy a rec out ≡ startLeft (now r) n f id class plan (now o)
+startSaid κs r o n f id class plan a rec out learnt = learnt
