@@ -6,10 +6,11 @@ use mathlib.Core.Path.{_≡_}
 use mathlib.Core.List.{List}
 use contract.Lifetimes.{Lfts}
 use denote.Ref.{RefT, now, at-last}
-use Rattle.contents.specs.Calls.{startLeft}
+use Rattle.contents.specs.Calls.{startLeft, frameLeft}
 use Rattle.vault.specs.declared.Answer.{Answer}
 use Rattle.vault.specs.Answers.{leftBy}
 use Rattle.vault.proofs.start.Reads as ofStart
+use Rattle.vault.proofs.frame.Reads as ofFrame
 
 -- Start asks for nothing of what it is lent.
 startTakes : (κs : Lfts 2) (r o : RefT (List ℕ)) (n f id class plan : ℕ) → ofStart.Asked κs (r, (n, (f, (id, (class, (plan, (o, tt)))))))
@@ -19,3 +20,12 @@ startSaid : (κs : Lfts 2) (r o : RefT (List ℕ)) (n f id class plan : ℕ) (a 
     → ofStart.Learnt κs (r, (n, (f, (id, (class, (plan, (o, tt))))))) a (at-last r rec, (n, (f, (id, (class, (plan, (at-last o out, tt)))))))
     → leftBy a rec out ≡ startLeft (now r) n f id class plan (now o)
 startSaid κs r o n f id class plan a rec out learnt = learnt
+
+-- So does frame.
+frameTakes : (κs : Lfts 3) (r s o : RefT (List ℕ)) (link : ℕ) → ofFrame.Asked κs (r, (link, (s, (o, tt))))
+frameTakes κs r s o link = tt
+
+frameSaid : (κs : Lfts 3) (r s o : RefT (List ℕ)) (link : ℕ) (a : Answer) (rec out : List ℕ)
+    → ofFrame.Learnt κs (r, (link, (s, (o, tt)))) a (at-last r rec, (link, (s, (at-last o out, tt))))
+    → leftBy a rec out ≡ frameLeft (now r) link (now s) (now o)
+frameSaid κs r s o link a rec out learnt = learnt

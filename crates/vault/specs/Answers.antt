@@ -2,8 +2,9 @@
 -- Assumes nothing.
 use Prim.Native.Nat.{ℕ}
 use mathlib.Core.List.{List}
+use Rattle.frame.specs.declared.Reading.{Reading}
 use Rattle.protocol.specs.Record.{Settings}
-use Rattle.protocol.specs.Calls.{Call, start}
+use Rattle.protocol.specs.Calls.{Call, start, frame}
 use Rattle.contents.specs.Calls.{Left, wrote, gave}
 use Rattle.vault.specs.declared.Answer.{Answer}
 use Rattle.vault.specs.declared.Answer.the-variants.{Written, Refused}
@@ -16,3 +17,7 @@ leftBy (Refused k) rec out = gave k rec out
 -- 'Start': the call, with settings and a starting plan.
 abbrev pub begins : Settings → ℕ → Call
 begins s p = start s p
+
+-- 'Frame': the call, with what the frame reader answers.
+abbrev pub hears : Reading → Call
+hears x = frame x

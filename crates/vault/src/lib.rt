@@ -1,19 +1,25 @@
 // The vault's calls on lent bytes: the record's bytes before and after, and the output's.
 use entry::Entry;
+use frame::Frame;
+use frame::Reading;
 use pass::Passed;
+use record::Record;
 use sound::Lent;
 ghost use Prim.Native.Nat.{_≤_, _<_};
 ghost use mathlib.Core.Path.{_≡_};
 ghost use lib.ListN.{length};
-ghost use Rattle.frame.specs.Refusal.{first};
+ghost use Rattle.frame.specs.declared.Reading.the-variants.{Accepted};
+ghost use Rattle.frame.specs.Refusal.{first, readFrame};
 ghost use Rattle.settings.specs.Settings.{settingRows};
-ghost use mathlib.Core.Option.{none};
-ghost use Rattle.sound.specs.declared.Lent.the-variants.{Blank};
+ghost use mathlib.Core.Option.{none, some};
+ghost use Rattle.layout.specs.Layout.{decodeRecord};
+ghost use Rattle.sound.specs.declared.Lent.the-variants.{Blank, Sound};
 ghost use Rattle.sound.specs.Sound.{lentIs};
-ghost use Rattle.protocol.specs.Calls.{started, answer};
-ghost use Rattle.contents.specs.Calls.{after, startLeft};
-ghost use Rattle.pass.specs.Steps.{Ran};
-ghost use Rattle.vault.specs.Answers.{leftBy, begins};
+ghost use Rattle.protocol.specs.Calls.{Readable, recordRows, started, heard, answer};
+ghost use Rattle.contents.specs.Contents.{contents};
+ghost use Rattle.contents.specs.Calls.{after, startLeft, frameLeft};
+ghost use Rattle.pass.specs.Steps.{Ready, Ran};
+ghost use Rattle.vault.specs.Answers.{leftBy, begins, hears};
 
 // What a call answers: how many bytes it wrote, or the number of a refusal.
 pub enum Answer {
@@ -59,5 +65,65 @@ pub fn start(rec: &mut [u8], n: u8, f: u8, id: u8, class: u8, plan: u64, out: &m
         Lent::Blank => start_blank(rec, n, f, id, class, plan, out),
         Lent::Unsound => Answer::Refused(4),
         Lent::Sound => Answer::Refused(4),
+    }
+}
+
+// The frame is kept in its sender's row; then one pass from A.
+fn hear(r: Record, f: Frame, out: &mut [u8]) -> Passed
+    requires { ⌜ Ready r × Readable (r .n) (r .id) f × (first (recordRows (contents r) f) ≡ 0) × (256 ≤ length (now out)) ⌝ }
+    ensures { λ p. ⌜ Ran (heard (contents r) f) 0 (now (out .entry)) (now (out .exit)) p ⌝ }
+{
+    let held = kept::keep(r, f.sender, f);
+    pass::pass_a(held, out, 0)
+}
+
+// A frame that the reader accepted, against the record that the bytes hold.
+fn frame_read(rec: &mut [u8], r: Record, f: Frame, out: &mut [u8]) -> Answer
+    requires { ⌜ Ready r × Readable (r .n) (r .id) f × (length (now rec) ≡ 11703) × (256 ≤ length (now out)) ⌝ }
+    ensures { λ a. ⌜ leftBy a (now (rec .exit)) (now (out .exit)) ≡ after (now (rec .entry)) (now (out .entry)) (answer (some (contents r)) (hears (Accepted f))) ⌝ }
+{
+    let why = keeping::keep_refusal(
+        &r.marks,
+        &r.views,
+        &r.plans,
+        r.view,
+        f.sender,
+        f.kind,
+        f.view,
+    );
+    if why != 0 {
+        return Answer::Refused(why);
+    }
+    let p = hear(r, f, out);
+    let left = p.left;
+    layout::encode(left, rec);
+    Answer::Written(p.count)
+}
+
+// Frame on a sound record. The reader's refusal is passed on, with the record unchanged.
+fn frame_sound(rec: &mut [u8], sender: u8, bytes: &[u8], out: &mut [u8]) -> Answer
+    requires { ⌜ (lentIs (now rec) ≡ Sound) × (256 ≤ length (now out)) ⌝ }
+    ensures { λ a. ⌜ leftBy a (now (rec .exit)) (now (out .exit)) ≡ after (now (rec .entry)) (now (out .entry)) (answer (some (contents (decodeRecord (now (rec .entry))))) (hears (readFrame (now (bytes .entry)) sender (decodeRecord (now (rec .entry)) .n) (decodeRecord (now (rec .entry)) .id)))) ⌝ }
+{
+    let r = layout::decode(rec);
+    let got = reader::read(bytes, sender, r.n, r.id);
+    let Reading::Accepted(f) = got else {
+        return Answer::Refused(frame::refusal_of(got));
+    };
+    frame_read(rec, r, f, out)
+}
+
+// Frame: bytes that came over the link from a sender.
+pub fn frame(rec: &mut [u8], sender: u8, bytes: &[u8], out: &mut [u8]) -> Answer
+    ensures { λ r. ⌜ leftBy r (now (rec .exit)) (now (out .exit)) ≡ frameLeft (now (rec .entry)) sender (now (bytes .entry)) (now (out .entry)) ⌝ }
+{
+    if out.len() < 256 {
+        return Answer::Refused(1);
+    }
+    let lent = sound::classify(rec);
+    match lent {
+        Lent::Blank => Answer::Refused(2),
+        Lent::Unsound => Answer::Refused(3),
+        Lent::Sound => frame_sound(rec, sender, bytes, out),
     }
 }

@@ -1,0 +1,77 @@
+-- `vault::frame_sound` meets its contract: by what the frame reader answers.
+-- Assumes nothing.
+use mathlib.Core.Path.{_∙_}
+use denote.Ref.{now}
+use Rattle.wire.specs.Fields.{Bytes}
+use Rattle.vault.proofs.Heard.{soundLength, readRefused, readAccepted, readReady, readReadable}
+use borrow.Author.Needs.{needs}
+use Rattle.vault.proofs.frame_sound.Statement.{statement}
+use Rattle.vault.proofs.frame_sound.Tie as tie
+
+decode-requires : tie.Need-decode-requires
+decode-requires c κs = let s = c .before .before .before .before in soundLength (now (s .args .rec)) (s .pre .0)
+
+read-requires : tie.Need-read-requires
+read-requires c κs = search needs
+
+enum-known-got : tie.Need-enum-known-got
+enum-known-got c = search needs
+
+enum-told : tie.Need-enum-told
+enum-told c = search needs
+
+refusal-of-requires : tie.Need-refusal-of-requires
+refusal-of-requires c κs = search needs
+
+same-length : tie.Need-same-length
+same-length c = search needs
+
+returns : tie.Need-returns
+returns c = let s = c .before .before .before .before .before .before .before .before .before in
+    let d = c .before .before .before .before .decode in
+    let x = c .before .before .before .read in
+    let g = c .before .enum-told .given in
+    readRefused (now (s .args .rec)) (now (s .args .bytes)) (s .args .sender) (d .result) (d .ensures) (x .result) (x .ensures) (g .0 .0) (g .1) (c .refusal-of .result) (c .refusal-of .ensures) (now (s .args .out))
+
+frame-read-requires : tie.Need-frame-read-requires
+frame-read-requires c κs = let s = c .before .before .before .before .before .before .before .before .before .before .before in
+    let d = c .before .before .before .before .before .before .decode in
+    let x = c .before .before .before .before .before .read in
+    let g = c .before .before .before .got .given in
+    let rec : Bytes (now (s .args .rec)) = λ i. c .before .before .before .before .before .before .before .before .before .before .slice-known .given i .fits in
+    let bytes : Bytes (now (s .args .bytes)) = λ i. c .before .before .before .before .before .before .before .before .before .shared-slice-known .given i .fits in (
+      readReady (now (s .args .rec)) (now (s .args .bytes)) (s .args .sender) (d .result) (d .ensures) (x .result) (x .ensures) rec (s .pre .0),
+      readReadable (now (s .args .rec)) (now (s .args .bytes)) (s .args .sender) (d .result) (d .ensures) (x .result) (x .ensures) bytes (g .0 .0) (g .1),
+      soundLength (now (s .args .rec)) (s .pre .0),
+      s .pre .1,
+    )
+
+same-length-2 : tie.Need-same-length-2
+same-length-2 c = search needs
+
+same-length-3 : tie.Need-same-length-3
+same-length-3 c = search needs
+
+returns-2 : tie.Need-returns-2
+returns-2 c = let s = c .before .before .before .before .before .before .before .before .before .before .before .before .before .before .before .before in
+    let d = c .before .before .before .before .before .before .before .before .before .before .before .decode in
+    let x = c .before .before .before .before .before .before .before .before .before .before .read in
+    let g = c .before .before .before .before .before .before .before .before .got .given in
+    c .before .before .before .before .frame-read .ensures
+    ∙ readAccepted (now (s .args .rec)) (now (s .args .bytes)) (s .args .sender) (d .result) (d .ensures) (x .result) (x .ensures) (g .0 .0) (g .1) (now (s .args .out))
+
+pub frame-sound-spec : {M : Type 1} → statement M
+frame-sound-spec =
+    tie.close
+    (tie.spec
+    decode-requires
+    read-requires
+    enum-known-got
+    enum-told
+    refusal-of-requires
+    same-length
+    returns
+    frame-read-requires
+    same-length-2
+    same-length-3
+    returns-2)
