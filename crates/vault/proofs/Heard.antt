@@ -47,32 +47,7 @@ use Rattle.acts.proofs.Kept.{keptAt}
 use Rattle.pass.specs.declared.Passed.{Passed}
 use Rattle.pass.specs.Steps.{Ready, Room, Ran}
 use Rattle.pass.proofs.Steps.{seatOf}
-
--- ---- shared with timer
-
--- Any call: 'output space below 256 bytes' is tested first, and then the record.
-module _ (k : ℕ) (rec out : List ℕ) (a : Call) where
-  pub calledShort : length out < 256 → gave 1 rec out ≡ called k rec out a
-  unfolding called
-  calledShort low = rw (lt-ltb (length out) 256 low)
-
-  pub calledLent : 256 ≤ length out → (l : Lent) → lentIs rec ≡ l → called k rec out a ≡ after rec out (onLent l k (contents (decodeRecord rec)) a)
-  unfolding called
-  calledLent room l e = rw (le-ltb (length out) 256 room, e)
-
--- A sound record has its length.
-pub soundLength : (rec : List ℕ) → lentIs rec ≡ Sound → length rec ≡ 11703
-unfolding lentIs
-soundLength rec e = go (eqb (length rec) 11703) refl e
-  where
-    go : (b : Bool) → eqb (length rec) 11703 ≡ b
-        → cond b (cond (eqb (decodeRecord rec .n) 0) Blank (cond (sound (decodeRecord rec)) Sound Unsound)) Unsound ≡ Sound → length rec ≡ 11703
-    go true is e = eqb-true (length rec) 11703 is
-    go false is e = let z : _≡_ {A = ℕ} 0 1 = cc in absurd (omega arith)
-
--- Lent bytes that are sound hold a record that calls leave.
-pub soundReady : (rec : List ℕ) → Bytes rec → lentIs rec ≡ Sound → Ready (decodeRecord rec)
-soundReady rec known is = let (clean, sound, ranged) = soundRead rec known is in record { clean = clean; sound = sound; ranged = ranged }
+use Rattle.vault.proofs.Laws.{soundReady, refusedBy, acceptedBy, calledShort, calledLent}
 
 -- ---- rows 16 and 17
 
@@ -123,15 +98,11 @@ module _ (r : slots.Record) (f : Frame) (at : Place (f .kind) (f .sender)) (k : 
 
   pub rowsRefused : (rec out : List ℕ) → (k ≡ 0 → ⊥) → gave k rec out ≡ after rec out (answer (some (contents r)) (frame (Accepted f)))
   unfolding answer
-  rowsRefused rec out given = go k given ∙ ap (λ (j : ℕ). after rec out (unless j (heard (contents r) f))) (is ∙ rowsContents r f at)
-    where
-      go : (k : ℕ) → (k ≡ 0 → ⊥) → gave k rec out ≡ after rec out (unless k (heard (contents r) f))
-      go zero given = absurd (given refl)
-      go (suc k) given = refl
+  rowsRefused rec out given = refusedBy rec out (heard (contents r) f) (first (recordRows (contents r) f)) k (is ∙ rowsContents r f at) given
 
   pub rowsAccepted : (rec out : List ℕ) → k ≡ 0 → after rec out (accepted (heard (contents r) f)) ≡ after rec out (answer (some (contents r)) (frame (Accepted f)))
   unfolding answer
-  rowsAccepted rec out e = ap (λ (j : ℕ). after rec out (unless j (heard (contents r) f))) (sym (rowsPass e))
+  rowsAccepted rec out e = acceptedBy rec out (heard (contents r) f) (first (recordRows (contents r) f)) (rowsPass e)
 
 -- ---- a frame that the reader accepted
 
@@ -215,12 +186,12 @@ module _ (rec : List ℕ) (link : ℕ) (bytes out : List ℕ) where
 
   pub frameBlank : 256 ≤ length out → lentIs rec ≡ Blank → gave 2 rec out ≡ frameLeft rec link bytes out
   unfolding frameLeft answer
-  frameBlank room e = sym (calledLent 3 rec out (frame reading) room Blank e)
+  frameBlank room e = calledLent 3 rec out (frame reading) room Blank e
 
   pub frameUnsound : 256 ≤ length out → lentIs rec ≡ Unsound → gave 3 rec out ≡ frameLeft rec link bytes out
   unfolding frameLeft
-  frameUnsound room e = sym (calledLent 3 rec out (frame reading) room Unsound e)
+  frameUnsound room e = calledLent 3 rec out (frame reading) room Unsound e
 
   pub frameSound : 256 ≤ length out → lentIs rec ≡ Sound → after rec out (answer (some (contents (decodeRecord rec))) (frame reading)) ≡ frameLeft rec link bytes out
   unfolding frameLeft
-  frameSound room e = sym (calledLent 3 rec out (frame reading) room Sound e)
+  frameSound room e = calledLent 3 rec out (frame reading) room Sound e

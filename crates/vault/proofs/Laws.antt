@@ -1,15 +1,17 @@
--- What a call leaves, by the test that decides it (document 01, 'Refusals, place by place'): a law for each refusal, and one for the
--- accepted call, whose record is clean, so that its slots are those that its contents fill.
+-- What a call leaves, by the test that decides it (document 01, 'Refusals, place by place'): of any call, by the output's space, by
+-- what the record is, by the number that a table gives; and of the accepted call, whose record is clean, so that its slots are
+-- those that its contents fill. Then the same for start.
 -- Assumes nothing.
 use Prim.Native.Nat.{ℕ, zero, suc, _+_, _^_, _≤_, _<_}
 use mathlib.Core.Path.{_≡_, refl, sym, _∙_, ap, subst}
 use mathlib.Core.Bool.{Bool, true, false, cond}
 use mathlib.Core.List.{List, _++_}
-use mathlib.Core.Option.{Option, none, some}
+use mathlib.Core.Option.{none}
 use native.Mathlib.Omega.{arith}
 use lib.ListN.{length, length-append}
 use lib.Dec.{eqb}
 use borrow.Author.Tests.{lt-ltb, le-ltb, eqb-true}
+use Rattle.wire.specs.Fields.{Bytes}
 use Rattle.wire.specs.Placed.{placed}
 use Rattle.wire.proofs.Output.{placed-more, length-placed}
 use Rattle.frame.specs.Refusal.{first}
@@ -25,14 +27,15 @@ use Rattle.sound.specs.Sound.{sound, lentIs}
 use Rattle.protocol.specs.Record.{Settings, Record}
 use Rattle.protocol.specs.Pass.{Out, pass, fromC, timerEntry}
 use Rattle.protocol.specs.Calls as calls
-use Rattle.protocol.specs.Calls.{settingRows, started, start, unless, accepted, refused, answer}
+use Rattle.protocol.specs.Calls.{settingRows, started, start, unless, accepted, answer}
 use Rattle.protocol.proofs.Sound.{Whole}
 use Rattle.protocol.proofs.Proper.{freshWhole}
 use Rattle.protocol.proofs.Size.{outputShort}
-use Rattle.contents.specs.Contents.{contents, slotted, Clean}
-use Rattle.contents.specs.Calls.{Left, wrote, gave, after, onLent, called, startLeft}
+use Rattle.contents.specs.Contents.{contents, slotted}
+use Rattle.contents.specs.Calls.{wrote, gave, after, onLent, called, startLeft}
 use Rattle.contents.proofs.Parts.{contentsFresh, cleanFresh}
 use Rattle.contents.proofs.Slotted.{slottedContents}
+use Rattle.contents.proofs.Sound.{soundRead}
 use Rattle.pass.specs.declared.Passed.{Passed}
 use Rattle.pass.specs.Steps.{Ready, Room, Ran}
 
@@ -94,6 +97,31 @@ module _ (n f id class plan : ℕ) (given : first (settingRows (record { n = n; 
         next : Ran rest at o' o'' p
         next = subst (λ (x : Record). Ran (pass fromC x) at o' o'' p) here ran
 
+-- ---- a record that is lent
+
+module _ (rec : List ℕ) where
+  -- Only an unsound record has another length.
+  lentLength : (l : Lent) → lentIs rec ≡ l → (Unsound ≡ l → ⊥) → length rec ≡ 11703
+  unfolding lentIs
+  lentLength l e known = go (eqb (length rec) 11703) refl e
+    where
+      go : (b : Bool) → eqb (length rec) 11703 ≡ b
+          → cond b (cond (eqb (decodeRecord rec .n) 0) Blank (cond (sound (decodeRecord rec)) Sound Unsound)) Unsound ≡ l → length rec ≡ 11703
+      go true is e = eqb-true (length rec) 11703 is
+      go false is e = absurd (known e)
+
+  pub blankLength : lentIs rec ≡ Blank → length rec ≡ 11703
+  blankLength e = lentLength Blank e (λ (u : Unsound ≡ Blank). let z : _≡_ {A = ℕ} 0 1 = cc in omega arith)
+
+  pub soundLength : lentIs rec ≡ Sound → length rec ≡ 11703
+  soundLength e = lentLength Sound e (λ (u : Unsound ≡ Sound). let z : _≡_ {A = ℕ} 0 1 = cc in omega arith)
+
+  -- A sound record is one that calls leave.
+  pub soundReady : Bytes rec → lentIs rec ≡ Sound → Ready (decodeRecord rec)
+  soundReady bytes e =
+      let (clean, held, ranged) = soundRead rec bytes e in
+      record { clean = clean; sound = held; ranged = ranged }
+
 -- ---- what a call leaves
 
 pub acceptedLeft : (o : Out) (p : Passed) (rec rec' out out' : List ℕ) → Ran o 0 out out' p → rec' ≡ encodeRecord (p .left)
@@ -103,43 +131,52 @@ acceptedLeft o p rec rec' out out' ran e =
     let n : p .count ≡ length (layout (o .wrote)) = omega (arith, ran .count) in
     λ i. wrote (n i) (held i) (ran .bytes i)
 
-pub blankLength : (rec : List ℕ) → lentIs rec ≡ Blank → length rec ≡ 11703
-unfolding lentIs
-blankLength rec e = go (eqb (length rec) 11703) refl e
-  where
-    go : (b : Bool) → eqb (length rec) 11703 ≡ b
-        → cond b (cond (eqb (decodeRecord rec .n) 0) Blank (cond (sound (decodeRecord rec)) Sound Unsound)) Unsound ≡ Blank → length rec ≡ 11703
-    go true is e = eqb-true (length rec) 11703 is
-    go false is e = let z : _≡_ {A = ℕ} 0 1 = cc in absurd (omega arith)
+-- By a table of refusals: the number k that it gives, 0 where it gives none.
+module _ (rec out : List ℕ) (o : Out) (k : ℕ) where
+  pub refusedBy : (j : ℕ) → j ≡ k → (j ≡ 0 → ⊥) → gave j rec out ≡ after rec out (unless k o)
+  refusedBy zero e given = absurd (given refl)
+  refusedBy (suc j) e given = ap (λ (i : ℕ). after rec out (unless i o)) e
+
+  pub acceptedBy : k ≡ 0 → after rec out (accepted o) ≡ after rec out (unless k o)
+  acceptedBy e = ap (λ (i : ℕ). after rec out (unless i o)) (sym e)
+
+-- Any call: 'output space below 256 bytes' first, then by what the record is.
+module _ (k : ℕ) (rec out : List ℕ) (a : calls.Call) where
+  pub calledShort : length out < 256 → gave 1 rec out ≡ called k rec out a
+  unfolding called
+  calledShort low = rw (lt-ltb (length out) 256 low)
+
+  pub calledLent : 256 ≤ length out → (l : Lent) → lentIs rec ≡ l → after rec out (onLent l k (contents (decodeRecord rec)) a) ≡ called k rec out a
+  unfolding called
+  calledLent room l e = sym (rw (le-ltb (length out) 256 room, e))
+
+-- ---- start
 
 module _ (s : Settings) (plan : ℕ) (rec out : List ℕ) where
   pub startRefused : (k : ℕ) → k ≡ first (settingRows s) → (k ≡ 0 → ⊥) → gave k rec out ≡ after rec out (answer none (start s plan))
   unfolding answer
-  startRefused zero e given = absurd (given refl)
-  startRefused (suc k) e given = ap (λ (j : ℕ). after rec out (unless j (started s plan))) e
+  startRefused = refusedBy rec out (started s plan) (first (settingRows s))
 
   pub startAccepted : first (settingRows s) ≡ 0 → after rec out (accepted (started s plan)) ≡ after rec out (answer none (start s plan))
   unfolding answer
-  startAccepted e = ap (λ (j : ℕ). after rec out (unless j (started s plan))) (sym e)
+  startAccepted = acceptedBy rec out (started s plan) (first (settingRows s))
 
 module _ (rec : List ℕ) (n f id class plan : ℕ) (out : List ℕ) where
   abbrev call : calls.Call
   call = start (record { n = n; f = f; id = id; class = class }) plan
 
   pub startShort1 : length out < 256 → gave 1 rec out ≡ startLeft rec n f id class plan out
-  unfolding startLeft called
-  startShort1 low = rw (lt-ltb (length out) 256 low)
-
-  startLent : 256 ≤ length out → (l : Lent) → lentIs rec ≡ l → startLeft rec n f id class plan out ≡ after rec out (onLent l 4 (contents (decodeRecord rec)) call)
-  unfolding startLeft called
-  startLent room l e = rw (le-ltb (length out) 256 room, e)
+  unfolding startLeft
+  startShort1 = calledShort 4 rec out call
 
   pub startBlank : 256 ≤ length out → lentIs rec ≡ Blank → after rec out (answer none call) ≡ startLeft rec n f id class plan out
-  startBlank room e = sym (startLent room Blank e)
+  unfolding startLeft
+  startBlank room = calledLent 4 rec out call room Blank
 
   pub startUnsound : 256 ≤ length out → lentIs rec ≡ Unsound → gave 4 rec out ≡ startLeft rec n f id class plan out
-  startUnsound room e = sym (startLent room Unsound e)
+  unfolding startLeft
+  startUnsound room = calledLent 4 rec out call room Unsound
 
   pub startSound : 256 ≤ length out → lentIs rec ≡ Sound → gave 4 rec out ≡ startLeft rec n f id class plan out
-  unfolding answer
-  startSound room e = sym (startLent room Sound e)
+  unfolding startLeft answer
+  startSound room = calledLent 4 rec out call room Sound

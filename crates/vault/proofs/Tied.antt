@@ -6,11 +6,12 @@ use mathlib.Core.Path.{_≡_}
 use mathlib.Core.List.{List}
 use contract.Lifetimes.{Lfts}
 use denote.Ref.{RefT, now, at-last}
-use Rattle.contents.specs.Calls.{startLeft, frameLeft}
+use Rattle.contents.specs.Calls.{startLeft, frameLeft, timerLeft}
 use Rattle.vault.specs.declared.Answer.{Answer}
 use Rattle.vault.specs.Answers.{leftBy}
 use Rattle.vault.proofs.start.Reads as ofStart
 use Rattle.vault.proofs.frame.Reads as ofFrame
+use Rattle.vault.proofs.timer.Reads as ofTimer
 
 -- Start asks for nothing of what it is lent.
 startTakes : (κs : Lfts 2) (r o : RefT (List ℕ)) (n f id class plan : ℕ) → ofStart.Asked κs (r, (n, (f, (id, (class, (plan, (o, tt)))))))
@@ -29,3 +30,12 @@ frameSaid : (κs : Lfts 3) (r s o : RefT (List ℕ)) (link : ℕ) (a : Answer) (
     → ofFrame.Learnt κs (r, (link, (s, (o, tt)))) a (at-last r rec, (link, (s, (at-last o out, tt))))
     → leftBy a rec out ≡ frameLeft (now r) link (now s) (now o)
 frameSaid κs r s o link a rec out learnt = learnt
+
+-- And so does timer.
+timerTakes : (κs : Lfts 2) (r o : RefT (List ℕ)) (view : ℕ) → ofTimer.Asked κs (r, (view, (o, tt)))
+timerTakes κs r o view = tt
+
+timerSaid : (κs : Lfts 2) (r o : RefT (List ℕ)) (view : ℕ) (a : Answer) (rec out : List ℕ)
+    → ofTimer.Learnt κs (r, (view, (o, tt))) a (at-last r rec, (view, (at-last o out, tt)))
+    → leftBy a rec out ≡ timerLeft (now r) view (now o)
+timerSaid κs r o view a rec out learnt = learnt

@@ -1,10 +1,12 @@
 -- What the public calls' answers mean: each leaves what document 01's call leaves ('Refusals, place by place').
 -- Assumes nothing.
 use Prim.Native.Nat.{ℕ}
+use mathlib.Core.Path.{_≡_}
 use mathlib.Core.List.{List}
 use Rattle.frame.specs.declared.Reading.{Reading}
-use Rattle.protocol.specs.Record.{Settings}
-use Rattle.protocol.specs.Calls.{Call, start, frame}
+use Rattle.frame.specs.Refusal.{first}
+use Rattle.protocol.specs.Record.{Settings, Record}
+use Rattle.protocol.specs.Calls.{Call, start, frame, timer, timerRows}
 use Rattle.contents.specs.Calls.{Left, wrote, gave}
 use Rattle.vault.specs.declared.Answer.{Answer}
 use Rattle.vault.specs.declared.Answer.the-variants.{Written, Refused}
@@ -21,3 +23,11 @@ begins s p = start s p
 -- 'Frame': the call, with what the frame reader answers.
 abbrev pub hears : Reading → Call
 hears x = frame x
+
+-- 'Timer': the call, with the view that the host names.
+abbrev pub rings : ℕ → Call
+rings v = timer v
+
+-- Rows 18 and 19 look at the record's view alone: the number that they give, 0 where neither does, of every record at a view.
+abbrev pub TimerGives : ℕ → ℕ → ℕ → Type 0
+TimerGives current v k = (r : Record) → r .view ≡ current → k ≡ first (timerRows r v)

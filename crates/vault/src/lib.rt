@@ -15,17 +15,20 @@ ghost use mathlib.Core.Option.{none, some};
 ghost use Rattle.layout.specs.Layout.{decodeRecord};
 ghost use Rattle.sound.specs.declared.Lent.the-variants.{Blank, Sound};
 ghost use Rattle.sound.specs.Sound.{lentIs};
-ghost use Rattle.protocol.specs.Calls.{Readable, recordRows, started, heard, answer};
+ghost use Rattle.protocol.specs.Calls.{Readable, recordRows, wantedFrom, started, heard, rung, answer};
 ghost use Rattle.contents.specs.Contents.{contents};
-ghost use Rattle.contents.specs.Calls.{after, startLeft, frameLeft};
+ghost use Rattle.contents.specs.Calls.{after, startLeft, frameLeft, timerLeft};
+ghost use Rattle.acts.specs.Changes.{changeIn};
 ghost use Rattle.pass.specs.Steps.{Ready, Ran};
-ghost use Rattle.vault.specs.Answers.{leftBy, begins, hears};
+ghost use Rattle.vault.specs.Answers.{leftBy, begins, hears, rings, TimerGives};
 
 // What a call answers: how many bytes it wrote, or the number of a refusal.
 pub enum Answer {
     Written(usize),
     Refused(u8),
 }
+
+// ---- start
 
 // View 0 is entered with a timer entry; then one pass from C.
 fn begin(n: u8, f: u8, id: u8, class: u8, plan: u64, out: &mut [u8]) -> Passed
@@ -67,6 +70,8 @@ pub fn start(rec: &mut [u8], n: u8, f: u8, id: u8, class: u8, plan: u64, out: &m
         Lent::Sound => Answer::Refused(4),
     }
 }
+
+// ---- frame
 
 // The frame is kept in its sender's row; then one pass from A.
 fn hear(r: Record, f: Frame, out: &mut [u8]) -> Passed
@@ -125,5 +130,80 @@ pub fn frame(rec: &mut [u8], sender: u8, bytes: &[u8], out: &mut [u8]) -> Answer
         Lent::Blank => Answer::Refused(2),
         Lent::Unsound => Answer::Refused(3),
         Lent::Sound => frame_sound(rec, sender, bytes, out),
+    }
+}
+
+// ---- timer
+
+// The view that an accepted timer asks for: that of the own view-change where it is above the current view, else the next one.
+fn wanted_view<'a>(marks: &'a [u8], views: &'a [u32], id: u8, view: u32) -> u32
+    requires { ⌜ (length (now marks) ≡ 899) × (length (now views) ≡ 899) × (id < 64) × (view < 4294967295) ⌝ }
+    ensures { λ w. ⌜ w ≡ wantedFrom view (changeIn (now (marks .entry)) (now (views .entry)) id) ⌝ }
+{
+    let s = record::frame_slot(6, id);
+    if marks[s] != 1 {
+        return view + 1;
+    }
+    let own = views[s];
+    if view < own {
+        return own;
+    }
+    view + 1
+}
+
+// Refusals 18 and 19 of a timer for a view, in their order; 0 where none is given.
+fn timer_refusal(current: u32, view: u32) -> u8
+    ensures { λ k. ⌜ TimerGives current view k ⌝ }
+{
+    if view != current {
+        return 18;
+    }
+    if current == 4294967295 {
+        return 19;
+    }
+    0
+}
+
+// A view is asked for; then one pass from A.
+fn ring(r: Record, out: &mut [u8]) -> Passed
+    requires { ⌜ Ready r × (r .view < 4294967295) × (256 ≤ length (now out)) ⌝ }
+    ensures { λ p. ⌜ Ran (rung (contents r)) 0 (now (out .entry)) (now (out .exit)) p ⌝ }
+{
+    let w = wanted_view(&r.marks, &r.views, r.id, r.view);
+    let s = pass::ask_for(r, w);
+    let entries = s.entries;
+    let left = s.left;
+    let at = pass::write_entries(out, 0, entries);
+    pass::pass_a(left, out, at)
+}
+
+// Timer on a sound record.
+fn timer_sound(rec: &mut [u8], view: u32, out: &mut [u8]) -> Answer
+    requires { ⌜ (lentIs (now rec) ≡ Sound) × (256 ≤ length (now out)) ⌝ }
+    ensures { λ r. ⌜ leftBy r (now (rec .exit)) (now (out .exit)) ≡ after (now (rec .entry)) (now (out .entry)) (answer (some (contents (decodeRecord (now (rec .entry))))) (rings view)) ⌝ }
+{
+    let r = layout::decode(rec);
+    let why = timer_refusal(r.view, view);
+    if why != 0 {
+        return Answer::Refused(why);
+    }
+    let p = ring(r, out);
+    let left = p.left;
+    layout::encode(left, rec);
+    Answer::Written(p.count)
+}
+
+// Timer, for the view that the host names.
+pub fn timer(rec: &mut [u8], view: u32, out: &mut [u8]) -> Answer
+    ensures { λ r. ⌜ leftBy r (now (rec .exit)) (now (out .exit)) ≡ timerLeft (now (rec .entry)) view (now (out .entry)) ⌝ }
+{
+    if out.len() < 256 {
+        return Answer::Refused(1);
+    }
+    let lent = sound::classify(rec);
+    match lent {
+        Lent::Blank => Answer::Refused(2),
+        Lent::Unsound => Answer::Refused(3),
+        Lent::Sound => timer_sound(rec, view, out),
     }
 }

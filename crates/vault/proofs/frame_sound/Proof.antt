@@ -3,7 +3,8 @@
 use mathlib.Core.Path.{_∙_}
 use denote.Ref.{now}
 use Rattle.wire.specs.Fields.{Bytes}
-use Rattle.vault.proofs.Heard.{soundLength, readRefused, readAccepted, readReady, readReadable}
+use Rattle.vault.proofs.Laws.{soundLength}
+use Rattle.vault.proofs.Heard.{readRefused, readAccepted, readReady, readReadable}
 use borrow.Author.Needs.{needs}
 use Rattle.vault.proofs.frame_sound.Statement.{statement}
 use Rattle.vault.proofs.frame_sound.Tie as tie
