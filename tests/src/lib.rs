@@ -3,6 +3,7 @@
 pub mod frames;
 pub mod records;
 pub mod rows;
+pub mod vaults;
 
 use records::Class;
 use rows::Rows;

@@ -50,10 +50,10 @@ fn start_blank(rec: &mut [u8], n: u8, f: u8, id: u8, class: u8, plan: u64, out: 
     if why != 0 {
         return Answer::Refused(why);
     }
-    let p = begin(n, f, id, class, plan, out);
-    let left = p.left;
+    let begun = begin(n, f, id, class, plan, out);
+    let left = begun.left;
     layout::encode(left, rec);
-    Answer::Written(p.count)
+    Answer::Written(begun.count)
 }
 
 // Start, with settings and a starting plan.
@@ -99,10 +99,10 @@ fn frame_read(rec: &mut [u8], r: Record, f: Frame, out: &mut [u8]) -> Answer
     if why != 0 {
         return Answer::Refused(why);
     }
-    let p = hear(r, f, out);
-    let left = p.left;
+    let went = hear(r, f, out);
+    let left = went.left;
     layout::encode(left, rec);
-    Answer::Written(p.count)
+    Answer::Written(went.count)
 }
 
 // Frame on a sound record. The reader's refusal is passed on, with the record unchanged.

@@ -1,0 +1,25 @@
+-- The calls of a run, as the contracts of the program's own functions have them: whoever calls learns this and no more.
+-- Assumes nothing.
+use Prim.Native.Nat.{ℕ}
+use mathlib.Core.List.{List}
+use contract.Lifetimes.{Lfts}
+use denote.Ref.{RefT, now, at-last}
+use Rattle.vault.specs.declared.Answer.{Answer}
+use Rattle.vault.specs.Answers.{leftBy}
+use Rattle.vault.proofs.start.Reads as ofStart
+use Rattle.vault.proofs.frame.Reads as ofFrame
+use Rattle.vault.proofs.timer.Reads as ofTimer
+use Rattle.contents.specs.Calls.{Left}
+use Rattle.runs.specs.Runs.{Call, start, frame, timer, Rules}
+
+-- Record r and output space o are lent, and have the bytes rec′ and out′ when the call is back.
+pub data Contract : List ℕ → Call → List ℕ → Left → Type 0 where
+  byStart : (κs : Lfts 2) (r o : RefT (List ℕ)) (n f id class plan : ℕ) (a : Answer) (rec′ out′ : List ℕ)
+      → ofStart.Learnt κs (r, (n, (f, (id, (class, (plan, (o, tt))))))) a (at-last r rec′, (n, (f, (id, (class, (plan, (at-last o out′, tt)))))))
+      → Contract (now r) (start n f id class plan) (now o) (leftBy a rec′ out′)
+  byFrame : (κs : Lfts 3) (r s o : RefT (List ℕ)) (link : ℕ) (a : Answer) (rec′ out′ : List ℕ)
+      → ofFrame.Learnt κs (r, (link, (s, (o, tt)))) a (at-last r rec′, (link, (s, (at-last o out′, tt))))
+      → Contract (now r) (frame link (now s)) (now o) (leftBy a rec′ out′)
+  byTimer : (κs : Lfts 2) (r o : RefT (List ℕ)) (view : ℕ) (a : Answer) (rec′ out′ : List ℕ)
+      → ofTimer.Learnt κs (r, (view, (o, tt))) a (at-last r rec′, (view, (at-last o out′, tt)))
+      → Contract (now r) (timer view) (now o) (leftBy a rec′ out′)

@@ -1,0 +1,74 @@
+-- No call counts more than 205 bytes, so a host's number is below 512. An accepted call's entries are that short by contents
+-- (`outputShort`), and what a call leaves on lent bytes is a refusal or such an answer.
+-- Assumes nothing.
+use Prim.Native.Nat.{ℕ, _≤_}
+use mathlib.Core.Path.{_≡_, refl, sym, ap, subst, _∙_}
+use mathlib.Core.Bool.{Bool, true, false, cond}
+use mathlib.Core.List.{List}
+use mathlib.Core.Option.{Option, none, some}
+use native.Mathlib.Omega.{arith}
+use lib.Dec.{ltb}
+use lib.ListN.{length}
+use Rattle.layout.specs.Layout.{decodeRecord}
+use Rattle.sound.specs.declared.Lent.{Lent}
+use Rattle.sound.specs.declared.Lent.the-variants.{Blank, Unsound, Sound}
+use Rattle.sound.specs.Sound.{lentIs}
+use Rattle.frame.specs.Refusal.{readFrame}
+use Rattle.protocol.specs.Record.{Record}
+use Rattle.protocol.specs.Calls.{Call, start, frame, timer, Answer, refused, accepted, answer}
+use Rattle.protocol.proofs.Size.{outputShort}
+use Rattle.vault.specs.declared.Answer.{Answer as Given}
+use Rattle.vault.specs.declared.Answer.the-variants.{Written, Refused}
+use Rattle.vault.specs.Answers.{leftBy}
+use Rattle.vault_c.specs.Numbers.{code, Short, seen, numbered}
+use Rattle.contents.specs.Contents.{contents}
+use Rattle.contents.specs.Calls.{Left, wrote, gave, after, onLent, called, startLeft, frameLeft, timerLeft}
+
+abbrev pub Small : Left → Type 0
+Small (wrote count rec out) = count ≤ 205
+Small (gave number rec out) = Unit {0}
+
+module _ (rec out : List ℕ) (a : Call) where
+  small-after : (b : Option Record) → Small (after rec out (answer b a))
+  small-after b = go (answer b a) refl
+    where
+      go : (u : Answer) → answer b a ≡ u → Small (after rec out u)
+      go (refused k) e = tt
+      go (accepted o) e = outputShort b a o e
+
+  small-lent : (l : Lent) (k : ℕ) (r : Record) → Small (after rec out (onLent l k r a))
+  small-lent Blank k r = small-after none
+  small-lent Unsound k r = tt
+  small-lent Sound k r = small-after (some r)
+
+  small-called : (k : ℕ) → Small (called k rec out a)
+  unfolding called
+  small-called k = go (ltb (length out) 256)
+    where
+      go : (b : Bool) → Small (cond b (gave 1 rec out) (after rec out (onLent (lentIs rec) k (contents (decodeRecord rec)) a)))
+      go true = tt
+      go false = small-lent (lentIs rec) k (contents (decodeRecord rec))
+
+pub small-start : (rec : List ℕ) (n f id class plan : ℕ) (out : List ℕ) → Small (startLeft rec n f id class plan out)
+unfolding startLeft
+small-start rec n f id class plan out = small-called rec out (start (record { n = n; f = f; id = id; class = class }) plan) 4
+
+pub small-frame : (rec : List ℕ) (link : ℕ) (bytes out : List ℕ) → Small (frameLeft rec link bytes out)
+unfolding frameLeft
+small-frame rec link bytes out = small-called rec out (frame (readFrame bytes link (decodeRecord rec .n) (decodeRecord rec .id))) 3
+
+pub small-timer : (rec : List ℕ) (view : ℕ) (out : List ℕ) → Small (timerLeft rec view out)
+unfolding timerLeft
+small-timer rec view out = small-called rec out (timer view) 3
+
+-- the answer of a call that leaves little is short
+pub short-by : (a : Given) (rec out : List ℕ) (l : Left) → leftBy a rec out ≡ l → Small l → Short a
+short-by (Written count) rec out l e h =
+    let few : count ≤ 205 = subst Small (sym e) h in
+    omega arith
+short-by (Refused number) rec out l e h = tt
+
+-- a host sees the number of the answer, with what the call left
+pub seen-by : (r : ℕ) (a : Given) (rec out : List ℕ) (l : Left) → r ≡ code a → leftBy a rec out ≡ l → seen r rec out ≡ numbered l
+seen-by r (Written count) rec out l q e = ap (λ (k : ℕ). seen k rec out) q ∙ ap numbered e
+seen-by r (Refused number) rec out l q e = ap (λ (k : ℕ). seen k rec out) q ∙ ap numbered e

@@ -1,0 +1,106 @@
+/* Four vaults in one process (n = 4, f = 1): frames are passed on from the output entries until all have decided.
+ * Build and run at the repository's top:
+ *   rt staticlib vault_c
+ *   cc -std=c11 -Wall -Wextra -Iinclude examples/c/four_vaults.c target/staticlib/libvault_c.a -o target/four_vaults && target/four_vaults
+ */
+#include "vault.h"
+
+#include <inttypes.h>
+#include <stdio.h>
+#include <string.h>
+
+enum { VAULTS = 4, LIARS = 1, CLASS = 2, LONGEST = 45, QUEUE = 4096 };
+
+/* A frame on its way. */
+struct message {
+    uint8_t from, to, length;
+    uint8_t bytes[LONGEST];
+};
+
+static uint8_t records[VAULTS][VAULT_RECORD_SIZE];
+static struct message queue[QUEUE];
+static size_t first, last;
+static int decided[VAULTS];
+static uint64_t decision[VAULTS];
+
+static uint64_t number(const uint8_t *bytes, size_t count)
+{
+    uint64_t n = 0;
+    for (size_t i = 0; i < count; i++)
+        n = n << 8 | bytes[i];
+    return n;
+}
+
+static size_t frame_length(uint8_t kind)
+{
+    return kind <= 5 ? 14 : kind == 6 ? 6 : 45;
+}
+
+static int send_to(uint8_t from, uint8_t to, const uint8_t *frame, size_t length)
+{
+    if (last == QUEUE)
+        return 0;
+    struct message *m = &queue[last++];
+    m->from = from;
+    m->to = to;
+    m->length = (uint8_t)length;
+    memcpy(m->bytes, frame, length);
+    return 1;
+}
+
+/* Acts on the entries of an accepted call. A real host stores the record before this. */
+static int act(uint8_t id, const uint8_t *output, size_t count)
+{
+    size_t at = 0;
+    while (at < count) {
+        const uint8_t *entry = output + at;
+        if (entry[0] == 0xfe && entry[1] == 0x0b) {
+            printf("vault %d: timer for view %" PRIu64 " in %" PRIu64 " ms\n", id, number(entry + 2, 4), number(entry + 6, 4));
+            at += 10;
+        } else if (entry[0] == 0xfe) {
+            decided[id] = 1;
+            decision[id] = number(entry + 6, 8);
+            printf("vault %d: decides plan %" PRIu64 " in view %" PRIu64 "\n", id, decision[id], number(entry + 2, 4));
+            at += 14;
+        } else {
+            size_t length = frame_length(entry[1]);
+            for (uint8_t to = 0; to < VAULTS; to++)
+                if (to != id && (entry[0] == 0xff || entry[0] == to) && !send_to(id, to, entry + 1, length))
+                    return 0;
+            at += 1 + length;
+        }
+    }
+    return 1;
+}
+
+int main(void)
+{
+    uint8_t output[VAULT_OUTPUT_SIZE];
+    uint32_t answer;
+
+    if (vault_record_size() != VAULT_RECORD_SIZE)
+        return 2;
+    for (uint8_t id = 0; id < VAULTS; id++) {
+        answer = vault_start(records[id], VAULT_RECORD_SIZE, VAULTS, LIARS, id, CLASS, 700 + id, output, sizeof output);
+        if (answer < VAULT_ACCEPTED) {
+            fprintf(stderr, "vault %d does not start: refusal %" PRIu32 "\n", id, answer);
+            return 1;
+        }
+        if (!act(id, output, answer - VAULT_ACCEPTED))
+            return 2;
+    }
+    while (first < last) {
+        const struct message m = queue[first++];
+        answer = vault_frame(records[m.to], VAULT_RECORD_SIZE, m.from, m.bytes, m.length, output, sizeof output);
+        if (answer >= VAULT_ACCEPTED && !act(m.to, output, answer - VAULT_ACCEPTED))
+            return 2;
+    }
+    for (uint8_t id = 0; id < VAULTS; id++) {
+        if (!decided[id] || decision[id] != decision[0]) {
+            fprintf(stderr, "no agreement\n");
+            return 1;
+        }
+    }
+    printf("all %d vaults decided plan %" PRIu64 "\n", VAULTS, decision[0]);
+    return 0;
+}

@@ -1,0 +1,34 @@
+//! The vault's exported calls, each behind a safe function with the reference's answer: the byte count written, or a refusal.
+mod sys {
+    extern "C" {
+        pub fn vault_record_size() -> u32;
+        pub fn vault_start(rec: *mut u8, rec_len: usize, n: u8, f: u8, id: u8, class: u8, plan: u64, out: *mut u8, out_len: usize) -> u32;
+        pub fn vault_frame(rec: *mut u8, rec_len: usize, link: u8, bytes: *const u8, len: usize, out: *mut u8, out_len: usize) -> u32;
+        pub fn vault_timer(rec: *mut u8, rec_len: usize, view: u32, out: *mut u8, out_len: usize) -> u32;
+    }
+}
+
+/// A refusal's number as itself; 256 and the byte count for an accepted call.
+fn answer(code: u32) -> Result<usize, u8> {
+    match code {
+        1..=19 => Err(code as u8),
+        256..=512 => Ok(code as usize - 256),
+        _ => panic!("no such answer: {code}"),
+    }
+}
+
+pub fn record_size() -> usize {
+    unsafe { sys::vault_record_size() as usize }
+}
+
+pub fn start(rec: &mut [u8], n: u8, f: u8, id: u8, class: u8, plan: u64, out: &mut [u8]) -> Result<usize, u8> {
+    answer(unsafe { sys::vault_start(rec.as_mut_ptr(), rec.len(), n, f, id, class, plan, out.as_mut_ptr(), out.len()) })
+}
+
+pub fn frame(rec: &mut [u8], link: u8, bytes: &[u8], out: &mut [u8]) -> Result<usize, u8> {
+    answer(unsafe { sys::vault_frame(rec.as_mut_ptr(), rec.len(), link, bytes.as_ptr(), bytes.len(), out.as_mut_ptr(), out.len()) })
+}
+
+pub fn timer(rec: &mut [u8], view: u32, out: &mut [u8]) -> Result<usize, u8> {
+    answer(unsafe { sys::vault_timer(rec.as_mut_ptr(), rec.len(), view, out.as_mut_ptr(), out.len()) })
+}

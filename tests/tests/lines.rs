@@ -1,0 +1,131 @@
+//! The Rattle line program against the reference's, on random scripts; and what document 01 and our readings say of its input and output.
+use std::fs::File;
+use std::io::{Read, Write};
+use std::path::PathBuf;
+use std::process::{Command, Stdio};
+
+use reference::lines;
+use reference::scripts::{cover, script, Coverage};
+
+const PROGRAM: &str = concat!(env!("CARGO_MANIFEST_DIR"), "/../target/bin/vaultlines");
+const SCRIPTS: u64 = 2_500;
+const SEED: u64 = 900_000;
+
+fn expected(input: &[u8]) -> Vec<u8> {
+    let mut output = Vec::new();
+    lines::run(input, &mut output).expect("reading and writing memory");
+    output
+}
+
+/// A place for an input that is removed again.
+struct Input(PathBuf);
+
+impl Input {
+    fn new(name: &str, bytes: &[u8]) -> Input {
+        let path = std::env::temp_dir().join(format!("vaultlines-{}-{name}", std::process::id()));
+        std::fs::write(&path, bytes).expect("a place for the input");
+        Input(path)
+    }
+}
+
+impl Drop for Input {
+    fn drop(&mut self) {
+        let _ = std::fs::remove_file(&self.0);
+    }
+}
+
+/// What the program prints; it ends plainly, and says nothing on standard error.
+fn printed(command: &mut Command, input: &Input) -> Vec<u8> {
+    let output = command.stdin(File::open(&input.0).expect("the input")).output().expect("the program runs");
+    assert!(output.status.success(), "{:?}", output.status);
+    assert!(output.stderr.is_empty());
+    output.stdout
+}
+
+fn same(name: &str, bytes: &[u8]) {
+    let input = Input::new(name, bytes);
+    let printed = printed(&mut Command::new(PROGRAM), &input);
+    assert!(printed == expected(bytes), "{name}:\n{}", String::from_utf8_lossy(bytes));
+}
+
+#[test]
+fn random_scripts_print_the_same() {
+    let mut coverage = Coverage::default();
+    let mut sizes = [0u32; 256];
+    for seed in SEED..SEED + SCRIPTS {
+        let script = script(seed);
+        same(&format!("seed {seed}"), &script);
+        cover(&script, &mut coverage);
+        for line in script.split(|&byte| byte == b'\n').filter(|line| line.len() == 26 && line.starts_with(b"00")) {
+            let n = std::str::from_utf8(&line[2..4]).ok().and_then(|n| u8::from_str_radix(n, 16).ok());
+            sizes[usize::from(n.unwrap_or(0))] += 1;
+        }
+    }
+    println!("{coverage:?}");
+    assert!(coverage.steps.iter().all(|&count| count > 0));
+    // Lines can't reach 1, 3 and 12.
+    assert!((1..=20).all(|number| (coverage.refusals[number] > 0) != [1, 3, 12].contains(&number)));
+    assert!(coverage.one_set > 0 && coverage.two_sets > 0 && coverage.last_views > 0 && coverage.decisions_of_64 > 0);
+    assert!([4, 7, 64].iter().all(|&n| sizes[n] > 20), "{sizes:?}");
+}
+
+#[test]
+fn the_example_prints_its_five_lines() {
+    let input = Input::new("example", include_bytes!("../example.in"));
+    assert_eq!(printed(&mut Command::new(PROGRAM), &input), include_bytes!("../example.out"));
+}
+
+/// "A line ends at byte 0a or at the input's end; after a final 0a there is no further line, and an empty line is an empty frame."
+#[test]
+fn ends_of_lines_and_of_input() {
+    let start = "00040100020000000000000007";
+    let long = "0".repeat(200_000);
+    for text in ["", "\n", "\n\n", "0", "00", "09", start, &format!("{start}\n"), &format!("{start}\n\n"), &format!("{start}\r\n"), &long] {
+        same("ends", text.as_bytes());
+    }
+    for digits in 86..96 {
+        same("digits", format!("{start}\n{}\n{}\n", "0".repeat(digits), "8".repeat(digits)).as_bytes());
+    }
+    for byte in 0..=255u8 {
+        same("bytes", &[start.as_bytes(), b"\n0", &[byte], b"\n", &[byte], b"0\n", &[byte]].concat());
+    }
+}
+
+/// "its output is flushed when the input runs dry": each answer is there before the next line is sent, also where a line comes in pieces.
+#[test]
+fn answers_come_before_more_input() {
+    let mut child = Command::new(PROGRAM).stdin(Stdio::piped()).stdout(Stdio::piped()).spawn().expect("the program runs");
+    let (mut input, mut output) = (child.stdin.take().unwrap(), child.stdout.take().unwrap());
+    let talk: [(&str, &str); 3] = [
+        ("00040100020000000000000007\n", "fe0b0000000000000384\nff0100000000000000000000000007\nff0200000000000000000000000007\n"),
+        ("0\n", "fd14\n"),
+        ("0900000000\n", "ff060000000001\n"),
+    ];
+    for (said, answer) in talk {
+        for piece in said.as_bytes().chunks(5) {
+            input.write_all(piece).unwrap();
+            input.flush().unwrap();
+        }
+        let mut got = vec![0; answer.len()];
+        output.read_exact(&mut got).unwrap();
+        assert_eq!(got, answer.as_bytes());
+    }
+    drop(input);
+    assert!(child.wait().unwrap().success());
+}
+
+/// 300,000 lines in 20 megabytes of address space, the program and its libraries included.
+#[test]
+fn a_long_input_needs_little_memory() {
+    let mut text = String::from("00040100020000000000000007\n");
+    for i in 0..300_000u32 {
+        match i % 3 {
+            0 => text.push_str(&format!("0201{:08x}0000000000000007\n", i / 3)),
+            1 => text.push_str("0900000000\n"),
+            _ => text.push('\n'),
+        }
+    }
+    let input = Input::new("long", text.as_bytes());
+    let limited = printed(Command::new("sh").args(["-c", &format!("ulimit -v 20000; exec {PROGRAM}")]), &input);
+    assert!(limited == expected(text.as_bytes()));
+}
