@@ -7,16 +7,16 @@ use reference::record::{Record, Settings};
 use reference::{calls, record, scripts};
 
 pub const LEN: usize = 11_703;
-const SLOTS: usize = 899;
-const MARKS: usize = 16;
-const VIEWS: usize = MARKS + SLOTS;
-const PLANS: usize = VIEWS + 4 * SLOTS;
+pub const SLOTS: usize = 899;
+pub const MARKS: usize = 16;
+pub const VIEWS: usize = MARKS + SLOTS;
+pub const PLANS: usize = VIEWS + 4 * SLOTS;
 
-fn frame_slot(kind: usize, sender: usize) -> usize {
+pub fn frame_slot(kind: usize, sender: usize) -> usize {
     (kind - 1) * 64 + sender
 }
 
-fn report_slot(kind: usize, which: usize, sender: usize) -> usize {
+pub fn report_slot(kind: usize, which: usize, sender: usize) -> usize {
     512 + (kind - 7) * 192 + which * 64 + sender
 }
 
