@@ -177,7 +177,7 @@ pub fn act_b<'a>(
 // ---- C and D: proposals, and what is safe
 
 // Whether the vote in a slot is of view v: 'once a view'.
-fn sent(slot: Report, v: u32) -> bool
+pub fn sent(slot: Report, v: u32) -> bool
     ensures { λ b. ⌜ b ≡ not (isNone (voted v slot)) ⌝ }
 {
     if slot.mark != 1 {
@@ -187,7 +187,7 @@ fn sent(slot: Report, v: u32) -> bool
 }
 
 // 'its leader is vault (view mod n)'.
-fn leader(view: u32, n: usize) -> usize
+pub fn leader(view: u32, n: usize) -> usize
     requires { ⌜ 0 < n ⌝ }
     ensures { λ r. ⌜ (r ≡ leaderOf view n) × (r < n) ⌝ }
 {

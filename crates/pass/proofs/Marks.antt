@@ -1,14 +1,14 @@
 -- A record that calls leave has no mark but 0 and 1 (document 01, 'a mark (1 present, 0 absent)').
 -- Each slot holds what the contents put there: a kept frame's own mark is 1, a vote's is 1, and a kept report has passed row 14.
 -- Assumes nothing.
-use Prim.Native.Nat.{ℕ, zero, suc, _≤_, _<_}
+use Prim.Native.Nat.{ℕ, zero, suc, _<_}
 use mathlib.Core.Path.{_≡_, refl, sym, _∙_, ap, subst}
 use mathlib.Core.Logic.{_⊎_, inl, inr}
-use mathlib.Core.Bool.{Bool, true, false, cond, _||_}
+use mathlib.Core.Bool.{Bool, true, false, cond}
 use mathlib.Core.Option.{Option, none, some}
 use native.Mathlib.Omega.{arith}
 use native.Mathlib.Decide.{decLt}
-use lib.Dec.{ltb, eqb}
+use lib.Dec.{eqb}
 use lib.ListN.{getD}
 use borrow.Author.Tests.{eqb-true, le-ltb}
 use Rattle.quorum.proofs.Bools.{which, clash}
@@ -21,7 +21,6 @@ use Rattle.frame.specs.Format.{reportsOf}
 use Rattle.frame.specs.Refusal.{first, any, badForm, contentRows}
 use Rattle.frame.proofs.Laws.{neither}
 use Rattle.record.specs.declared.Record as slots
-use Rattle.record.specs.Slots.{slotOf}
 use Rattle.protocol.specs.Record.{Record, spelt}
 use Rattle.protocol.specs.Sound.{Sound}
 use Rattle.protocol.proofs.Went.{noneGiven}

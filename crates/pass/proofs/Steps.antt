@@ -2,19 +2,18 @@
 -- A frame goes into the own row by the laws of crate contents; the entries are the same frames. A step that does only what it may
 -- leaves a sound record (`actWhole` of crate protocol), so the next step finds one.
 -- Assumes nothing.
-use Prim.Native.Nat.{ℕ, zero, suc, _+_, _*_, _≤_, _<_}
+use Prim.Native.Nat.{ℕ, zero, suc, _+_, _*_, _-_, _≤_, _<_}
 use mathlib.Core.Path.{_≡_, refl, sym, _∙_, ap, subst}
 use mathlib.Core.Bool.{Bool, true, false, not}
 use mathlib.Core.List.{List, [], _∷_}
 use mathlib.Core.Option.{Option, none, some}
 use native.Mathlib.Omega.{arith}
-use native.Mathlib.Numerals.{add-one}
+use lib.ListN.{length, getD}
 use borrow.Author.Tests.{eq-eqb, ne-eqb}
-use Rattle.rules.specs.Rules.{Rule, rule1, rule3, claimVote, lockVote}
+use Rattle.rules.specs.Rules.{Rule, rule1, rule3}
 use Rattle.rules.specs.Options.{isNone}
 use Rattle.quorum.specs.Sets.{isBlocking}
 use Rattle.settings.specs.Settings.{delayOf}
-use Rattle.frame.specs.declared.Reports.{Reports}
 use Rattle.frame.specs.declared.Body.the-variants.{Plan, Empty, Told}
 use Rattle.frame.specs.declared.Frame.{Frame}
 use Rattle.frame.specs.Format.{within, fits}
@@ -27,10 +26,11 @@ use Rattle.record.specs.Slots.{withView}
 use Rattle.kept.specs.Kept.{keepFrame}
 use Rattle.keeping.specs.Keeping.{ownBroadcast}
 use Rattle.protocol.specs.Record.{Record, highest, leads, leader, changeOf, planNow, sentNow, reportFrame}
-use Rattle.protocol.specs.Pass.{Act, ask, enter, cast, decide, does, writes, suggestEntry, taken, asked, isNews, actA, canEnter, actB, mayPropose, chosen, actC, approves, actD, agreed, actVote, actH, Out, Step, stepA, stepB, stepC, stepD, stepVote, stepH}
-use Rattle.protocol.proofs.Tables.{eachSome, whenSome}
+use Rattle.protocol.specs.Pass.{Act, ask, enter, cast, decide, does, writes, suggestEntry, taken, asked, isNews, canEnter, mayPropose, chosen, approves, agreed, actVote, Out, Step, stepA, stepB, stepC, stepD, stepVote, stepH}
+use Rattle.agreement.proofs.Reports.{none≢some}
+use Rattle.protocol.proofs.Tables.{whenSome}
 use Rattle.protocol.proofs.Size.{actIs}
-use Rattle.protocol.proofs.May.{Lawful, Sure, and, sureC, sureA}
+use Rattle.protocol.proofs.May.{Lawful, Sure, done, and, sureA}
 use Rattle.protocol.proofs.Went.{thirdOf}
 use Rattle.protocol.proofs.Sound.{Whole, actWhole, idBelow, sizeBelow}
 use Rattle.contents.specs.Contents.{settingsOf, contents, Clean}
@@ -39,9 +39,10 @@ use Rattle.contents.proofs.Acts.{contentsCast, cleanCast, contentsAsk, cleanAsk
 use Rattle.acts.specs.declared.Act as acts
 use Rattle.acts.specs.Acts.{asAct, Fit}
 use Rattle.pass.specs.declared.Entries.{Entries}
-use Rattle.pass.specs.declared.Entries.the-variants.{Zero, One, Two, Three}
+use Rattle.pass.specs.declared.Entries.the-variants.{Two, Three}
 use Rattle.pass.specs.declared.Stepped.{Stepped}
-use Rattle.pass.specs.Steps.{listOf, Ready, Seated, Votes, toldIn, Did, Took}
+use Rattle.pass.specs.Steps.{listOf, Ready, Seated, Votes, withNone, withOne, toldFor, Did, Took}
+use Rattle.pass.specs.Passes.{actAt, stepAt}
 
 -- ---- what an act does
 
@@ -53,7 +54,7 @@ module _ (r : slots.Record) (clean : Clean r) (seat : Seated r) where
   changes w = record { kind = 6; sender = r .id; view = w; body = Empty }
 
   pub didAsk : (w : ℕ) (t : slots.Record) → t ≡ keepFrame r (r .id) (changes w)
-      → Did (taken (contents r) (some (ask w))) (record { left = t; entries = One (ForAll (changes w)) })
+      → Did (taken (contents r) (some (ask w))) (withOne t (ForAll (changes w)))
   unfolding contents writes
   didAsk w t e = record {
     left = ap contents e ∙ contentsAsk r w (rowOf r seat) (clean .sized);
@@ -68,7 +69,7 @@ module _ (r : slots.Record) (clean : Clean r) (seat : Seated r) where
   fitsVote k p low = inside 1 5 (k + 1) (omega arith) (omega arith)
 
   pub didCast : (k p kind : ℕ) (t : slots.Record) → k ≤ 4 → kind ≡ suc k → t ≡ ownBroadcast r (votes kind p)
-      → Did (taken (contents r) (some (cast k p))) (record { left = t; entries = One (ForAll (votes kind p)) })
+      → Did (taken (contents r) (some (cast k p))) (withOne t (ForAll (votes kind p)))
   unfolding contents writes
   didCast k p kind t low is e = record {
     left = ap contents same ∙ contentsCast r k p low (rowOf r seat) (clean .sized);
@@ -80,14 +81,14 @@ module _ (r : slots.Record) (clean : Clean r) (seat : Seated r) where
       same = e ∙ ap (λ (m : ℕ). ownBroadcast r (votes m p)) is
 
   -- The slots of the own votes, told.
-  abbrev pub told : ℕ → ℕ → ℕ → ℕ → Frame
-  told kind w claim lock = record { kind = kind; sender = r .id; view = w; body = Told (toldIn (r .marks) (r .views) (r .plans) (r .id) claim lock) }
+  abbrev told : ℕ → ℕ → ℕ → ℕ → Frame
+  told = toldFor (r .marks) (r .views) (r .plans) (r .id)
 
-  pub proofTold : (w : ℕ) → told 8 w 2 5 ≡ reportFrame (contents r) rule3 w
+  pub proofTold : (w : ℕ) → told w 8 2 5 ≡ reportFrame (contents r) rule3 w
   unfolding contents
   proofTold w = let e = tellsAt r rule3 clean (rowOf r seat) in λ i. record { kind = 8; sender = r .id; view = w; body = Told (sym e i) }
 
-  pub suggestTold : (w : ℕ) → told 7 w 3 4 ≡ reportFrame (contents r) rule1 w
+  pub suggestTold : (w : ℕ) → told w 7 3 4 ≡ reportFrame (contents r) rule1 w
   unfolding contents
   suggestTold w = let e = tellsAt r rule1 clean (rowOf r seat) in λ i. record { kind = 7; sender = r .id; view = w; body = Told (sym e i) }
 
@@ -129,7 +130,7 @@ module _ (r : slots.Record) (clean : Clean r) (seat : Seated r) where
   fitsTold rule3 w f e = subst (λ (x : Frame). fits (x .kind) (x .body) ≡ true) (sym e) refl
 
 pub didDecide : (r : slots.Record) → Clean r → (p : ℕ) (t : slots.Record) → t ≡ decided r (r .view) p
-    → Did (taken (contents r) (some (decide p))) (record { left = t; entries = One (Decision (r .view) p) })
+    → Did (taken (contents r) (some (decide p))) (withOne t (Decision (r .view) p))
 unfolding contents writes
 didDecide r clean p t e = record {
   left = ap contents e ∙ contentsDecided r p (clean .sized);
@@ -139,19 +140,54 @@ didDecide r clean p t e = record {
 
 -- ---- the act, as the code's answer has it
 
+pub did : {o : Out} {s t : Stepped} → s ≡ t → Did o t → Did o s
+did {o} e = subst (Did o) (sym e)
+
 pub didAct : (r : slots.Record) (act was : acts.Act) (s : Stepped) → act ≡ was → Did (taken (contents r) (asAct was)) s → Did (taken (contents r) (asAct act)) s
 didAct r act was s e = subst (λ (a : acts.Act). Did (taken (contents r) (asAct a)) s) (sym e)
 
-pub didNothing : (r : slots.Record) → Clean r → Did (taken (contents r) none) (record { left = r; entries = Zero })
+pub didNothing : (r : slots.Record) → Clean r → Did (taken (contents r) none) (withNone r)
 didNothing r clean = record { left = refl; wrote = refl; clean = clean }
 
 -- ---- steps
 
-headLaw : {s : Step} {l : List Step} → Sure (s ∷ l) → Lawful s
-headLaw (and law rest) = law
+-- The steps of a list do only what they may, so the one of a number does.
+lawAt : {l : List Step} → Sure l → (k : ℕ) → k < length l → Lawful (getD l k (λ c. taken c none))
+lawAt done k low = absurd (omega arith)
+lawAt (and law rest) zero low = law
+lawAt (and law rest) (suc k) low = lawAt rest k (omega arith)
 
-tailSure : {s : Step} {l : List Step} → Sure (s ∷ l) → Sure l
-tailSure (and law rest) = rest
+-- The step of a number does the act of that number.
+stepBy : (k : ℕ) (c : Record) → stepAt k c ≡ taken c (actAt k c)
+unfolding actAt stepA stepB stepC stepD stepVote stepH
+stepBy zero c = refl
+stepBy (suc zero) c = refl
+stepBy (suc (suc zero)) c = refl
+stepBy (suc (suc (suc zero))) c = refl
+stepBy (suc (suc (suc (suc zero)))) c = refl
+stepBy (suc (suc (suc (suc (suc zero))))) c = refl
+stepBy (suc (suc (suc (suc (suc (suc zero)))))) c = refl
+stepBy (suc (suc (suc (suc (suc (suc (suc zero))))))) c = refl
+stepBy (suc (suc (suc (suc (suc (suc (suc (suc k)))))))) c = refl
+
+pub numbered : {k j : ℕ} (c : Record) → k ≡ j → actAt j c ≡ actAt k c
+numbered c e = ap (λ (i : ℕ). actAt i c) (sym e)
+
+-- E, F, G are 4, 5, 6.
+pub actVotes : (k : ℕ) (c : Record) → 1 ≤ k → k ≤ 3 → actVote c k ≡ actAt (k + 3) c
+unfolding actAt
+actVotes zero c low high = absurd (omega arith)
+actVotes (suc zero) c low high = refl
+actVotes (suc (suc zero)) c low high = refl
+actVotes (suc (suc (suc zero))) c low high = refl
+actVotes (suc (suc (suc (suc k)))) c low high = absurd (omega arith)
+
+pub stepVotes : (k : ℕ) (c : Record) → 1 ≤ k → k ≤ 3 → stepAt (k + 3) c ≡ stepVote k c
+unfolding stepVote
+stepVotes k c low high = stepBy (k + 3) c ∙ ap (taken c) (sym (actVotes k c low high))
+
+pub idleStep : (k : ℕ) (c : Record) → actAt k c ≡ none → stepAt k c ≡ taken c none
+idleStep k c e = stepBy k c ∙ ap (taken c) e
 
 wholeStep : (s : Step) → Lawful s → (c : Record) → Whole c → Whole ((s c) .left)
 wholeStep s law c w = subst (λ (o : Out). Whole (o .left)) (sym (law .does c)) (go (law .act c) refl)
@@ -159,6 +195,9 @@ wholeStep s law c w = subst (λ (o : Out). Whole (o .left)) (sym (law .does c)) 
     go : (o : Option Act) → law .act c ≡ o → Whole ((taken c o) .left)
     go none e = w
     go (some a) e = actWhole w a (law .may c a e)
+
+wholeAt : (k : ℕ) → k < 8 → (c : Record) → Whole c → Whole ((stepAt k c) .left)
+wholeAt k low = wholeStep (stepAt k) (lawAt sureA k low)
 
 pub seatOf : (r : slots.Record) → Ready r → Seated r
 unfolding contents
@@ -174,87 +213,47 @@ fitOf r h = record {
 }
 
 -- What a step's act does is what the step does, and leaves a record for the next.
-took : (s : Step) → Lawful s → (r : slots.Record) → Ready r → (act : Record → Option Act) → ((c : Record) → s c ≡ taken c (act c))
-    → (a : acts.Act) → asAct a ≡ act (contents r) → (t : Stepped) → Did (taken (contents r) (asAct a)) t → Took (s (contents r)) t
-took s law r h act is a e t did = record {
+pub took : (k : ℕ) → k < 8 → (r : slots.Record) → Ready r → (a : acts.Act) → asAct a ≡ actAt k (contents r)
+    → (t : Stepped) → Did (taken (contents r) (asAct a)) t → Took (stepAt k (contents r)) t
+took k low r h a e t did = record {
   left = left;
   wrote = did .wrote ∙ ap (λ (o : Out). o .wrote) same;
   ready = record { clean = did .clean; sound = there .sound; ranged = there .ranged };
 }
   where
-    same : taken (contents r) (asAct a) ≡ s (contents r)
-    same = ap (taken (contents r)) e ∙ sym (is (contents r))
+    same : taken (contents r) (asAct a) ≡ stepAt k (contents r)
+    same = ap (taken (contents r)) e ∙ sym (stepBy k (contents r))
 
-    left : contents (t .left) ≡ (s (contents r)) .left
+    left : contents (t .left) ≡ (stepAt k (contents r)) .left
     left = did .left ∙ ap (λ (o : Out). o .left) same
 
     there : Whole (contents (t .left))
-    there = subst Whole (sym left) (wholeStep s law (contents r) (record { sound = h .sound; ranged = h .ranged }))
-
-module _ (r : slots.Record) (h : Ready r) (a : acts.Act) (t : Stepped) where
-  pub tookA : asAct a ≡ actA (contents r) → Did (taken (contents r) (asAct a)) t → Took (stepA (contents r)) t
-  unfolding stepA
-  tookA e = took stepA (headLaw sureA) r h actA (λ c. refl) a e t
-
-  pub tookB : asAct a ≡ actB (contents r) → Did (taken (contents r) (asAct a)) t → Took (stepB (contents r)) t
-  unfolding stepB
-  tookB e = took stepB (headLaw (tailSure sureA)) r h actB (λ c. refl) a e t
-
-  pub tookC : asAct a ≡ actC (contents r) → Did (taken (contents r) (asAct a)) t → Took (stepC (contents r)) t
-  unfolding stepC
-  tookC e = took stepC (headLaw sureC) r h actC (λ c. refl) a e t
-
-  pub tookD : asAct a ≡ actD (contents r) → Did (taken (contents r) (asAct a)) t → Took (stepD (contents r)) t
-  unfolding stepD
-  tookD e = took stepD (headLaw (tailSure sureC)) r h actD (λ c. refl) a e t
-
-  lawfulVote : (k : ℕ) → 1 ≤ k → k ≤ 3 → Lawful (stepVote k)
-  lawfulVote zero low high = absurd (omega arith)
-  lawfulVote (suc zero) low high = headLaw (tailSure (tailSure sureC))
-  lawfulVote (suc (suc zero)) low high = headLaw (tailSure (tailSure (tailSure sureC)))
-  lawfulVote (suc (suc (suc zero))) low high = headLaw (tailSure (tailSure (tailSure (tailSure sureC))))
-  lawfulVote (suc (suc (suc (suc k)))) low high = absurd (omega arith)
-
-  pub tookVote : (k : ℕ) → 1 ≤ k → k ≤ 3 → asAct a ≡ actVote (contents r) k → Did (taken (contents r) (asAct a)) t → Took (stepVote k (contents r)) t
-  unfolding stepVote
-  tookVote k low high e = took (stepVote k) (lawfulVote k low high) r h (λ c. actVote c k) (λ c. refl) a e t
-
-  pub tookH : asAct a ≡ actH (contents r) → Did (taken (contents r) (asAct a)) t → Took (stepH (contents r)) t
-  unfolding stepH
-  tookH e = took stepH (headLaw (tailSure (tailSure (tailSure (tailSure (tailSure sureC)))))) r h actH (λ c. refl) a e t
+    there = subst Whole (sym left) (wholeAt k low (contents r) (record { sound = h .sound; ranged = h .ranged }))
 
 -- ---- the votes of a step are votes that there are
 
-ofVotes : (o : Option Act) → ((a : Act) → o ≡ some a → Votes (some a)) → Votes o
-ofVotes none f = tt
-ofVotes (some a) f = f a refl
+module _ (c : Record) {a : Act} where
+  abbrev isOne : {x : Act} → x ≡ a → Votes (some x) → Votes (some a)
+  isOne e = subst (λ (b : Act). Votes (some b)) e
 
-abbrev Casting : (Record → Option Act) → Type 0
-Casting act = (c : Record) (a : acts.Act) → asAct a ≡ act c → Votes (asAct a)
+  votesVote : (k : ℕ) → k ≤ 3 → actVote c k ≡ some a → Votes (some a)
+  votesVote k high e = isOne (actIs (agreed c k) (λ p. not (sentNow c (suc k))) (cast (suc k)) e .1) (omega arith)
 
-casting : (act : Record → Option Act) → ((c : Record) (a : Act) → act c ≡ some a → Votes (some a)) → Casting act
-casting act f c a e = ofVotes (asAct a) (λ b is. f c b (sym e ∙ is))
+  votesAt : (k : ℕ) → actAt k c ≡ some a → Votes (some a)
+  unfolding actAt
+  votesAt zero e = isOne (actIs (highest (asked c isBlocking) (changeOf c) (c .set .n)) (isNews c) ask e .1) tt
+  votesAt (suc zero) e = isOne (actIs (highest (canEnter c) (changeOf c) (c .set .n)) (λ w. true) enter e .1) tt
+  votesAt (suc (suc zero)) e = isOne (actIs (chosen c) (λ p. true) (cast 0) (whenSome (mayPropose c) _ e .1) .1) (omega arith)
+  votesAt (suc (suc (suc zero))) e = isOne (actIs (planNow c 0 (leader c (c .view))) (approves c) (cast 1) e .1) (omega arith)
+  votesAt (suc (suc (suc (suc zero)))) e = votesVote 1 (omega arith) e
+  votesAt (suc (suc (suc (suc (suc zero))))) e = votesVote 2 (omega arith) e
+  votesAt (suc (suc (suc (suc (suc (suc zero)))))) e = votesVote 3 (omega arith) e
+  votesAt (suc (suc (suc (suc (suc (suc (suc zero))))))) e = isOne (actIs (agreed c 4) (λ p. isNone (c .decision)) decide e .1) tt
+  votesAt (suc (suc (suc (suc (suc (suc (suc (suc k)))))))) e = absurd (none≢some e)
 
-abbrev isOne : {x a : Act} → x ≡ a → Votes (some x) → Votes (some a)
-isOne e = subst (λ (b : Act). Votes (some b)) e
-
-pub castsA : Casting actA
-castsA = casting actA (λ c a e. let (w, is) = actIs (highest (asked c isBlocking) (changeOf c) (c .set .n)) (isNews c) ask e in isOne is tt)
-
-pub castsB : Casting actB
-castsB = casting actB (λ c a e. let (w, is) = actIs (highest (canEnter c) (changeOf c) (c .set .n)) (λ w. true) enter e in isOne is tt)
-
-pub castsC : Casting actC
-castsC = casting actC (λ c a e.
-    let (t, g) = whenSome (mayPropose c) _ e in
-    let (p, is) = actIs (chosen c) (λ p. true) (cast 0) g in
-    isOne is (omega arith))
-
-pub castsD : Casting actD
-castsD = casting actD (λ c a e. let (p, is) = actIs (planNow c 0 (leader c (c .view))) (approves c) (cast 1) e in isOne is (omega arith))
-
-pub castsVote : (k : ℕ) → k ≤ 3 → Casting (λ c. actVote c k)
-castsVote k high = casting (λ c. actVote c k) (λ c a e. let (p, is) = actIs (agreed c k) (λ p. not (sentNow c (suc k))) (cast (suc k)) e in isOne is (omega arith))
-
-pub castsH : Casting actH
-castsH = casting actH (λ c a e. let (p, is) = actIs (agreed c 4) (λ p. isNone (c .decision)) decide e in isOne is tt)
+pub votesOf : (k : ℕ) (c : Record) (a : acts.Act) → asAct a ≡ actAt k c → Votes (asAct a)
+votesOf k c a e = go (asAct a) e
+  where
+    go : (o : Option Act) → o ≡ actAt k c → Votes o
+    go none is = tt
+    go (some x) is = votesAt c k (sym is)

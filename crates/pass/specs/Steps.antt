@@ -5,7 +5,8 @@ use mathlib.Core.Path.{_≡_}
 use mathlib.Core.List.{List, [], _∷_}
 use mathlib.Core.Option.{Option, none, some}
 use lib.ListN.{length}
-use Rattle.frame.specs.declared.Reports.{Reports}
+use Rattle.frame.specs.declared.Body.the-variants.{Told}
+use Rattle.frame.specs.declared.Frame.{Frame}
 use Rattle.wire.specs.Placed.{placed}
 use Rattle.entry.specs.declared.Entry.{Entry}
 use Rattle.entry.specs.Layout.{layout}
@@ -45,13 +46,26 @@ Votes (some (enter w)) = Unit {0}
 Votes (some (cast k p)) = k ≤ 4
 Votes (some (decide p)) = Unit {0}
 
--- 'reports highest vote-2, previous vote-2, highest vote-3': the slots that hold the own votes of a kind, and the lock of another.
-abbrev pub toldIn : List ℕ → List ℕ → List ℕ → ℕ → ℕ → ℕ → Reports
-toldIn marks views plans id claim lock =
+-- A record with no entry, and with one.
+abbrev pub withNone : slots.Record → Stepped
+withNone left = record { left = left; entries = Zero }
+
+abbrev pub withOne : slots.Record → Entry → Stepped
+withOne left e = record { left = left; entries = One e }
+
+-- 'reports highest vote-2, previous vote-2, highest vote-3': the slots that hold the own votes of a kind, and the lock of another, in
+-- the suggest or the proof for view w.
+abbrev pub toldFor : List ℕ → List ℕ → List ℕ → ℕ → ℕ → ℕ → ℕ → ℕ → Frame
+toldFor marks views plans id w kind claim lock =
     record {
-      highest = slotIn marks views plans (frameSlot claim id);
-      previous = slotIn marks views plans (previousSlot claim);
-      lock = slotIn marks views plans (frameSlot lock id);
+      kind = kind;
+      sender = id;
+      view = w;
+      body = Told (record {
+        highest = slotIn marks views plans (frameSlot claim id);
+        previous = slotIn marks views plans (previousSlot claim);
+        lock = slotIn marks views plans (frameSlot lock id);
+      });
     }
 
 -- An act is done: the record's slots hold what it leaves, and the entries are those that it writes.

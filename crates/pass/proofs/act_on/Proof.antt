@@ -4,7 +4,7 @@ use mathlib.Core.Path.{_≡_, subst}
 use Rattle.acts.specs.declared.Act.{Act}
 use Rattle.acts.specs.Acts.{asAct}
 use Rattle.pass.specs.Steps.{Votes}
-use Rattle.pass.proofs.Steps.{didAct, didNothing}
+use Rattle.pass.proofs.Steps.{did, didAct, didNothing}
 use borrow.Author.Needs.{needs}
 use Rattle.pass.proofs.act_on.Statement.{statement}
 use Rattle.pass.proofs.act_on.Tie as tie
@@ -36,6 +36,9 @@ decide-on-requires c κs = search needs
 enum-told : tie.Need-enum-told
 enum-told c = search needs
 
+no-entry-requires : tie.Need-no-entry-requires
+no-entry-requires c κs = search needs
+
 returns : tie.Need-returns
 returns c = let s = c .before .before .before .before in didAct (s .args .r) (s .args .act) _ (c .ask-for .result) (c .before .before .act .given .1) (c .ask-for .ensures)
 
@@ -49,7 +52,7 @@ returns-4 : tie.Need-returns-4
 returns-4 c = let s = c .before .before .before .before in didAct (s .args .r) (s .args .act) _ (c .decide-on .result) (c .before .before .act4 .given .1) (c .decide-on .ensures)
 
 returns-5 : tie.Need-returns-5
-returns-5 c = let s = c .before .before in didAct (s .args .r) (s .args .act) _ _ (c .enum-told .given .1) (didNothing (s .args .r) (s .pre .0))
+returns-5 c = let s = c .before .before .before in didAct (s .args .r) (s .args .act) _ (c .no-entry .result) (c .before .enum-told .given .1) (did (c .no-entry .ensures) (didNothing (s .args .r) (s .pre .0)))
 
 pub act-on-spec : {M : Type 1} → statement M
 act-on-spec =
@@ -64,6 +67,7 @@ act-on-spec =
     enum-known-act-4
     decide-on-requires
     enum-told
+    no-entry-requires
     returns
     returns-2
     returns-3

@@ -1,6 +1,6 @@
 -- `pass::decide_on` meets its contract: the decision goes into its slot.
 -- Assumes nothing.
-use Rattle.pass.proofs.Steps.{didDecide}
+use Rattle.pass.proofs.Steps.{did, didDecide}
 use borrow.Author.Needs.{needs}
 use Rattle.pass.proofs.decide_on.Statement.{statement}
 use Rattle.pass.proofs.decide_on.Tie as tie
@@ -8,12 +8,11 @@ use Rattle.pass.proofs.decide_on.Tie as tie
 with-slot-requires : tie.Need-with-slot-requires
 with-slot-requires c κs = search needs
 
+one-entry-requires : tie.Need-one-entry-requires
+one-entry-requires c κs = search needs
+
 returns : tie.Need-returns
-returns c = didDecide (c .before .args .r) (c .before .pre) (c .before .args .p) (c .with-slot .result) (c .with-slot .ensures)
+returns c = let s = c .before .before in did (c .one-entry .ensures) (didDecide (s .args .r) (s .pre) (s .args .p) (c .before .with-slot .result) (c .before .with-slot .ensures))
 
 pub decide-on-spec : {M : Type 1} → statement M
-decide-on-spec =
-    tie.close
-    (tie.spec
-    with-slot-requires
-    returns)
+decide-on-spec = tie.close (tie.spec with-slot-requires one-entry-requires returns)
