@@ -9,11 +9,12 @@ use borrow.Author.Needs.{needs}
 use Rattle.claims.proofs.Laws.{spansMore}
 use Rattle.claims.specs.Layout.{reportsIn}
 use Rattle.claims.specs.Spans.{AreSpans}
+use Rattle.rules.specs.Views.{span}
 use Rattle.claims.proofs.spans_of.Statement.{statement}
 use Rattle.claims.proofs.spans_of.Tie as tie
 
 abbrev Inv-loop : tie.InvT-loop
-Inv-loop kept at marks views plans n v p spans₀ r₀ spans r = (r ≤ n) × (length spans ≡ 64) × AreSpans spans r v p (reportsIn kept at marks views plans v)
+Inv-loop kept at marks views plans n v p spans₀ r₀ spans r = (r ≤ n) × (length spans ≡ 64) × AreSpans spans r (λ i. span v p (reportsIn kept at marks views plans v i))
 
 abbrev μ-loop : tie.MeasureT-loop
 μ-loop kept at marks views plans n v p spans₀ r₀ spans r = n - r
@@ -43,7 +44,7 @@ loop-again c =
     let low : at .r < length (at .spans) = omega arith in (
       omega arith,
       simp length-set (at .inv .1),
-      spansMore (at .spans) (at .r) (a .v) (a .p) (c .span-of .result) (reportsIn (a .kept .now) (a .at .now) (a .marks .now) (a .views .now) (a .plans .now) (a .v)) low (c .span-of .ensures) (at .inv .2),
+      spansMore (at .spans) (at .r) (c .span-of .result) (λ i. span (a .v) (a .p) (reportsIn (a .kept .now) (a .at .now) (a .marks .now) (a .views .now) (a .plans .now) (a .v) i)) low (c .span-of .ensures) (at .inv .2),
     )
 
 returns : tie.Need-returns Inv-loop μ-loop
