@@ -1,8 +1,9 @@
 //! Run times of the Rattle code next to the reference's, in one run on this machine, both built for release.
 //! Each figure is the best of some rounds, in nanoseconds a call. `cargo run --release --bin times` after scripts/test.
 use comparison::records::{reached, spell};
-use comparison::rows::{random, rows};
+use comparison::rows::{random, rows, Reports};
 use comparison::{choose_plan, record_again, record_class, safe_plan};
+use reference::frame::Report;
 use reference::record::{classify, decode, encode_into, Record, RECORD_LEN};
 use reference::rng::Rng;
 use reference::rules::{self, Rule};
@@ -52,34 +53,63 @@ fn record_times(records: &[Record], n: u8) {
     row(&format!("decode and soundness, n = {n}"), class, rust);
 }
 
-/// The slowest of some report sets with all views and plans different, each the best of some rounds.
-fn search_times(n: usize, f: usize) {
+const VIEW: u32 = 1_000_000;
+
+/// Step C's choice and step D's Rule 3 over one report set: Rattle and Rust, in nanoseconds a call.
+fn search_pairs(n: usize, f: usize, reports: &Reports) -> [(f64, f64); 2] {
+    let flat = rows(&mut Rng(9), VIEW, reports);
+    let c = best(20, || {
+        black_box(choose_plan(black_box(&flat), n, f, VIEW, 7));
+    });
+    let rust_c = best(20, || {
+        black_box(rules::choose(n, f, VIEW, black_box(reports), 7));
+    });
+    let d = best(20, || {
+        black_box(safe_plan(black_box(&flat), n, f, VIEW, 7, true));
+    });
+    let rust_d = best(20, || {
+        black_box(rules::safe(Rule::Three, n, f, VIEW, black_box(reports), 7));
+    });
+    [(c, rust_c), (d, rust_d)]
+}
+
+fn search_rows(what: &str, n: usize, [c, d]: [(f64, f64); 2]) {
+    row(&format!("step C, {what}, n = {n}"), c.0, c.1);
+    row(&format!("step D, {what}, n = {n}"), d.0, d.1);
+}
+
+/// Report sets as runs without liars leave them; plan 7 is asked for.
+fn ordinary(n: usize, f: usize) -> [(&'static str, Reports); 4] {
+    let vote = |view, plan| Some(Report { view, plan });
+    let set = |count: usize, report: &dyn Fn(usize) -> [Option<Report>; 3]| (0..n).map(|r| (r < count).then(|| report(r))).collect();
+    [
+        ("no lock", set(n, &|_| [vote(VIEW - 1, 9), None, None])),
+        ("too few reports", set(n - f - 1, &|_| [vote(VIEW - 1, 9), None, vote(VIEW - 1, 9)])),
+        ("one plan", set(n - f, &|r| [vote(VIEW - 1, 9), None, vote(VIEW - 1, 9).filter(|_| r < f)])),
+        ("two plans", set(n, &|r| [vote(VIEW - 1, 9 + r as u64 % 2), vote(VIEW - 3, 8), vote(VIEW - 2, 9)])),
+    ]
+}
+
+/// The slowest of some report sets with all views and plans different.
+fn slowest(n: usize, f: usize) -> [(f64, f64); 2] {
     let mut rng = Rng(9);
-    let (mut worst_c, mut worst_d) = ((0.0, 0.0), (0.0, 0.0));
+    let mut worst = [(0.0, 0.0); 2];
     for _ in 0..8 {
-        let reports = random(&mut rng, n, 1_000_000, 1 << 40);
-        let flat = rows(&mut rng, 1_000_000, &reports);
-        let c = best(20, || {
-            black_box(choose_plan(black_box(&flat), n, f, 1_000_000, 7));
-        });
-        let rust_c = best(20, || {
-            black_box(rules::choose(n, f, 1_000_000, black_box(&reports), 7));
-        });
-        let d = best(20, || {
-            black_box(safe_plan(black_box(&flat), n, f, 1_000_000, 7, true));
-        });
-        let rust_d = best(20, || {
-            black_box(rules::safe(Rule::Three, n, f, 1_000_000, black_box(&reports), 7));
-        });
-        if c > worst_c.0 {
-            worst_c = (c, rust_c);
-        }
-        if d > worst_d.0 {
-            worst_d = (d, rust_d);
+        let pairs = search_pairs(n, f, &random(&mut rng, n, VIEW, 1 << 40));
+        for (most, pair) in worst.iter_mut().zip(pairs) {
+            if pair.0 > most.0 {
+                *most = pair;
+            }
         }
     }
-    row(&format!("step C's choice, n = {n}"), worst_c.0, worst_c.1);
-    row(&format!("step D's Rule 3, n = {n}"), worst_d.0, worst_d.1);
+    worst
+}
+
+fn search_times(n: usize, f: usize) {
+    for (what, reports) in ordinary(n, f) {
+        search_rows(what, n, search_pairs(n, f, &reports));
+    }
+    search_rows("all differ", n, slowest(n, f));
 }
 
 fn main() {
