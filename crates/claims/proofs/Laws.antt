@@ -7,7 +7,7 @@ use mathlib.Core.Path.{_≡_, refl, sym, _∙_, ap}
 use mathlib.Core.Bool.{Bool, true, false, cond}
 use mathlib.Core.Logic.{_≢_, _↔_}
 use mathlib.Core.List.{List}
-use mathlib.Core.Option.{Option, none, some}
+use mathlib.Core.Option.{none, some}
 use native.Mathlib.Omega.{arith}
 use native.Mathlib.Numerals.{add-one}
 use native.Mathlib.Decide.{ℕ-discrete, decLe}
@@ -18,10 +18,10 @@ use borrow.Author.Tests.{le-leb, lt-leb, ltb-true, lt-ltb}
 use Rattle.quorum.specs.Sets.{equals, weigh, isBlocking}
 use Rattle.quorum.proofs.Bools.{notTrue}
 use Rattle.quorum.proofs.Laws.{weighMono, weighSame, weighPrefix, blockingWeighs}
-use Rattle.rules.specs.Rules.{Report, Reports, viewOf, claims, reporting}
+use Rattle.rules.specs.Rules.{Reports, viewOf, claims, reporting}
 use Rattle.rules.specs.Counts.{claimed}
-use Rattle.rules.specs.Views.{views, span, claimedViews}
-use Rattle.rules.proofs.Views.{Falls, viewsAre, claimedSpans}
+use Rattle.rules.specs.Views.{views}
+use Rattle.rules.proofs.Views.{Falls, viewsAre}
 use Rattle.claims.specs.Layout.{voteOf}
 use Rattle.claims.specs.Spans.{claimers, reaches, reached, highestTo, Within, AreSpans}
 
@@ -146,16 +146,7 @@ spansMore spans r t span low is are i below = go (ℕ-discrete i r)
 
 -- ---- the claims of the reports
 
-pub spanMost : (v p : ℕ) (o : Option Report) → span v p o ≤ v
-spanMost v p none = omega arith
-spanMost v p (some r) = omega arith
-
-module _ (n f v p : ℕ) (rs : Reports) where
-  -- A blocking set claims p in as many views as the spans say.
-  pub spansClaim : (spans : List ℕ) → AreSpans spans n (λ i. span v p (rs i)) → reached spans n f v ≡ claimedViews (equals n f) rs v p
-  unfolding claimedViews
-  spansClaim spans are = spansReach spans n (λ i. span v p (rs i)) are f v (claimed (equals n f) rs p) (claimedSpans (equals n f) rs v p)
-
+module _ (n f p : ℕ) (rs : Reports) where
   -- The first k vaults have a blocking set of claimers among them.
   pub claimedEarly : (u k c : ℕ) → k ≤ n → c ≡ weigh (λ i. 1) (reporting rs (claims p u)) k → f < c → true ≡ claimed (equals n f) rs p u
   unfolding claimed

@@ -1,5 +1,5 @@
 -- The search for the lowest view that fewer than f + 1 vaults cover, over their spans: how many views, from 0 on, each covers.
--- A vault covers, or claims, a view at which it claims the plan; in the search over locks, a view above which it has a lock.
+-- In the search over locks a vault covers, or claims, the views above which it has a lock.
 -- Assumes nothing.
 use Prim.Native.Nat.{ℕ, zero, suc, _≤_, _<_, max}
 use mathlib.Core.Path.{_≡_}

@@ -1,6 +1,6 @@
-// Claims: whether a blocking set of reporters claims a plan at a view, and in how many views (document 01, 'When a plan is safe').
-// The search over candidate views goes by spans: how many views, from 0 on, a vault covers with its claim or its lock.
-ghost use Prim.Native.Nat.{_+_, _-_, _≤_, _<_, min, max};
+// Claims: whether a blocking set of reporters claims a plan at a view (document 01, 'When a plan is safe').
+// And the search over candidate views, by spans: how many views, from 0 on, each vault covers.
+ghost use Prim.Native.Nat.{_+_, _-_, _≤_, _<_, max};
 ghost use mathlib.Core.Path.{_≡_};
 ghost use mathlib.Core.Bool.{cond};
 ghost use lib.Dec.{leb, ltb};
@@ -8,9 +8,8 @@ ghost use lib.ListN.{length};
 ghost use Rattle.quorum.specs.Sets.{equals};
 ghost use Rattle.rules.specs.Rules.{viewOf, viewFor, reach, claims, reporting};
 ghost use Rattle.rules.specs.Counts.{claimed};
-ghost use Rattle.rules.specs.Views.{span, claimedViews};
 ghost use Rattle.claims.specs.Layout.{voteOf, reportAt, reporter, reportsIn, Laid};
-ghost use Rattle.claims.specs.Spans.{reached, highestTo, Within, AreSpans};
+ghost use Rattle.claims.specs.Spans.{reached, highestTo, Within};
 
 // 'A blocking set [is] f + 1 or more vaults'.
 pub fn is_blocking(count: usize, f: usize) -> bool
@@ -122,33 +121,6 @@ pub fn claimed<'a>(
     false
 }
 
-// How many views there are up to view u, of those below v.
-fn views_to(u: u32, v: u32) -> u32
-    ensures { λ t. ⌜ t ≡ min (u + 1) v ⌝ }
-{
-    if u < v { u + 1 } else { v }
-}
-
-// In how many views below v the report of vault r claims p: in none where it has not reported.
-fn span_of<'a>(
-    kept: &'a [u8],
-    at: &'a [u32],
-    marks: &'a [u8],
-    views: &'a [u32],
-    plans: &'a [u64],
-    r: usize,
-    v: u32,
-    p: u64,
-) -> u32
-    requires { ⌜ Laid (now kept) (now at) (now marks) (now views) (now plans) × (r < 64) ⌝ }
-    ensures { λ t. ⌜ t ≡ span v p (reportsIn (now (kept .entry)) (now (at .entry)) (now (marks .entry)) (now (views .entry)) (now (plans .entry)) v r) ⌝ }
-{
-    if reported(kept, at, r, v) {
-        return views_to(reach_of(marks, views, plans, r, p), v);
-    }
-    0
-}
-
 // A span that is not above w, 0 for one that is.
 fn span_to(t: u32, w: u32) -> u32
     ensures { λ r. ⌜ r ≡ cond (leb t w) t 0 ⌝ }
@@ -205,46 +177,4 @@ pub fn serving_view<'a>(spans: &'a [u32], n: usize, f: usize, v: u32) -> u32
         last = w;
     };
     serving
-}
-
-// The spans of the first n vaults.
-fn spans_of<'a>(
-    kept: &'a [u8],
-    at: &'a [u32],
-    marks: &'a [u8],
-    views: &'a [u32],
-    plans: &'a [u64],
-    n: usize,
-    v: u32,
-    p: u64,
-) -> [u32; 64]
-    requires { ⌜ Laid (now kept) (now at) (now marks) (now views) (now plans) × (n ≤ 64) ⌝ }
-    ensures { λ t. ⌜ AreSpans t n (λ i. span v p (reportsIn (now (kept .entry)) (now (at .entry)) (now (marks .entry)) (now (views .entry)) (now (plans .entry)) v i)) ⌝ }
-{
-    let mut spans = [0u32; 64];
-    let mut r: usize = 0;
-    while r < n {
-        spans[r] = span_of(kept, at, marks, views, plans, r, v, p);
-        r += 1;
-    }
-    spans
-}
-
-// In how many views below v a blocking set of reporters claims p.
-pub fn claimed_views<'a>(
-    kept: &'a [u8],
-    at: &'a [u32],
-    marks: &'a [u8],
-    views: &'a [u32],
-    plans: &'a [u64],
-    n: usize,
-    f: usize,
-    v: u32,
-    p: u64,
-) -> u32
-    requires { ⌜ Laid (now kept) (now at) (now marks) (now views) (now plans) × (n ≤ 64) ⌝ }
-    ensures { λ t. ⌜ t ≡ claimedViews (equals n f) (reportsIn (now (kept .entry)) (now (at .entry)) (now (marks .entry)) (now (views .entry)) (now (plans .entry)) v) v p ⌝ }
-{
-    let spans = spans_of(kept, at, marks, views, plans, n, v, p);
-    serving_view(&spans, n, f, v)
 }

@@ -5,20 +5,20 @@
 use Prim.Native.Nat.{ℕ, zero, suc, _+_, _-_, _≤_, _<_, min}
 use mathlib.Core.Path.{_≡_, refl, sym, _∙_, ap}
 use mathlib.Core.Logic.{_≢_, _⊎_, inl, inr, ⊎-elim, _↔_}
-use mathlib.Core.Bool.{Bool, true, false, cond, not, _&&_, false≢true}
+use mathlib.Core.Bool.{Bool, true, false, cond, not, _&&_}
 use mathlib.Core.Option.{Option, none, some}
 use native.Mathlib.Omega.{arith}
 use native.Mathlib.Decide.{ℕ-discrete, decLt, decLe}
 use lib.Dec.{leb, ltb, eqb}
-use borrow.Author.Tests.{leb-true, ltb-true, le-leb, lt-leb, lt-ltb, le-ltb, eqb-true, not-true}
+use borrow.Author.Tests.{ltb-true, le-leb, lt-leb, lt-ltb, le-ltb, eqb-true, not-true}
 use Rattle.quorum.specs.Bools.{any}
-use Rattle.quorum.specs.Sets.{Vaults, weigh, isQuorum, isBlocking}
+use Rattle.quorum.specs.Sets.{Vaults, weigh, isQuorum}
 use Rattle.quorum.proofs.Bools.{which, clash, notTrue, sameTest, bothSplit, bothJoin, orLeft, orRight, either, anyAt, anyWhere}
-use Rattle.quorum.proofs.Laws.{quorumByWeight, blockingByWeight, enoughMono, weighMost}
-use Rattle.rules.specs.Rules.{Report, Reports, Rule, rule1, rule3, viewOf, reach, claims, allows, reporting, TwoSets}
+use Rattle.quorum.proofs.Laws.{quorumByWeight, enoughMono, weighMost}
+use Rattle.rules.specs.Rules.{Report, Reports, Rule, rule1, rule3, viewOf, allows, reporting, TwoSets}
 use Rattle.rules.specs.Options.{holds}
 use Rattle.rules.specs.Counts.{claimed, free, allowed, twoSets, backed, safe}
-use Rattle.rules.specs.Views.{views, span, under, cleared, lockSpan, lowestView, Lowest}
+use Rattle.rules.specs.Views.{views, under, cleared, lockSpan, lowestView, Lowest}
 use Rattle.rules.proofs.Single.{allowsUnder, underAllows, underRises}
 use Rattle.rules.proofs.Laws.{enoughReports, claimedIff, claimedFalls, twoIff}
 
@@ -234,20 +234,3 @@ module _ (vs : Vaults) (rs : Reports) (v : ℕ) where
           go : Dec (u < viewOf (r .lock)) → leb (viewOf (r .lock)) u ≡ not (ltb u (min (viewOf (r .lock)) v))
           go (yes less) = lt-leb (viewOf (r .lock)) u less ∙ ap not (sym (lt-ltb u (min (viewOf (r .lock)) v) (omega arith)))
           go (no more) = le-leb (viewOf (r .lock)) u (omega arith) ∙ ap not (sym (le-ltb u (min (viewOf (r .lock)) v) (omega arith)))
-
-  -- ---- claims by the spans of the reports
-
-  -- At a view below v, p is claimed by the reports that claim it in more views than that.
-  pub claimedSpans : (p u : ℕ) → u < v → claimed vs rs p u ≡ isBlocking vs (λ i. ltb u (span v p (rs i)))
-  unfolding claimed claims
-  claimedSpans p u low =
-      sameTest _ _ (enoughMono vs (isBlocking vs) (blockingByWeight vs) _ _ (λ i below. spanTo (rs i)))
-      (enoughMono vs (isBlocking vs) (blockingByWeight vs) _ _ (λ i below. spanFrom (rs i)))
-    where
-      spanTo : (o : Option Report) → holds (claims p u) o ≡ true → ltb u (span v p o) ≡ true
-      spanTo none h = absurd (false≢true h)
-      spanTo (some r) h = lt-ltb u (min (reach r p + 1) v) (omega (arith, leb-true u (reach r p) h))
-
-      spanFrom : (o : Option Report) → ltb u (span v p o) ≡ true → holds (claims p u) o ≡ true
-      spanFrom none h = let z : u < 0 = ltb-true u 0 h in absurd (omega arith)
-      spanFrom (some r) h = le-leb u (reach r p) (omega (arith, ltb-true u (min (reach r p + 1) v) h))

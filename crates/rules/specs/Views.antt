@@ -1,26 +1,17 @@
 -- Tests that fall or rise with the view hold in the first so many views, or from there on: one number says where.
 -- Assumes nothing.
-use Prim.Native.Nat.{ℕ, _+_, _<_, min}
+use Prim.Native.Nat.{ℕ, _<_, min}
 use mathlib.Core.Path.{_≡_}
 use mathlib.Core.Bool.{Bool, false, not}
 use mathlib.Core.Option.{Option, none, some}
 use lib.Dec.{leb}
 use Rattle.quorum.specs.Sets.{Vaults, weigh, isQuorum}
-use Rattle.rules.specs.Rules.{Report, Reports, viewOf, reach, reporting}
-use Rattle.rules.specs.Counts.{claimed, free}
+use Rattle.rules.specs.Rules.{Report, Reports, viewOf, reporting}
+use Rattle.rules.specs.Counts.{free}
 
 -- How many views below v pass a test.
 abbrev pub views : (ℕ → Bool) → ℕ → ℕ
 views test v = weigh (λ u. 1) test v
-
--- In how many views below v a report claims p; in none where there is no report.
-abbrev pub span : ℕ → ℕ → Option Report → ℕ
-span v p none = 0
-span v p (some r) = min (reach r p + 1) v
-
--- In how many views below v a blocking set claims p.
-unfoldable pub claimedViews : Vaults → Reports → ℕ → ℕ → ℕ
-claimedViews vs rs v p = views (claimed vs rs p) v
 
 -- 'no lock .. above v'', of one report.
 unfoldable pub under : ℕ → Report → Bool

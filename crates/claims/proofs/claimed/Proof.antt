@@ -47,7 +47,7 @@ returns c =
     let rs = reportsIn (a .kept .now) (a .at .now) (a .marks .now) (a .views .now) (a .plans .now) (a .v) in
     let step = weighStep (λ i. 1) (reporting rs (claims (a .p) (a .u))) (at .r) (at .count) (add .result) (at .inv .3) (add .ensures) in
     let enough : a .f + 1 ≤ at .count + add .result = leb-true (a .f + 1) (at .count + add .result) (sym (c .before .is-blocking .ensures) ∙ c .if1 .taken) in
-    claimedEarly (a .n) (a .f) (a .v) (a .p) rs (a .u) (at .r + 1) (at .count + add .result) (omega arith) step (omega arith)
+    claimedEarly (a .n) (a .f) (a .p) rs (a .u) (at .r + 1) (at .count + add .result) (omega arith) step (omega arith)
 
 loop-less : tie.Need-loop-less Inv-loop μ-loop
 loop-less c = search needs
@@ -71,7 +71,7 @@ returns-2 c =
     let at = c .before .loop in
     let rs = reportsIn (a .kept .now) (a .at .now) (a .marks .now) (a .views .now) (a .plans .now) (a .v) in
     let e : at .r ≡ a .n = omega arith in
-    claimedNever (a .n) (a .f) (a .v) (a .p) rs (a .u) (at .count) (at .inv .3 ∙ ap (weigh (λ i. 1) (reporting rs (claims (a .p) (a .u)))) e) (at .inv .2)
+    claimedNever (a .n) (a .f) (a .p) rs (a .u) (at .count) (at .inv .3 ∙ ap (weigh (λ i. 1) (reporting rs (claims (a .p) (a .u)))) e) (at .inv .2)
 
 pub claimed-spec : {M : Type 1} → statement M
 claimed-spec =
