@@ -7,23 +7,23 @@ use mathlib.Core.Path.{_≡_, refl, sym, _∙_, ap}
 use mathlib.Core.Bool.{Bool, true, false, cond}
 use mathlib.Core.Logic.{_≢_, _↔_}
 use mathlib.Core.List.{List}
-use mathlib.Core.Option.{Option, none, some}
+use mathlib.Core.Option.{none, some}
 use native.Mathlib.Omega.{arith}
 use native.Mathlib.Numerals.{add-one}
 use native.Mathlib.Decide.{ℕ-discrete, decLe}
 use lib.Dec.{leb, ltb, eqb}
 use lib.ListN.{length, getD, set}
 use lib.Seq.{getD-set-same, getD-set-other}
-use borrow.Author.Tests.{leb-true, le-leb, lt-leb, ltb-true, lt-ltb}
+use borrow.Author.Tests.{le-leb, lt-leb, ltb-true, lt-ltb}
 use Rattle.quorum.specs.Sets.{equals, weigh, isBlocking}
-use Rattle.quorum.proofs.Bools.{clash, notTrue}
-use Rattle.quorum.proofs.Laws.{weighMono, weighSame, weighMost, blockingWeighs}
-use Rattle.rules.specs.Rules.{Report, Reports, viewOf}
+use Rattle.quorum.proofs.Bools.{notTrue}
+use Rattle.quorum.proofs.Laws.{weighMono, weighSame, weighPrefix, blockingWeighs}
+use Rattle.rules.specs.Rules.{Reports, viewOf, claims, reporting}
 use Rattle.rules.specs.Counts.{claimed}
-use Rattle.rules.specs.Views.{views, span, claimedViews}
-use Rattle.rules.proofs.Views.{Falls, viewsAre, claimedSpans}
+use Rattle.rules.specs.Views.{views}
+use Rattle.rules.proofs.Views.{Falls, viewsAre}
 use Rattle.claims.specs.Layout.{voteOf}
-use Rattle.claims.specs.Spans.{claimers, reaches, reached, highestTo, lastOf, Within, AreSpans}
+use Rattle.claims.specs.Spans.{claimers, reaches, reached, highestTo, Within, AreSpans}
 
 -- A vote's view does not depend on its plan.
 pub viewAlone : (mark view plan : ℕ) → viewOf (voteOf mark view 0) ≡ viewOf (voteOf mark view plan)
@@ -105,80 +105,56 @@ module _ (spans : List ℕ) (n f : ℕ) where
     fewAfter = rw is (omega (arith, candidatesExact last))
 
     -- Enough claim at its last view: that is the highest view with enough.
-    pub searchFound : t ≢ 0 → f < claiming (t - 1) → t - 1 ≡ lastOf v (reached spans n f v)
+    pub searchFound : t ≢ 0 → f < claiming (t - 1) → t ≡ reached spans n f v
     unfolding reached
-    searchFound there enough =
-        let e : views (reaches spans n f) v ≡ suc (t - 1) = viewsAre (reaches spans n f) reachesFalls v (suc (t - 1)) (omega (arith, highestLow last n))
-        (λ u (same : u + 1 ≡ suc (t - 1)). at u (omega arith)) (λ below. notTrue (reaches spans n f (suc (t - 1))) (λ h. over (reachesIff (suc (t - 1)) .0 h))) in
-        rw e
+    searchFound there enough = sym (viewsAre (reaches spans n f) reachesFalls v t (omega (arith, highestLow last n))
+        (λ u (same : u + 1 ≡ t). at u (omega arith)) (λ below. notTrue (reaches spans n f t) (λ h. omega (arith, reachesIff t .0 h, fewAfter))))
       where
         at : (u : ℕ) → u ≡ t - 1 → reaches spans n f u ≡ true
         at u same = rw same (reachesIff (t - 1) .1 enough)
 
-        over : f < claiming (suc (t - 1)) → ⊥
-        over more =
-            let same : suc (t - 1) ≡ t = omega arith in
-            let h : f < claiming t = rw same at more in
-            omega (arith, fewAfter)
-
     -- There is no candidate left: too few claim at view 0.
-    pub searchNone : t ≡ 0 → v ≡ lastOf v (reached spans n f v)
+    pub searchNone : t ≡ 0 → 0 ≡ reached spans n f v
     unfolding reached
-    searchNone absent =
-        let e : views (reaches spans n f) v ≡ 0 = viewsAre (reaches spans n f) reachesFalls v 0 (omega arith) (λ u (same : u + 1 ≡ 0). absurd (omega arith))
-        (λ below. notTrue (reaches spans n f 0) (λ h. over (reachesIff 0 .0 h))) in
-        rw e
+    searchNone absent = sym (viewsAre (reaches spans n f) reachesFalls v 0 (omega arith) (λ u (same : u + 1 ≡ 0). absurd (omega arith))
+        (λ below. notTrue (reaches spans n f 0) (λ h. over (reachesIff 0 .0 h))))
       where
         over : f < claiming 0 → ⊥
         over more = let h : claiming 0 ≤ f = rw absent at fewAfter in omega arith
 
--- The number of views, from the last of them.
-lastNone : (v t w : ℕ) → t ≤ v → w ≡ lastOf v t → w ≡ v → 0 ≡ t
-lastNone v zero w le is same = refl
-lastNone v (suc t) w le is same = omega arith
+-- ---- the spans of the vaults
 
-lastSome : (v t w : ℕ) → t ≤ v → w ≡ lastOf v t → w ≢ v → w + 1 ≡ t
-lastSome v zero w le is above = absurd (above is)
-lastSome v (suc t) w le is above = omega arith
+module _ (spans : List ℕ) (n : ℕ) (span : ℕ → ℕ) (are : AreSpans spans n span) where
+  pub spansWithin : (v : ℕ) → ((i : ℕ) → span i ≤ v) → Within spans n v
+  spansWithin v most i low = rw (are i low) (most i)
 
--- ---- the spans of the reports
-
-module _ (spans : List ℕ) (n f v p : ℕ) (rs : Reports) (are : AreSpans spans n v p rs) where
-  pub spansWithin : Within spans n v
-  spansWithin i low = rw (are i low) (most (rs i))
+  -- A test of views that asks for a blocking set passes in as many views as the spans say.
+  pub spansReach : (f v : ℕ) (test : ℕ → Bool) → ((u : ℕ) → u < v → test u ≡ isBlocking (equals n f) (λ i. ltb u (span i))) → reached spans n f v ≡ views test v
+  unfolding reached reaches isBlocking
+  spansReach f v test asks = weighSame (λ u. 1) (reaches spans n f) test v (λ u low. ap (leb (f + 1)) (same u) ∙ sym (asks u low))
     where
-      most : (o : Option Report) → span v p o ≤ v
-      most none = omega arith
-      most (some r) = omega arith
-
-  -- A blocking set claims p in as many views as the spans say.
-  pub spansClaim : claimedViews (equals n f) rs v p ≡ reached spans n f v
-  unfolding claimedViews reached reaches isBlocking
-  spansClaim = weighSame (λ u. 1) (claimed (equals n f) rs p) (reaches spans n f) v (λ u low. claimedSpans (equals n f) rs v p u low ∙ ap (leb (f + 1)) (same u))
-    where
-      same : (u : ℕ) → weigh (λ i. 1) (λ i. ltb u (span v p (rs i))) n ≡ weigh (λ i. 1) (claimers spans u) n
-      same u = weighSame (λ i. 1) (λ i. ltb u (span v p (rs i))) (claimers spans u) n (λ i low. ap (λ (t : ℕ). ltb u t) (sym (are i low)))
-
-  reachedMost : reached spans n f v ≤ v
-  unfolding reached
-  reachedMost = weighMost (reaches spans n f) v
-
-  module _ (w : ℕ) (is : w ≡ lastOf v (reached spans n f v)) where
-    -- The search found no view.
-    pub claimedNone : w ≡ v → 0 ≡ claimedViews (equals n f) rs v p
-    claimedNone same = lastNone v (reached spans n f v) w reachedMost is same ∙ sym spansClaim
-
-    -- The search found view w.
-    pub claimedSome : w ≢ v → w + 1 ≡ claimedViews (equals n f) rs v p
-    claimedSome above = lastSome v (reached spans n f v) w reachedMost is above ∙ sym spansClaim
-
-    pub claimedLow : w ≢ v → w < v
-    claimedLow above = omega (arith, lastSome v (reached spans n f v) w reachedMost is above, reachedMost)
+      same : (u : ℕ) → weigh (λ i. 1) (claimers spans u) n ≡ weigh (λ i. 1) (λ i. ltb u (span i)) n
+      same u = weighSame (λ i. 1) (claimers spans u) (λ i. ltb u (span i)) n (λ i low. ap (λ (t : ℕ). ltb u t) (are i low))
 
 -- One span more is written.
-pub spansMore : (spans : List ℕ) (r v p t : ℕ) (rs : Reports) → r < length spans → t ≡ span v p (rs r) → AreSpans spans r v p rs → AreSpans (set spans r t) (r + 1) v p rs
-spansMore spans r v p t rs low is are i below = go (ℕ-discrete i r)
+pub spansMore : (spans : List ℕ) (r t : ℕ) (span : ℕ → ℕ) → r < length spans → t ≡ span r → AreSpans spans r span → AreSpans (set spans r t) (r + 1) span
+spansMore spans r t span low is are i below = go (ℕ-discrete i r)
   where
-    go : Dec (i ≡ r) → getD (set spans r t) i 0 ≡ span v p (rs i)
+    go : Dec (i ≡ r) → getD (set spans r t) i 0 ≡ span i
     go (yes same) = rw same (getD-set-same spans r t 0 low ∙ is)
     go (no differ) = getD-set-other spans r i t 0 differ ∙ are i (omega arith)
+
+-- ---- the claims of the reports
+
+module _ (n f p : ℕ) (rs : Reports) where
+  -- The first k vaults have a blocking set of claimers among them.
+  pub claimedEarly : (u k c : ℕ) → k ≤ n → c ≡ weigh (λ i. 1) (reporting rs (claims p u)) k → f < c → true ≡ claimed (equals n f) rs p u
+  unfolding claimed
+  claimedEarly u k c low is enough =
+      sym (blockingWeighs (equals n f) (reporting rs (claims p u)) .1 (omega (arith, weighPrefix (λ i. 1) (reporting rs (claims p u)) k n low)))
+
+  -- Of all vaults too few claim p.
+  pub claimedNever : (u c : ℕ) → c ≡ weigh (λ i. 1) (reporting rs (claims p u)) n → c ≤ f → false ≡ claimed (equals n f) rs p u
+  unfolding claimed
+  claimedNever u c is few =
+      sym (notTrue _ (λ h. let more : f < weigh (λ i. 1) (reporting rs (claims p u)) n = blockingWeighs (equals n f) (reporting rs (claims p u)) .0 h in omega arith))

@@ -1,4 +1,5 @@
--- The search for the highest view with a blocking set of claimers, over the reports' spans: in how many views each claims.
+-- The search for the lowest view that fewer than f + 1 vaults cover, over their spans: how many views, from 0 on, each covers.
+-- In the search over locks a vault covers, or claims, the views above which it has a lock.
 -- Assumes nothing.
 use Prim.Native.Nat.{ℕ, zero, suc, _≤_, _<_, max}
 use mathlib.Core.Path.{_≡_}
@@ -7,8 +8,7 @@ use mathlib.Core.List.{List}
 use lib.Dec.{leb, ltb}
 use lib.ListN.{getD}
 use Rattle.quorum.specs.Sets.{equals, isBlocking, Set}
-use Rattle.rules.specs.Rules.{Reports}
-use Rattle.rules.specs.Views.{views, span}
+use Rattle.rules.specs.Views.{views}
 
 -- Those of whose spans view u is one.
 abbrev pub claimers : List ℕ → ℕ → Set
@@ -27,15 +27,10 @@ unfoldable pub highestTo : List ℕ → ℕ → ℕ → ℕ
 highestTo spans w zero = 0
 highestTo spans w (suc k) = max (highestTo spans w k) (cond (leb (getD spans k 0) w) (getD spans k 0) 0)
 
--- The last of t views, v where there is none.
-abbrev pub lastOf : ℕ → ℕ → ℕ
-lastOf v zero = v
-lastOf v (suc w) = w
-
 -- The first n spans are at most v.
 abbrev pub Within : List ℕ → ℕ → ℕ → Type 0
 Within spans n v = (i : ℕ) → i < n → getD spans i 0 ≤ v
 
--- The list has the spans of the first n reports.
-abbrev pub AreSpans : List ℕ → ℕ → ℕ → ℕ → Reports → Type 0
-AreSpans spans n v p rs = (i : ℕ) → i < n → getD spans i 0 ≡ span v p (rs i)
+-- The list has the first n spans.
+abbrev pub AreSpans : List ℕ → ℕ → (ℕ → ℕ) → Type 0
+AreSpans spans n span = (i : ℕ) → i < n → getD spans i 0 ≡ span i

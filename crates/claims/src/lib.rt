@@ -1,14 +1,15 @@
-// Claims: in how many views below v a blocking set of reporters claims a plan (document 01, 'When a plan is safe').
-ghost use Prim.Native.Nat.{_+_, _-_, _≤_, _<_, min, max};
+// Claims: whether a blocking set of reporters claims a plan at a view (document 01, 'When a plan is safe').
+// And the search over candidate views, by spans: how many views, from 0 on, each vault covers.
+ghost use Prim.Native.Nat.{_+_, _-_, _≤_, _<_, max};
 ghost use mathlib.Core.Path.{_≡_};
 ghost use mathlib.Core.Bool.{cond};
 ghost use lib.Dec.{leb, ltb};
-ghost use lib.ListN.{length, getD};
+ghost use lib.ListN.{length};
 ghost use Rattle.quorum.specs.Sets.{equals};
-ghost use Rattle.rules.specs.Rules.{viewOf, viewFor, reach};
-ghost use Rattle.rules.specs.Views.{span, claimedViews};
+ghost use Rattle.rules.specs.Rules.{viewOf, viewFor, reach, claims, reporting};
+ghost use Rattle.rules.specs.Counts.{claimed};
 ghost use Rattle.claims.specs.Layout.{voteOf, reportAt, reporter, reportsIn, Laid};
-ghost use Rattle.claims.specs.Spans.{reached, highestTo, lastOf, Within, AreSpans};
+ghost use Rattle.claims.specs.Spans.{reached, highestTo, Within};
 
 // 'A blocking set [is] f + 1 or more vaults'.
 pub fn is_blocking(count: usize, f: usize) -> bool
@@ -24,7 +25,7 @@ pub fn larger(a: u32, b: u32) -> u32
 }
 
 // The view of a vote that is there, 0 of one that is not. The plan does not matter.
-fn view_of(mark: u8, view: u32) -> u32
+pub fn view_of(mark: u8, view: u32) -> u32
     ensures { λ r. ⌜ r ≡ viewOf (voteOf mark view 0) ⌝ }
 {
     if mark == 0 {
@@ -68,15 +69,8 @@ fn reach_of<'a>(marks: &'a [u8], views: &'a [u32], plans: &'a [u64], r: usize, p
     larger(high, low)
 }
 
-// How many views there are up to view u, of those below v.
-fn views_to(u: u32, v: u32) -> u32
-    ensures { λ t. ⌜ t ≡ min (u + 1) v ⌝ }
-{
-    if u < v { u + 1 } else { v }
-}
-
-// In how many views below v the report of vault r claims p: in none where it has not reported.
-fn span_of<'a>(
+// What vault r adds to the claimers of p at view u.
+fn claimer_share<'a>(
     kept: &'a [u8],
     at: &'a [u32],
     marks: &'a [u8],
@@ -85,14 +79,46 @@ fn span_of<'a>(
     r: usize,
     v: u32,
     p: u64,
-) -> u32
+    u: u32,
+) -> usize
     requires { ⌜ Laid (now kept) (now at) (now marks) (now views) (now plans) × (r < 64) ⌝ }
-    ensures { λ t. ⌜ t ≡ span v p (reportsIn (now (kept .entry)) (now (at .entry)) (now (marks .entry)) (now (views .entry)) (now (plans .entry)) v r) ⌝ }
+    ensures { λ c. ⌜ c ≡ cond (reporting (reportsIn (now (kept .entry)) (now (at .entry)) (now (marks .entry)) (now (views .entry)) (now (plans .entry)) v) (claims p u) r) 1 0 ⌝ }
 {
     if reported(kept, at, r, v) {
-        return views_to(reach_of(marks, views, plans, r, p), v);
+        if u <= reach_of(marks, views, plans, r, p) {
+            return 1;
+        }
+        return 0;
     }
     0
+}
+
+// Whether a blocking set of reporters claims p at view u.
+pub fn claimed<'a>(
+    kept: &'a [u8],
+    at: &'a [u32],
+    marks: &'a [u8],
+    views: &'a [u32],
+    plans: &'a [u64],
+    n: usize,
+    f: usize,
+    v: u32,
+    p: u64,
+    u: u32,
+) -> bool
+    requires { ⌜ Laid (now kept) (now at) (now marks) (now views) (now plans) × (n ≤ 64) ⌝ }
+    ensures { λ b. ⌜ b ≡ claimed (equals n f) (reportsIn (now (kept .entry)) (now (at .entry)) (now (marks .entry)) (now (views .entry)) (now (plans .entry)) v) p u ⌝ }
+{
+    let mut count: usize = 0;
+    let mut r: usize = 0;
+    while r < n {
+        count += claimer_share(kept, at, marks, views, plans, r, v, p, u);
+        r += 1;
+        if is_blocking(count, f) {
+            return true;
+        }
+    }
+    false
 }
 
 // A span that is not above w, 0 for one that is.
@@ -123,17 +149,17 @@ fn claim_share(t: u32, w: u32) -> usize
     if w < t { 1 } else { 0 }
 }
 
-// The search over candidate views, downwards: the highest view below v that f + 1 or more claim, v where there is none.
-// Between two candidates the claimers are the same, so the candidates are the last views of the spans.
-fn serving_view<'a>(spans: &'a [u32], n: usize, f: usize, v: u32) -> u32
+// The search over candidate views, downwards: the lowest view that fewer than f + 1 of the spans cover.
+// Between two ends of spans the same spans cover a view, so the candidates are the ends.
+pub fn serving_view<'a>(spans: &'a [u32], n: usize, f: usize, v: u32) -> u32
     requires { ⌜ (n ≤ 64) × (length (now spans) ≡ 64) × Within (now spans) n v ⌝ }
-    ensures { λ w. ⌜ w ≡ lastOf v (reached (now (spans .entry)) n f v) ⌝ }
+    ensures { λ t. ⌜ t ≡ reached (now (spans .entry)) n f v ⌝ }
 {
     let mut last: u32 = v;
     let serving: u32 = 'views: loop {
         let t = highest_to(spans, n, last);
         if t == 0 {
-            break 'views v;
+            break 'views 0;
         }
         let w = t - 1;
         let mut claim: usize = 0;
@@ -145,56 +171,10 @@ fn serving_view<'a>(spans: &'a [u32], n: usize, f: usize, v: u32) -> u32
             claim += claim_share(spans[r], w);
             r += 1;
             if is_blocking(claim, f) {
-                break 'views w;
+                break 'views t;
             }
         }
         last = w;
     };
     serving
-}
-
-// The spans of the first n vaults.
-fn spans_of<'a>(
-    kept: &'a [u8],
-    at: &'a [u32],
-    marks: &'a [u8],
-    views: &'a [u32],
-    plans: &'a [u64],
-    n: usize,
-    v: u32,
-    p: u64,
-) -> [u32; 64]
-    requires { ⌜ Laid (now kept) (now at) (now marks) (now views) (now plans) × (n ≤ 64) ⌝ }
-    ensures { λ t. ⌜ AreSpans t n v p (reportsIn (now (kept .entry)) (now (at .entry)) (now (marks .entry)) (now (views .entry)) (now (plans .entry)) v) ⌝ }
-{
-    let mut spans = [0u32; 64];
-    let mut r: usize = 0;
-    while r < n {
-        spans[r] = span_of(kept, at, marks, views, plans, r, v, p);
-        r += 1;
-    }
-    spans
-}
-
-// In how many views below v a blocking set of reporters claims p.
-pub fn claimed_views<'a>(
-    kept: &'a [u8],
-    at: &'a [u32],
-    marks: &'a [u8],
-    views: &'a [u32],
-    plans: &'a [u64],
-    n: usize,
-    f: usize,
-    v: u32,
-    p: u64,
-) -> u32
-    requires { ⌜ Laid (now kept) (now at) (now marks) (now views) (now plans) × (n ≤ 64) ⌝ }
-    ensures { λ t. ⌜ t ≡ claimedViews (equals n f) (reportsIn (now (kept .entry)) (now (at .entry)) (now (marks .entry)) (now (views .entry)) (now (plans .entry)) v) v p ⌝ }
-{
-    let spans = spans_of(kept, at, marks, views, plans, n, v, p);
-    let w = serving_view(&spans, n, f, v);
-    if w == v {
-        return 0;
-    }
-    w + 1
 }

@@ -4,16 +4,16 @@
 -- (`counted`), as a set with P weighs no more than all with P.
 -- Assumes nothing.
 use Prim.Native.Nat.{ℕ, zero, suc, _+_, _-_, _*_, _≤_, _<_}
-use mathlib.Core.Path.{_≡_, refl, sym, _∙_}
+use mathlib.Core.Path.{_≡_, refl, sym, _∙_, ap}
 use mathlib.Core.Bool.{Bool, true, false, not, cond, _&&_}
 use mathlib.Core.Logic.{_⊎_, inl, inr, _↔_}
 use native.Mathlib.Omega.{arith}
 use native.Mathlib.Numerals.{add-one}
 use native.Mathlib.Decide.{decLe}
 use lib.Dec.{leb}
-use borrow.Author.Tests.{leb-true, le-leb, not-false}
+use borrow.Author.Tests.{leb-true, le-leb, not-true, not-false}
 use Rattle.quorum.specs.Sets.{Vaults, equals, Set, weigh, size, total, isQuorum, isBlocking, Group, Quorum, Blocking, Mostly}
-use Rattle.quorum.proofs.Bools.{clash, bothSplit}
+use Rattle.quorum.proofs.Bools.{clash, notTrue, sameTest, bothSplit}
 
 -- ---- what a set weighs
 
@@ -118,6 +118,16 @@ blockingWeighs vs s = (
   λ h. omega (arith, leb-true (vs .f + 1) (size vs s) h),
   λ h. le-leb (vs .f + 1) (size vs s) (omega arith),
 )
+
+-- A set is blocking exactly if the rest is no quorum.
+pub blockingRest : (vs : Vaults) (s : Set) → isBlocking vs s ≡ not (isQuorum vs (λ i. not (s i)))
+blockingRest vs s = sameTest _ _
+    (λ h. ap not (notTrue _ (λ q. omega (arith, blockingWeighs vs s .0 h, quorumWeighs vs (λ i. not (s i)) .0 q, weighRest (vs .weight) s (vs .n)))))
+    (λ h. blockingWeighs vs s .1 (go (decLe (total vs) (size vs (λ i. not (s i)) + vs .f)) h))
+  where
+    go : Dec (total vs ≤ size vs (λ i. not (s i)) + vs .f) → not (isQuorum vs (λ i. not (s i))) ≡ true → vs .f < size vs s
+    go (yes le) h = absurd (clash (quorumWeighs vs (λ i. not (s i)) .1 le) (not-true _ h))
+    go (no less) h = omega (arith, weighRest (vs .weight) s (vs .n))
 
 -- What is enough goes by weight: a set that weighs no less is enough too.
 abbrev pub ByWeight : (vs : Vaults) → (Set → Bool) → Type 0

@@ -54,8 +54,8 @@ module _ (vs : Vaults) (rs : Reports) where
 
   -- ---- the plans of highest votes
 
-  votesPlan : (p i : ℕ) → votes rs p i ≡ true → planBy (λ r. r .highest) 0 (rs i) ≡ p
-  votesPlan p i h =
+  pub votesPlan : (p i d : ℕ) → votes rs p i ≡ true → planBy (λ r. r .highest) d (rs i) ≡ p
+  votesPlan p i d h =
       let (r, is, voted) = holdsWhere (rs i) (λ r. holds (λ x. eqb (x .plan) p) (r .highest)) h in
       let (x, at, same) = holdsWhere (r .highest) (λ x. eqb (x .plan) p) voted in
       rw (is, at) (eqb-true (x .plan) p same)
@@ -76,7 +76,7 @@ module _ (vs : Vaults) (rs : Reports) where
   triedVoted : (p : ℕ) → any (votes rs p) (vs .n) ≡ true → Tried p
   triedVoted p h =
       let (i, low, at) = anyWhere (votes rs p) (vs .n) h in
-      (i, omega arith, rw (lt-ltb i (vs .n) low) (votesPlan p i at))
+      (i, omega arith, rw (lt-ltb i (vs .n) low) (votesPlan p i 0 at))
 
   triedSmall : (p : ℕ) → p < 2 → Tried p
   triedSmall p low =

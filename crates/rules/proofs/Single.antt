@@ -1,11 +1,11 @@
 -- Laws of one report (Rules 2 and 4; 'When a plan is safe'). Claims go by one number, the reach, so they fall with the view;
--- a lock that does not stand against p at a view does not at a later one; and a report that does not name p treats p as it
+-- a lock that is not above a view stands against no plan at a later one; and a report that does not name p treats p as it
 -- treats every other plan that it does not name.
 -- Assumes nothing.
-use Prim.Native.Nat.{ℕ, zero, suc, _+_, _≤_, _<_, max}
-use mathlib.Core.Path.{_≡_, refl, sym, _∙_, ap}
-use mathlib.Core.Logic.{_≢_, _⊎_, inl, inr, ⊎-elim, _↔_}
-use mathlib.Core.Bool.{Bool, true, false, cond, not, _&&_, _||_, false≢true}
+use Prim.Native.Nat.{ℕ, _≤_, _<_, max}
+use mathlib.Core.Path.{_≡_, refl, ap}
+use mathlib.Core.Logic.{_⊎_, inl, inr, ⊎-elim, _↔_}
+use mathlib.Core.Bool.{true, false, not, _||_}
 use mathlib.Core.Option.{Option, none, some}
 use native.Mathlib.Omega.{arith}
 use lib.Dec.{leb, eqb}
@@ -13,8 +13,9 @@ use native.Mathlib.Decide.{decLe}
 use borrow.Author.Tests.{leb-true, le-leb, eqb-true, eq-eqb, ne-eqb}
 use Rattle.quorum.proofs.Bools.{which, clash, notTrue, bothSplit, bothJoin, orLeft, orRight, either}
 use Rattle.rules.specs.Options.{isNone, holds}
-use Rattle.rules.specs.Rules.{Vote, Report, viewOf, viewFor, reach, claims, unlocked, fits, allows}
+use Rattle.rules.specs.Rules.{Vote, Report, viewOf, viewFor, reach, claims, fits, allows}
 use Rattle.rules.specs.Counts.{names}
+use Rattle.rules.specs.Views.{under}
 
 -- Document 01's three cases: 'v' is 0, or its highest vote is for p at v' or later, or its previous vote is at v' or later'.
 pub data Says (r : Report) (p u : ℕ) : Type 0 where
@@ -62,22 +63,31 @@ pub claimsFall : (r : Report) (p u w : ℕ) → w ≤ u → claims p u r ≡ tru
 unfolding claims
 claimsFall r p u w le h = le-leb w (reach r p) (omega (arith, leb-true u (reach r p) h))
 
--- A lock that does not stand against p at a view does not at a later one.
-pub allowsRise : (r : Report) (p u w : ℕ) → u < w → allows p u r ≡ true → allows p w r ≡ true
-unfolding allows
-allowsRise r p u w less h = go (r .lock) h
+-- A lock that does not stand against p at a view is not above it.
+pub allowsUnder : (r : Report) (p u : ℕ) → allows p u r ≡ true → under u r ≡ true
+unfolding allows under
+allowsUnder r p u h = go (r .lock) h
   where
-    go : (o : Option Vote) → (isNone o || holds (fits p u) o) ≡ true → (isNone o || holds (fits p w) o) ≡ true
+    go : (o : Option Vote) → (isNone o || holds (fits p u) o) ≡ true → leb (viewOf o) u ≡ true
+    go none e = le-leb 0 u (omega arith)
+    go (some x) e = bothSplit (leb (x .view) u) _ e .0
+
+-- A lock that is not above a view stands against no plan at a later one.
+pub underAllows : (r : Report) (p u w : ℕ) → u < w → under u r ≡ true → allows p w r ≡ true
+unfolding allows under
+underAllows r p u w less h = go (r .lock) h
+  where
+    go : (o : Option Vote) → leb (viewOf o) u ≡ true → (isNone o || holds (fits p w) o) ≡ true
     go none e = refl
     go (some x) e =
-        let low : x .view ≤ u = leb-true (x .view) u (bothSplit (leb (x .view) u) _ e .0) in
+        let low : x .view ≤ u = leb-true (x .view) u e in
         bothJoin (leb (x .view) w) _ (le-leb (x .view) w (omega arith))
         (orLeft (not (eqb (x .view) w)) _ (ap not (ne-eqb (x .view) w (λ (same : x .view ≡ w). omega arith))))
 
--- 'no lock at all' stands against nothing.
-pub unlockedAllows : (r : Report) (p u : ℕ) → unlocked r ≡ true → allows p u r ≡ true
-unfolding allows unlocked
-unlockedAllows r p u h = orLeft (isNone (r .lock)) _ h
+-- A lock that is not above a view is not above a later one.
+pub underRises : (r : Report) (u w : ℕ) → u ≤ w → under u r ≡ true → under w r ≡ true
+unfolding under
+underRises r u w le h = le-leb (viewOf (r .lock)) w (omega (arith, leb-true (viewOf (r .lock)) u h))
 
 -- ---- plans that a report does not name
 

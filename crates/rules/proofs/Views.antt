@@ -1,27 +1,26 @@
--- One view decides (document 01, step C: 'The search over candidate views ends at the first one that serves the plan').
--- What backs a plan falls with the view and what allows it rises, so the highest backed view serves the plan or none does;
--- with no backed view at all only 'no lock at all' is left. The highest view of the two-set clause is the same for every plan,
--- and comes from the two plans that are claimed highest.
+-- Two views decide (document 01, step C: 'The search over candidate views ends at the first one that serves the plan').
+-- What backs a plan falls with the view and what allows it rises. Below the lowest view u with a quorum that has no lock above it no
+-- plan is allowed; above u every plan is. So a plan is safe exactly if u serves it or, where locks at u stand against it, the next view.
 -- Assumes nothing.
-use Prim.Native.Nat.{ℕ, zero, suc, _+_, _-_, _≤_, _<_, min, max}
+use Prim.Native.Nat.{ℕ, zero, suc, _+_, _-_, _≤_, _<_, min}
 use mathlib.Core.Path.{_≡_, refl, sym, _∙_, ap}
 use mathlib.Core.Logic.{_≢_, _⊎_, inl, inr, ⊎-elim, _↔_}
-use mathlib.Core.Bool.{Bool, true, false, cond, _&&_, _||_, false≢true}
+use mathlib.Core.Bool.{Bool, true, false, cond, not, _&&_}
 use mathlib.Core.Option.{Option, none, some}
 use native.Mathlib.Omega.{arith}
-use native.Mathlib.Decide.{ℕ-discrete, decLt}
+use native.Mathlib.Decide.{ℕ-discrete, decLt, decLe}
 use lib.Dec.{leb, ltb, eqb}
-use borrow.Author.Tests.{leb-true, ltb-true, le-leb, lt-ltb, le-ltb, eqb-true, ne-eqb}
+use borrow.Author.Tests.{ltb-true, le-leb, lt-leb, lt-ltb, le-ltb, eqb-true, not-true}
 use Rattle.quorum.specs.Bools.{any}
-use Rattle.quorum.specs.Sets.{Vaults, Set, weigh, isQuorum, isBlocking}
+use Rattle.quorum.specs.Sets.{Vaults, weigh, isQuorum}
 use Rattle.quorum.proofs.Bools.{which, clash, notTrue, sameTest, bothSplit, bothJoin, orLeft, orRight, either, anyAt, anyWhere}
-use Rattle.quorum.proofs.Laws.{quorumByWeight, blockingByWeight, enoughMono, weighMost}
-use Rattle.rules.specs.Rules.{Report, Reports, Rule, rule1, rule3, reach, claims, unlocked, allows, reporting, TwoSets}
+use Rattle.quorum.proofs.Laws.{quorumByWeight, enoughMono, weighMost}
+use Rattle.rules.specs.Rules.{Report, Reports, Rule, rule1, rule3, viewOf, allows, reporting, TwoSets}
 use Rattle.rules.specs.Options.{holds}
 use Rattle.rules.specs.Counts.{claimed, free, allowed, twoSets, backed, safe}
-use Rattle.rules.specs.Views.{views, span, claimedViews, twoViews, backedViews, lockAllows, allowsTo}
-use Rattle.rules.proofs.Single.{allowsRise, unlockedAllows}
-use Rattle.rules.proofs.Laws.{enoughReports, claimedIff, claimedFalls, votes, unvotedClaims, twoIff}
+use Rattle.rules.specs.Views.{views, under, cleared, lockSpan, lowestView, Lowest}
+use Rattle.rules.proofs.Single.{allowsUnder, underAllows, underRises}
+use Rattle.rules.proofs.Laws.{enoughReports, claimedIff, claimedFalls, twoIff}
 
 -- ---- tests that fall with the view
 
@@ -74,22 +73,6 @@ module _ (test : ℕ → Bool) (falls : Falls test) where
           below h (yes same) = absurd (clash (rw same at h) off)
           below h (no differ) = omega (arith, rest u (omega arith) .0 h)
 
-  pub viewsMost : (v : ℕ) → views test v ≤ v
-  viewsMost v = weighMost test v
-
--- ---- what a lock allows rises with the views
-
-allowsToRise : (r : Report) (p t t′ : ℕ) → t ≤ t′ → allowsTo p t r ≡ true → allowsTo p t′ r ≡ true
-unfolding lockAllows allows unlocked
-allowsToRise r p zero zero le h = h
-allowsToRise r p zero (suc w) le h = unlockedAllows r p w h
-allowsToRise r p (suc u) zero le h = absurd (omega arith)
-allowsToRise r p (suc u) (suc w) le h = go (ℕ-discrete u w)
-  where
-    go : Dec (u ≡ w) → allows p w r ≡ true
-    go (yes same) = rw same at h
-    go (no differ) = allowsRise r p u w (omega arith) h
-
 module _ (vs : Vaults) (rs : Reports) (v : ℕ) where
   -- ---- the views that back a plan
 
@@ -105,156 +88,149 @@ module _ (vs : Vaults) (rs : Reports) (v : ℕ) where
       ⊎-elim (λ c. orLeft (claimed vs rs p w) _ (claimedFalls vs rs p u w le c)) (λ t. orRight (claimed vs rs p w) _ (twoFalls u w le t))
       (either (claimed vs rs p u) _ h)
 
-  -- A view below v has a blocking set claiming p exactly if it is one of the first so many.
-  pub claimedView : (p u : ℕ) → u < v → (claimed vs rs p u ≡ true) ↔ (u < claimedViews vs rs v p)
-  unfolding claimedViews
-  claimedView p u low = viewsIff (claimed vs rs p) (claimedFalls vs rs p) v u low
+  -- ---- the two-set clause at view u
 
-  twoView : (u : ℕ) → u < v → (twoSets vs rs v u ≡ true) ↔ (u < twoViews vs rs v)
-  unfolding twoViews
-  twoView u low = viewsIff (twoSets vs rs v) twoFalls v u low
+  pub twoLate : (u : ℕ) → v ≤ u + 1 → twoSets vs rs v u ≡ false
+  twoLate u late = notTrue _ (λ h. let t : TwoSets vs rs v u = twoIff vs rs v u .1 h in omega arith)
 
-  pub claimedMost : (p : ℕ) → claimedViews vs rs v p ≤ v
-  unfolding claimedViews
-  claimedMost p = weighMost (claimed vs rs p) v
+  twoClaims : (u : ℕ) → twoSets vs rs v u ≡ true → (p₁ p₂ : ℕ) × (p₂ ≢ p₁) × (claimed vs rs p₁ u ≡ true) × (claimed vs rs p₂ (u + 1) ≡ true)
+  twoClaims u h =
+      let t : TwoSets vs rs v u = twoIff vs rs v u .1 h in (
+        t .p₁,
+        t .p₂,
+        t .another,
+        claimedFalls vs rs (t .p₁) (t .a) u (t .from) (claimedIff vs rs (t .p₁) (t .a) .0 (t .first)),
+        claimedFalls vs rs (t .p₂) (t .b) (u + 1) (omega arith) (claimedIff vs rs (t .p₂) (t .b) .0 (t .second)),
+      )
 
-  pub twoMost : twoViews vs rs v ≤ v
-  unfolding twoViews
-  twoMost = weighMost (twoSets vs rs v) v
+  -- No plan is claimed at the next view.
+  pub twoNone : (u : ℕ) → ((y : ℕ) → claimed vs rs y (u + 1) ≡ false) → twoSets vs rs v u ≡ false
+  twoNone u never = notTrue _ (λ h. let (p₁, p₂, differ, at, next) = twoClaims u h in clash next (never p₂))
 
-  pub backedMost : (rule : Rule) (p : ℕ) → backedViews rule vs rs v p ≤ v
-  unfolding backedViews
-  backedMost rule p = weighMost (backed rule vs rs v p) v
-
-  pub backedRule1 : (p : ℕ) → backedViews rule1 vs rs v p ≡ claimedViews vs rs v p
-  unfolding backedViews claimedViews backed
-  backedRule1 p = refl
-
-  pub backedRule3 : (p : ℕ) → backedViews rule3 vs rs v p ≡ max (claimedViews vs rs v p) (twoViews vs rs v)
-  unfolding backedViews backed
-  backedRule3 p =
-      viewsAre (backed rule3 vs rs v p) (backedFalls rule3 p) v (max (claimedViews vs rs v p) (twoViews vs rs v)) most last next
+  -- No plan but m is claimed at u.
+  pub twoLone : (u m : ℕ) → ((y : ℕ) → y ≢ m → claimed vs rs y u ≡ false) → twoSets vs rs v u ≡ false
+  twoLone u m lone = notTrue _ (λ h. let (p₁, p₂, differ, at, next) = twoClaims u h in go p₁ p₂ differ at next (ℕ-discrete p₁ m))
     where
-      most : max (claimedViews vs rs v p) (twoViews vs rs v) ≤ v
-      most = omega (arith, claimedMost p, twoMost)
+      go : (p₁ p₂ : ℕ) → p₂ ≢ p₁ → claimed vs rs p₁ u ≡ true → claimed vs rs p₂ (u + 1) ≡ true → Dec (p₁ ≡ m) → ⊥
+      go p₁ p₂ differ at next (yes same) = clash (claimedFalls vs rs p₂ (u + 1) u (omega arith) next) (lone p₂ (λ e. differ (e ∙ sym same)))
+      go p₁ p₂ differ at next (no off) = clash at (lone p₁ off)
 
-      last : (u : ℕ) → u + 1 ≡ max (claimedViews vs rs v p) (twoViews vs rs v) → (claimed vs rs p u || twoSets vs rs v u) ≡ true
-      last u e = go (decLt u (claimedViews vs rs v p))
+  -- Plan m is claimed at the next view, and another plan at u.
+  pub twoBoth : (u m x : ℕ) → u + 1 < v → claimed vs rs m (u + 1) ≡ true → x ≢ m → claimed vs rs x u ≡ true → twoSets vs rs v u ≡ true
+  twoBoth u m x low next differ at = twoIff vs rs v u .0 (record {
+    p₁ = x;
+    p₂ = m;
+    a = u;
+    b = u + 1;
+    another = λ e. differ (sym e);
+    from = omega arith;
+    later = omega arith;
+    before = low;
+    first = claimedIff vs rs x u .1 at;
+    second = claimedIff vs rs m (u + 1) .1 next;
+  })
+
+  -- ---- the lowest view with a cleared quorum
+
+  quorumReports : (s t : Report → Bool) → ((r : Report) → s r ≡ true → t r ≡ true) → isQuorum vs (reporting rs s) ≡ true → isQuorum vs (reporting rs t) ≡ true
+  quorumReports s t to = enoughReports vs (isQuorum vs) (quorumByWeight vs) rs s t (λ i low r is. to r)
+
+  allowedClears : (p u : ℕ) → allowed vs rs p u ≡ true → cleared vs rs u ≡ true
+  unfolding allowed cleared
+  allowedClears p u = quorumReports (allows p u) (under u) (λ r. allowsUnder r p u)
+
+  clearedAllows : (p u w : ℕ) → u < w → cleared vs rs u ≡ true → allowed vs rs p w ≡ true
+  unfolding allowed cleared
+  clearedAllows p u w less = quorumReports (under u) (allows p w) (λ r. underAllows r p u w less)
+
+  lockedFalls : Falls (λ u. not (cleared vs rs u))
+  unfolding cleared
+  lockedFalls u w le h =
+      ap not (notTrue (cleared vs rs w) (λ at. clash (quorumReports (under w) (under u) (λ r. underRises r w u le) at) (not-true _ h)))
+
+  -- A view below v has a cleared quorum exactly if it is not one of the first so many.
+  clearedIff : (u : ℕ) → u < v → (cleared vs rs u ≡ true) ↔ (lowestView vs rs v ≤ u)
+  unfolding lowestView
+  clearedIff u low = (
+    λ at. go (decLe (lowestView vs rs v) u) at,
+    λ le. ⊎-elim (λ at. at) (λ off. let less : u < lowestView vs rs v = viewsIff _ lockedFalls v u low .0 (ap not off) in absurd (omega arith)) (which (cleared vs rs u)),
+  )
+    where
+      go : Dec (lowestView vs rs v ≤ u) → cleared vs rs u ≡ true → lowestView vs rs v ≤ u
+      go (yes le) at = le
+      go (no above) at = absurd (clash at (not-true _ (viewsIff (λ w. not (cleared vs rs w)) lockedFalls v u low .1 (omega arith))))
+
+  -- ---- safe plans
+
+  servedSafe : (rule : Rule) (p u : ℕ) → u < v → allowed vs rs p u ≡ true → backed rule vs rs v p u ≡ true → safe rule vs rs v p ≡ true
+  unfolding safe
+  servedSafe rule p u low allow back =
+      orRight (eqb v 0) _ (orRight (free vs rs) _ (anyAt (λ w. allowed vs rs p w && backed rule vs rs v p w) v u low (bothJoin (allowed vs rs p u) _ allow back)))
+
+  -- No quorum is without a lock: then a safe plan has a view that serves it, and a quorum is cleared there.
+  module _ (locked : free vs rs ≡ false) (above : v ≢ 0) where
+    safeServed : (rule : Rule) (p : ℕ) → safe rule vs rs v p ≡ true
+        → (u : ℕ) × (u < v) × (lowestView vs rs v ≤ u) × (allowed vs rs p u ≡ true) × (backed rule vs rs v p u ≡ true)
+    unfolding safe
+    safeServed rule p h =
+        ⊎-elim (λ start. absurd (above (eqb-true v 0 start)))
+        (λ g. ⊎-elim (λ at. absurd (clash at locked)) found (either (free vs rs) _ g))
+        (either (eqb v 0) _ h)
+      where
+        found : any (λ u. allowed vs rs p u && backed rule vs rs v p u) v ≡ true
+            → (u : ℕ) × (u < v) × (lowestView vs rs v ≤ u) × (allowed vs rs p u ≡ true) × (backed rule vs rs v p u ≡ true)
+        found h =
+            let (u, low, both) = anyWhere (λ w. allowed vs rs p w && backed rule vs rs v p w) v h in
+            let (allow, back) = bothSplit (allowed vs rs p u) _ both in
+            (u, low, clearedIff u low .0 (allowedClears p u allow), allow, back)
+
+    -- No view below v has a cleared quorum: no plan is safe.
+    pub neverSafe : (rule : Rule) (p u : ℕ) → u ≡ lowestView vs rs v → v ≤ u → safe rule vs rs v p ≡ false
+    neverSafe rule p u is high = notTrue _ (λ h. let (w, low, le, allow, back) = safeServed rule p h in omega arith)
+
+  module _ (rule : Rule) (p u : ℕ) (l : Lowest vs rs v u) where
+    servedBy : safe rule vs rs v p ≡ true → (w : ℕ) × (w < v) × (u ≤ w) × (allowed vs rs p w ≡ true) × (backed rule vs rs v p w ≡ true)
+    servedBy h =
+        let (w, low, le, allow, back) = safeServed (l .locked) (λ (z : v ≡ 0). omega (arith, l .below)) rule p h in
+        (w, low, omega (arith, l .is), allow, back)
+
+    -- The locks at u allow p: u serves p, or no view does.
+    pub firstServes : allowed vs rs p u ≡ true → safe rule vs rs v p ≡ backed rule vs rs v p u
+    firstServes allow = sameTest _ _ (λ h. let (w, low, le, at, back) = servedBy h in backedFalls rule p w u le back) (servedSafe rule p u (l .below) allow)
+
+    -- They stand against it: the next view serves p, or no view does.
+    pub nextServes : allowed vs rs p u ≡ false → safe rule vs rs v p ≡ (ltb (u + 1) v && backed rule vs rs v p (u + 1))
+    nextServes off = sameTest _ _ to from
+      where
+        later : (w : ℕ) → u ≤ w → allowed vs rs p w ≡ true → Dec (w ≡ u) → u + 1 ≤ w
+        later w le at (yes same) = absurd (clash (rw same at at) off)
+        later w le at (no differ) = omega arith
+
+        to : safe rule vs rs v p ≡ true → (ltb (u + 1) v && backed rule vs rs v p (u + 1)) ≡ true
+        to h =
+            let (w, low, le, at, back) = servedBy h in
+            let less : u + 1 ≤ w = later w le at (ℕ-discrete w u) in
+            bothJoin (ltb (u + 1) v) _ (lt-ltb (u + 1) v (omega arith)) (backedFalls rule p w (u + 1) less back)
+
+        from : (ltb (u + 1) v && backed rule vs rs v p (u + 1)) ≡ true → safe rule vs rs v p ≡ true
+        from h =
+            let (below, back) = bothSplit (ltb (u + 1) v) _ h in
+            let clear : cleared vs rs u ≡ true = clearedIff u (l .below) .1 (omega (arith, l .is)) in
+            servedSafe rule p (u + 1) (ltb-true (u + 1) v below) (clearedAllows p u (u + 1) (omega arith) clear) back
+
+  -- ---- locks by the spans of the reports
+
+  -- At a view below v, a quorum is cleared exactly if the others, with a lock above it or no report, are not too many.
+  pub clearedSpans : (u : ℕ) → u < v → cleared vs rs u ≡ isQuorum vs (λ i. not (ltb u (lockSpan v (rs i))))
+  unfolding cleared under
+  clearedSpans u low =
+      sameTest _ _ (enoughMono vs (isQuorum vs) (quorumByWeight vs) _ _ (λ i below h. sym (same (rs i)) ∙ h))
+      (enoughMono vs (isQuorum vs) (quorumByWeight vs) _ _ (λ i below h. same (rs i) ∙ h))
+    where
+      same : (o : Option Report) → holds (under u) o ≡ not (ltb u (lockSpan v o))
+      same none = ap not (sym (lt-ltb u v low))
+      same (some r) = go (decLt u (viewOf (r .lock)))
         where
-          go : Dec (u < claimedViews vs rs v p) → (claimed vs rs p u || twoSets vs rs v u) ≡ true
-          go (yes low) = orLeft (claimed vs rs p u) _ (claimedView p u (omega (arith, claimedMost p)) .1 low)
-          go (no high) = orRight (claimed vs rs p u) _ (twoView u (omega (arith, most)) .1 (omega arith))
-
-      next : max (claimedViews vs rs v p) (twoViews vs rs v) < v
-          → (claimed vs rs p (max (claimedViews vs rs v p) (twoViews vs rs v)) || twoSets vs rs v (max (claimedViews vs rs v p) (twoViews vs rs v))) ≡ false
-      next low = notTrue _ (λ h. ⊎-elim
-          (λ c. let l : max (claimedViews vs rs v p) (twoViews vs rs v) < claimedViews vs rs v p = claimedView p _ low .0 c in omega arith)
-          (λ t. let l : max (claimedViews vs rs v p) (twoViews vs rs v) < twoViews vs rs v = twoView _ low .0 t in omega arith)
-          (either (claimed vs rs p (max (claimedViews vs rs v p) (twoViews vs rs v))) _ h))
-
-  backedView : (rule : Rule) (p u : ℕ) → u < v → (backed rule vs rs v p u ≡ true) ↔ (u < backedViews rule vs rs v p)
-  unfolding backedViews
-  backedView rule p u low = viewsIff (backed rule vs rs v p) (backedFalls rule p) v u low
-
-  -- Locks that allow p up to some views allow it up to more.
-  quorumRise : (p t t′ : ℕ) → t ≤ t′ → isQuorum vs (reporting rs (allowsTo p t)) ≡ true → isQuorum vs (reporting rs (allowsTo p t′)) ≡ true
-  quorumRise p t t′ le = enoughReports vs (isQuorum vs) (quorumByWeight vs) rs (allowsTo p t) (allowsTo p t′) (λ i low r is. allowsToRise r p t t′ le)
-
-  -- The highest backed view decides whether p is safe: it serves p, or no view does.
-  pub lastDecides : (rule : Rule) (p : ℕ) → 0 < v → safe rule vs rs v p ≡ isQuorum vs (reporting rs (allowsTo p (backedViews rule vs rs v p)))
-  unfolding safe free allowed lockAllows allows unlocked
-  lastDecides rule p above = sameTest _ _ to (λ h. orRight (eqb v 0) _ (from (backedViews rule vs rs v p) refl h))
-    where
-      serves : ℕ → Bool
-      serves u = allowed vs rs p u && backed rule vs rs v p u
-
-      since : any serves v ≡ true → isQuorum vs (reporting rs (allowsTo p (backedViews rule vs rs v p))) ≡ true
-      since h =
-          let (u, low, both) = anyWhere serves v h in
-          let (allow, back) = bothSplit (allowed vs rs p u) _ both in
-          quorumRise p (suc u) (backedViews rule vs rs v p) (omega (arith, backedView rule p u low .0 back)) allow
-
-      to : safe rule vs rs v p ≡ true → isQuorum vs (reporting rs (allowsTo p (backedViews rule vs rs v p))) ≡ true
-      to h =
-          ⊎-elim (λ start. let z : v ≡ 0 = eqb-true v 0 start in absurd (omega arith))
-          (λ g. ⊎-elim (quorumRise p 0 (backedViews rule vs rs v p) (omega arith)) since (either (free vs rs) _ g))
-          (either (eqb v 0) _ h)
-
-      from : (t : ℕ) → backedViews rule vs rs v p ≡ t → isQuorum vs (reporting rs (allowsTo p t)) ≡ true → (free vs rs || any serves v) ≡ true
-      from zero e h = orLeft (free vs rs) _ h
-      from (suc w) e h =
-          let low : w < v = omega (arith, backedMost rule p) in
-          orRight (free vs rs) _ (anyAt serves v w low (bothJoin (allowed vs rs p w) _ h (backedView rule p w low .1 (omega arith))))
-
-  -- ---- the two-set clause
-
-  -- Where p is no highest vote's plan, every plan is claimed as high as p.
-  pub unvotedViews : (p q : ℕ) → any (votes rs p) (vs .n) ≡ false → claimedViews vs rs v p ≤ claimedViews vs rs v q
-  unvotedViews p q unvoted = go (claimedViews vs rs v p) refl
-    where
-      go : (t : ℕ) → claimedViews vs rs v p ≡ t → t ≤ claimedViews vs rs v q
-      go zero e = omega arith
-      go (suc u) e =
-          let low : u < v = omega (arith, claimedMost p) in
-          omega (arith, claimedView q u low .0 (unvotedClaims vs rs p q u unvoted (claimedView p u low .1 (omega arith))))
-
-  -- The two plans that are claimed highest, m and then x, tell in how many views the clause holds.
-  pub twoHighest : (m x : ℕ) → x ≢ m → claimedViews vs rs v x ≤ claimedViews vs rs v m
-      → ((y : ℕ) → y ≢ m → claimedViews vs rs v y ≤ claimedViews vs rs v x)
-      → twoViews vs rs v ≡ min (claimedViews vs rs v x) (claimedViews vs rs v m - 1)
-  unfolding twoViews
-  twoHighest m x differ most others =
-      viewsAre (twoSets vs rs v) twoFalls v two (omega (arith, claimedMost m)) (λ u (e : u + 1 ≡ two). twoIff vs rs v u .0 (both u (omega arith)))
-      (λ low. notTrue _ (λ h. let l : two < two = within two (twoIff vs rs v two .1 h) in omega arith))
-    where
-      two : ℕ
-      two = min (claimedViews vs rs v x) (claimedViews vs rs v m - 1)
-
-      both : (u : ℕ) → u < min (claimedViews vs rs v x) (claimedViews vs rs v m - 1) → TwoSets vs rs v u
-      both u low = record {
-        p₁ = x;
-        p₂ = m;
-        a = u;
-        b = u + 1;
-        another = λ e. differ (sym e);
-        from = omega arith;
-        later = omega arith;
-        before = omega (arith, claimedMost m);
-        first = claimedIff vs rs x u .1 (claimedView x u (omega (arith, claimedMost m)) .1 (omega arith));
-        second = claimedIff vs rs m (u + 1) .1 (claimedView m (u + 1) (omega (arith, claimedMost m)) .1 (omega arith));
-      }
-
-      within : (u : ℕ) → TwoSets vs rs v u → u < min (claimedViews vs rs v x) (claimedViews vs rs v m - 1)
-      within u t = go (ℕ-discrete (t .p₂) m)
-        where
-          low₁ : t .a < claimedViews vs rs v (t .p₁)
-          low₁ = claimedView (t .p₁) (t .a) (omega arith) .0 (claimedIff vs rs (t .p₁) (t .a) .0 (t .first))
-
-          low₂ : t .b < claimedViews vs rs v (t .p₂)
-          low₂ = claimedView (t .p₂) (t .b) (omega arith) .0 (claimedIff vs rs (t .p₂) (t .b) .0 (t .second))
-
-          go : Dec (t .p₂ ≡ m) → u < min (claimedViews vs rs v x) (claimedViews vs rs v m - 1)
-          go (yes same) =
-              let le : claimedViews vs rs v (t .p₁) ≤ claimedViews vs rs v x = others (t .p₁) (λ e. t .another (same ∙ sym e)) in
-              let high : t .b < claimedViews vs rs v m = rw same at low₂ in
-              omega (arith, low₁)
-          go (no other) =
-              let le : claimedViews vs rs v (t .p₂) ≤ claimedViews vs rs v x = others (t .p₂) other in
-              omega (arith, low₂)
-
-  -- ---- claims by the spans of the reports
-
-  -- At a view below v, p is claimed by the reports that claim it in more views than that.
-  pub claimedSpans : (p u : ℕ) → u < v → claimed vs rs p u ≡ isBlocking vs (λ i. ltb u (span v p (rs i)))
-  unfolding claimed claims
-  claimedSpans p u low =
-      sameTest _ _ (enoughMono vs (isBlocking vs) (blockingByWeight vs) _ _ (λ i below. spanTo (rs i)))
-      (enoughMono vs (isBlocking vs) (blockingByWeight vs) _ _ (λ i below. spanFrom (rs i)))
-    where
-      spanTo : (o : Option Report) → holds (claims p u) o ≡ true → ltb u (span v p o) ≡ true
-      spanTo none h = absurd (false≢true h)
-      spanTo (some r) h = lt-ltb u (min (reach r p + 1) v) (omega (arith, leb-true u (reach r p) h))
-
-      spanFrom : (o : Option Report) → ltb u (span v p o) ≡ true → holds (claims p u) o ≡ true
-      spanFrom none h = let z : u < 0 = ltb-true u 0 h in absurd (omega arith)
-      spanFrom (some r) h = le-leb u (reach r p) (omega (arith, ltb-true u (min (reach r p + 1) v) h))
+          go : Dec (u < viewOf (r .lock)) → leb (viewOf (r .lock)) u ≡ not (ltb u (min (viewOf (r .lock)) v))
+          go (yes less) = lt-leb (viewOf (r .lock)) u less ∙ ap not (sym (lt-ltb u (min (viewOf (r .lock)) v) (omega arith)))
+          go (no more) = le-leb (viewOf (r .lock)) u (omega arith) ∙ ap not (sym (le-ltb u (min (viewOf (r .lock)) v) (omega arith)))

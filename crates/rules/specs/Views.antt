@@ -1,39 +1,37 @@
--- The views that back a plan are the first so many, as claims fall with the view: one number says which they are.
+-- Tests that fall or rise with the view hold in the first so many views, or from there on: one number says where.
 -- Assumes nothing.
-use Prim.Native.Nat.{ℕ, zero, suc, _+_, min}
-use mathlib.Core.Bool.{Bool, _||_}
+use Prim.Native.Nat.{ℕ, _<_, min}
+use mathlib.Core.Path.{_≡_}
+use mathlib.Core.Bool.{Bool, false, not}
 use mathlib.Core.Option.{Option, none, some}
-use Rattle.quorum.specs.Sets.{Vaults, weigh}
-use Rattle.rules.specs.Options.{isNone, holds}
-use Rattle.rules.specs.Rules.{Vote, Report, Reports, Rule, reach, fits}
-use Rattle.rules.specs.Counts.{claimed, twoSets, backed}
+use lib.Dec.{leb}
+use Rattle.quorum.specs.Sets.{Vaults, weigh, isQuorum}
+use Rattle.rules.specs.Rules.{Report, Reports, viewOf, reporting}
+use Rattle.rules.specs.Counts.{free}
 
 -- How many views below v pass a test.
 abbrev pub views : (ℕ → Bool) → ℕ → ℕ
 views test v = weigh (λ u. 1) test v
 
--- In how many views below v a report claims p; in none where there is no report.
-abbrev pub span : ℕ → ℕ → Option Report → ℕ
-span v p none = 0
-span v p (some r) = min (reach r p + 1) v
+-- 'no lock .. above v'', of one report.
+unfoldable pub under : ℕ → Report → Bool
+under u r = leb (viewOf (r .lock)) u
 
--- In how many views below v a blocking set claims p.
-unfoldable pub claimedViews : Vaults → Reports → ℕ → ℕ → ℕ
-claimedViews vs rs v p = views (claimed vs rs p) v
+-- 'no lock in q above v'', for some quorum q of reporters.
+unfoldable pub cleared : Vaults → Reports → ℕ → Bool
+cleared vs rs u = isQuorum vs (reporting rs (under u))
 
--- In how many views below v the two-set clause holds.
-unfoldable pub twoViews : Vaults → Reports → ℕ → ℕ
-twoViews vs rs v = views (twoSets vs rs v) v
+-- In how many views below v a report has a lock above the view; in all where there is no report.
+abbrev pub lockSpan : ℕ → Option Report → ℕ
+lockSpan v none = v
+lockSpan v (some r) = min (viewOf (r .lock)) v
 
--- In how many views below v the rule has what it asks of the claims.
-unfoldable pub backedViews : Rule → Vaults → Reports → ℕ → ℕ → ℕ
-backedViews rule vs rs v p = views (backed rule vs rs v p) v
+-- In how many views below v no quorum is cleared: the number of the lowest view with one, v where there is none.
+unfoldable pub lowestView : Vaults → Reports → ℕ → ℕ
+lowestView vs rs v = views (λ u. not (cleared vs rs u)) v
 
--- A lock, if any, does not stand against p in the last of t views: 'no lock at all' where t is 0.
-unfoldable pub lockAllows : ℕ → ℕ → Option Vote → Bool
-lockAllows p zero lock = isNone lock
-lockAllows p (suc u) lock = isNone lock || holds (fits p u) lock
-
--- The same for a report's lock: `unlocked` where t is 0, else `allows` at view t - 1.
-abbrev pub allowsTo : ℕ → ℕ → Report → Bool
-allowsTo p t r = lockAllows p t (r .lock)
+-- View u is below v and the lowest view with a cleared quorum, and no quorum is without a lock.
+pub record Lowest (vs : Vaults) (rs : Reports) (v u : ℕ) : Type 0 where
+  pub locked : free vs rs ≡ false
+  pub below : u < v
+  pub is : u ≡ lowestView vs rs v

@@ -1,203 +1,210 @@
 -- What the search for safe plans rests on (document 01, 'When a plan is safe'; step C).
--- Locks: the test by the number of views, case by case. The two-set clause: the two plans that are claimed highest are found among
--- the kept plans and 0 and 1, as a plan that no highest vote is for is claimed only where every plan is. Step C: the kept plans
--- include each plan that a report names, so the smallest safe one among them is the smallest safe plan.
+-- Locks: by spans, the lowest view above which some quorum has no lock; that view or the next serves a plan, or none does. The two-set
+-- clause: one plan that is claimed at the next view will do, and is found among the highest votes' plans and one more, as a plan that
+-- no highest vote is for is claimed only where every plan is. Step C: trying a plan twice changes nothing.
 -- Assumes nothing.
-use Prim.Native.Nat.{ℕ, zero, suc, _+_, _-_, _≤_, _<_, min, max}
-use mathlib.Core.Path.{_≡_, refl, sym, _∙_, ap}
-use mathlib.Core.Logic.{_≢_, _⊎_, inl, inr, ⊎-elim}
+use Prim.Native.Nat.{ℕ, zero, suc, _+_, _-_, _≤_, _<_, min}
+use mathlib.Core.Path.{_≡_, refl, sym, _∙_, ap, subst}
+use mathlib.Core.Logic.{_≢_, _⊎_, inl, inr}
 use mathlib.Core.Bool.{Bool, true, false, cond, not, _&&_, _||_, false≢true}
 use mathlib.Core.Option.{Option, none, some}
 use mathlib.Core.List.{List}
 use native.Mathlib.Omega.{arith}
 use native.Mathlib.Numerals.{add-one}
-use native.Mathlib.Decide.{ℕ-discrete, decLt}
-use lib.Dec.{leb, ltb, eqb}
-use lib.ListN.{getD}
-use borrow.Author.Tests.{le-leb, lt-leb, lt-ltb, le-ltb, ltb-true, ltb-false, eqb-true, eq-eqb, ne-eqb}
+use native.Mathlib.Decide.{ℕ-discrete}
+use lib.Dec.{ltb, eqb}
+use borrow.Author.Tests.{le-leb, lt-leb, lt-ltb, le-ltb, ltb-true, ltb-false, eqb-true, eqb-false, eq-eqb, ne-eqb, not-true, not-false}
 use Rattle.quorum.specs.Bools.{any}
-use Rattle.quorum.specs.Sets.{Vaults, equals, isQuorum}
-use Rattle.quorum.proofs.Bools.{which, clash, either, anyWhere}
-use Rattle.rules.specs.Options.{holds}
-use Rattle.rules.specs.Rules.{Vote, Report, Reports, Rule, rule1, reporting, Safe, Chosen, own, other}
-use Rattle.rules.specs.Counts.{safe, names, smaller, smallest, choice}
-use Rattle.rules.specs.Views.{lockAllows, allowsTo, claimedViews, twoViews, backedViews}
-use Rattle.rules.proofs.Laws.{holdsWhere, votes, safeIff, smallestLeast, leastIsSmallest, choiceIs, chosenOne}
-use Rattle.rules.proofs.Views.{unvotedViews, twoHighest, backedRule1, backedRule3, lastDecides}
-use Rattle.claims.specs.Layout.{voteOf, reportAt, reporter, reportsIn}
-use Rattle.safe.specs.Choices.{ruleOf, rank, keptPlan, better}
-use Rattle.safe.specs.declared.Top.{Top}
+use Rattle.quorum.specs.Sets.{Vaults, equals}
+use Rattle.quorum.proofs.Bools.{which, clash, notTrue, bothSplit, bothJoin, anyWhere}
+use Rattle.quorum.proofs.Laws.{blockingRest}
+use Rattle.rules.specs.Options.{isNone}
+use Rattle.rules.specs.Rules.{Vote, Report, Reports, Rule, rule1, rule3, fits, Safe, atStart, noLock, since}
+use Rattle.rules.specs.Counts.{claimed, free, allowed, planOr, planBy, twoSets, backed, safe, namedPlan, smaller, smallest, choice}
+use Rattle.rules.specs.Views.{views, cleared, lockSpan, lowestView, Lowest}
+use Rattle.rules.proofs.Laws.{votes, votesPlan, unvotedClaims, claimedFalls, safeIff}
+use Rattle.rules.proofs.Views.{twoNone, twoLone, twoBoth, firstServes, nextServes, clearedSpans}
+use Rattle.claims.specs.Layout.{voteAt, reportAt, reporter, reportsIn}
+use Rattle.claims.specs.Spans.{AreSpans, reached}
+use Rattle.claims.proofs.Laws.{spansReach}
+use Rattle.safe.specs.Choices.{ruleOf, apart, Found, better}
 
--- ---- locks, by the number of views
+-- ---- locks
 
-pub lockNone : (p t : ℕ) → true ≡ lockAllows p t none
-unfolding lockAllows
-lockNone p zero = refl
-lockNone p (suc u) = refl
+-- A lock above view u, at it, and below it.
+module _ (p u view plan : ℕ) where
+  pub lockAbove : u < view → false ≡ fits p u (record { view = view; plan = plan })
+  lockAbove above = rw (lt-leb view u above)
 
-module _ (p t : ℕ) (x : Vote) where
-  -- A lock at or above the last of t views, and not in it.
-  pub lockHigh : t ≤ x .view → false ≡ lockAllows p t (some x)
-  unfolding lockAllows
-  lockHigh high = go t high
-    where
-      go : (t : ℕ) → t ≤ x .view → false ≡ lockAllows p t (some x)
-      go zero high = refl
-      go (suc u) high = rw (lt-leb (x .view) u (omega arith))
+  pub lockAt : view ≡ u → eqb plan p ≡ fits p u (record { view = view; plan = plan })
+  lockAt at = rw (le-leb view u (omega arith), eq-eqb view u at)
 
-  -- A lock in the last of t views.
-  pub lockLast : t - x .view ≡ 1 → eqb (x .plan) p ≡ lockAllows p t (some x)
-  unfolding lockAllows
-  lockLast last = go t last
-    where
-      go : (t : ℕ) → t - x .view ≡ 1 → eqb (x .plan) p ≡ lockAllows p t (some x)
-      go zero last = absurd (omega arith)
-      go (suc u) last = rw (le-leb (x .view) u (omega arith), eq-eqb (x .view) u (omega arith))
+  pub lockBelow : view ≤ u → view ≢ u → true ≡ fits p u (record { view = view; plan = plan })
+  lockBelow low off = rw (le-leb view u low, ne-eqb view u off)
 
-  -- A lock before the last of t views.
-  pub lockLow : x .view < t → t - x .view ≢ 1 → true ≡ lockAllows p t (some x)
-  unfolding lockAllows
-  lockLow low before = go t low before
-    where
-      go : (t : ℕ) → x .view < t → t - x .view ≢ 1 → true ≡ lockAllows p t (some x)
-      go zero low before = absurd (omega arith)
-      go (suc u) low before = rw (le-leb (x .view) u (omega arith), ne-eqb (x .view) u (λ (e : x .view ≡ u). before (omega arith)))
+pub lockMost : (v : ℕ) (o : Option Report) → lockSpan v o ≤ v
+lockMost v none = omega arith
+lockMost v (some r) = omega arith
 
--- ---- the two plans that are claimed highest
-
--- Of the plans seen, plan is claimed in most views, first, and the others in at most second, as one of them is.
-pub record Leads (claims : ℕ → ℕ) (Seen : ℕ → Type 0) (b : Top) : Type 0 where
-  pub is : b .first ≡ claims (b .plan)
-  pub other : (x : ℕ) × (x ≢ b .plan) × (b .second ≡ claims x)
-  pub most : b .second ≤ b .first
-  pub each : (y : ℕ) → Seen y → y ≢ b .plan → claims y ≤ b .second
-
-module _ (claims : ℕ → ℕ) where
-  -- Plans 0 and 1 to begin with.
-  pub leadsStart : {Seen : ℕ → Type 0} (zeros ones : ℕ) → zeros ≡ claims 0 → ones ≡ claims 1 → ((y : ℕ) → ¬ Seen y) → Leads claims Seen (rank (record { plan = 0; first = zeros; second = 0 }) 1 ones)
-  unfolding rank
-  leadsStart {Seen} zeros ones e₀ e₁ never = go (decLt zeros ones)
-    where
-      go : Dec (zeros < ones) → Leads claims Seen (rank (record { plan = 0; first = zeros; second = 0 }) 1 ones)
-      go (yes less) = rw (lt-ltb zeros ones less) (record { is = e₁; other = (0, (λ (e : _≡_ {A = ℕ} 0 1). omega arith), e₀); most = omega arith; each = λ y s. absurd (never y s) })
-      go (no more) = rw (le-ltb zeros ones (omega arith)) (record { is = e₀; other = (1, (λ (e : _≡_ {A = ℕ} 1 0). omega arith), (omega arith)); most = omega arith; each = λ y s. absurd (never y s) })
-
-  -- One plan more.
-  pub leadsMore : {Seen Seen′ : ℕ → Type 0} (b : Top) (x t : ℕ) → t ≡ claims x → ((y : ℕ) → Seen′ y → Seen y ⊎ (y ≡ x)) → Leads claims Seen b → Leads claims Seen′ (rank b x t)
-  unfolding rank
-  leadsMore {Seen} {Seen′} b x t e back l = go (ℕ-discrete x (b .plan))
-    where
-      -- x did not lead, and leads or does not.
-      apart : x ≢ b .plan → Dec (b .first < t)
-          → Leads claims Seen′ (cond (ltb (b .first) t) (record { plan = x; first = t; second = b .first }) (record { plan = b .plan; first = b .first; second = max (b .second) t }))
-      apart differ (yes less) = rw (lt-ltb (b .first) t less) (record {
-        is = e;
-        other = (b .plan, (λ same. differ (sym same)), l .is);
-        most = omega arith;
-        each = λ y seen off. ⊎-elim (λ was. under y was (ℕ-discrete y (b .plan))) (λ same. absurd (off same)) (back y seen);
-      })
-        where
-          under : (y : ℕ) → Seen y → Dec (y ≡ b .plan) → claims y ≤ b .first
-          under y was (yes same) = rw same (omega (arith, l .is))
-          under y was (no off) = omega (arith, l .each y was off, l .most)
-      apart differ (no more) = rw (le-ltb (b .first) t (omega arith)) (record {
-        is = l .is;
-        other = second (decLt t (b .second));
-        most = omega (arith, l .most);
-        each = λ y seen off. ⊎-elim (λ was. omega (arith, l .each y was off)) (λ same. rw same (omega (arith, e))) (back y seen);
-      })
-        where
-          second : Dec (t < b .second) → (z : ℕ) × (z ≢ b .plan) × (max (b .second) t ≡ claims z)
-          second (yes less) = let (z, off, is) = l .other in (z, off, omega arith)
-          second (no less) = (x, differ, omega arith)
-
-      go : Dec (x ≡ b .plan) → Leads claims Seen′ (cond (eqb x (b .plan)) b (cond (ltb (b .first) t) (record { plan = x; first = t; second = b .first }) (record { plan = b .plan; first = b .first; second = max (b .second) t })))
-      go (yes same) = rw (eq-eqb x (b .plan) same) (record {
-        is = l .is;
-        other = l .other;
-        most = l .most;
-        each = λ y seen off. ⊎-elim (λ was. l .each y was off) (λ e. absurd (off (e ∙ same))) (back y seen);
-      })
-      go (no differ) = rw (ne-eqb x (b .plan) differ) (apart differ (decLt (b .first) t))
-
--- The plans in the first k slots.
-abbrev pub InSlots : List ℕ → ℕ → ℕ → Type 0
-InSlots plans k y = (j : ℕ) × (j < k) × (y ≡ getD plans j 0)
-
-pub slotsNone : (plans : List ℕ) (y : ℕ) → ¬ InSlots plans 0 y
-slotsNone plans y (j, low, is) = omega arith
-
-pub slotsMore : (plans : List ℕ) (k y : ℕ) → InSlots plans (k + 1) y → InSlots plans k y ⊎ (y ≡ getD plans k 0)
-slotsMore plans k y (j, low, is) = go (ℕ-discrete j k)
-  where
-    go : Dec (j ≡ k) → InSlots plans k y ⊎ (y ≡ getD plans k 0)
-    go (yes same) = inr (rw same at is)
-    go (no differ) = inl (j, omega arith, is)
+-- The spans of the locks tell the lowest view with a cleared quorum.
+pub spansLock : (n f v : ℕ) (rs : Reports) (spans : List ℕ) → AreSpans spans n (λ i. lockSpan v (rs i)) → reached spans n f v ≡ lowestView (equals n f) rs v
+unfolding lowestView
+spansLock n f v rs spans are =
+    spansReach spans n (λ i. lockSpan v (rs i)) are f v (λ u. not (cleared (equals n f) rs u))
+    (λ u low. ap not (clearedSpans (equals n f) rs v u low) ∙ sym (blockingRest (equals n f) (λ i. ltb u (lockSpan v (rs i)))))
 
 -- ---- the plans that reports name
 
--- A vote of a slot that is for p has p there.
-slotFor : (mark view plan p : ℕ) → holds (λ x. eqb (x .plan) p) (voteOf mark view plan) ≡ true → p ≡ plan
-unfolding voteOf
-slotFor mark view plan p h = go (eqb mark 0) h
-  where
-    go : (b : Bool) → holds (λ (x : Vote). eqb (x .plan) p) (cond b none (some (record { view = view; plan = plan }))) ≡ true → p ≡ plan
-    go true g = absurd (false≢true g)
-    go false g = sym (eqb-true plan p g)
+-- The plan of one of a vault's votes, from its slot.
+module _ (kept at marks views plans : List ℕ) (v d : ℕ) where
+  planSlot : (vote : Report → Option Vote) (i : ℕ)
+      → cond (reporter kept at v i) (planOr d (vote (reportAt marks views plans i))) d ≡ planBy vote d (reportsIn kept at marks views plans v i)
+  unfolding reportsIn
+  planSlot vote i = go (reporter kept at v i)
+    where
+      go : (b : Bool) → cond b (planOr d (vote (reportAt marks views plans i))) d ≡ planBy vote d (cond b (some (reportAt marks views plans i)) none)
+      go true = refl
+      go false = refl
 
-module _ (kept at marks views plans : List ℕ) (n f v : ℕ) where
+  pub planLock : (n i : ℕ) → i < n
+      → cond (reporter kept at v i) (planOr d (voteAt marks views plans (128 + i))) d ≡ namedPlan (reportsIn kept at marks views plans v) n d i
+  planLock n i low = rw (lt-ltb i n low) (planSlot (λ r. r .lock) i)
+
+  pub planHighest : (n i : ℕ) → n ≤ i
+      → cond (reporter kept at v (i - n)) (planOr d (voteAt marks views plans (i - n))) d ≡ namedPlan (reportsIn kept at marks views plans v) n d i
+  planHighest n i high = rw (le-ltb i n high) (planSlot (λ r. r .highest) (i - n))
+
+  -- A highest vote that is for y has y there.
+  planVoted : (vs : Vaults) (y i : ℕ) → votes (reportsIn kept at marks views plans v) y i ≡ true → cond (reporter kept at v i) (planOr d (voteAt marks views plans i)) d ≡ y
+  planVoted vs y i h = planSlot (λ r. r .highest) i ∙ votesPlan vs (reportsIn kept at marks views plans v) y i d h
+
+-- ---- a plan that is claimed
+
+-- 0 is left out: 1 is not.
+pub apartOne : (spare : Option ℕ) → apart 0 spare ≡ false → apart 1 spare ≡ true
+apartOne none h = refl
+apartOne (some m) h = let e : 0 ≡ m = eqb-true 0 m (not-false _ h) in ap not (ne-eqb 1 m (λ (same : 1 ≡ m). omega arith))
+
+module _ (kept at marks views plans : List ℕ) (n f v u : ℕ) (spare : Option ℕ) where
   abbrev reports : Reports
   reports = reportsIn kept at marks views plans v
 
-  -- A reporter's report is the one in its slots.
-  slotReport : (i : ℕ) (test : Report → Bool) → reporting reports test i ≡ true → test (reportAt marks views plans i) ≡ true
-  unfolding reportsIn
-  slotReport i test h = go (reporter kept at v i) h
+  -- x is claimed at view u, and is not left out.
+  abbrev pub passes : ℕ → Bool
+  passes x = apart x spare && claimed (equals n f) reports x u
+
+  -- No plan of the first k highest votes passes.
+  abbrev pub NonePass : ℕ → Type 0
+  NonePass k = (y j : ℕ) → j < k → votes reports y j ≡ true → passes y ≡ false
+
+  -- The first plan is not left out: it passes where it is claimed.
+  pub firstPasses : (first : ℕ) (b : Bool) → apart first spare ≡ true → b ≡ claimed (equals n f) reports first u → passes first ≡ b
+  firstPasses first b off is = rw off (sym is)
+
+  -- The next highest vote's plan does not pass, or another that stands in for it.
+  pub nonePassMore : (k x d : ℕ) → x ≡ cond (reporter kept at v k) (planOr d (voteAt marks views plans k)) d → passes x ≡ false → NonePass k → NonePass (k + 1)
+  nonePassMore k x d is fails before y j low h = go (ℕ-discrete j k)
     where
-      go : (b : Bool) → holds test (cond b (some (reportAt marks views plans i)) none) ≡ true → test (reportAt marks views plans i) ≡ true
-      go true g = g
-      go false g = absurd (false≢true g)
+      go : Dec (j ≡ k) → passes y ≡ false
+      go (yes same) =
+          let voted : votes reports y k ≡ true = subst (λ (i : ℕ). votes reports y i ≡ true) same h in
+          subst (λ (z : ℕ). passes z ≡ false) (is ∙ planVoted kept at marks views plans v d (equals n f) y k voted) fails
+      go (no differ) = before y j (omega arith) h
 
-  -- The two that lead among the kept plans and 0 and 1 lead among all plans, and tell how high the two-set clause holds.
-  pub leadersServe : (b : Top) → Leads (claimedViews (equals n f) reports v) (InSlots plans n) b → min (b .second) (b .first - 1) ≡ twoViews (equals n f) reports v
-  leadersServe b l =
-      let (x, differ, is) = l .other in
-      let e : twoViews (equals n f) reports v ≡ min (claimedViews (equals n f) reports v x) (claimedViews (equals n f) reports v (b .plan) - 1) =
-      twoHighest (equals n f) reports v (b .plan) x differ (omega (arith, l .most, l .is)) (λ y off. under x is y off (which (any (votes reports y) n))) in
-      omega (arith, l .is)
+  -- Neither the first plan nor a highest vote's passes: none does.
+  pub noneFound : (first : ℕ) → passes first ≡ false → apart first spare ≡ true → NonePass n → (x : ℕ) → passes x ≡ false
+  noneFound first never off before x = go (which (any (votes reports x) n))
     where
-      under : (x : ℕ) → b .second ≡ claimedViews (equals n f) reports v x → (y : ℕ) → y ≢ b .plan → (any (votes reports y) n ≡ true) ⊎ (any (votes reports y) n ≡ false)
-          → claimedViews (equals n f) reports v y ≤ claimedViews (equals n f) reports v x
-      under x is y off (inl voted) =
-          let (i, low, h) = anyWhere (votes reports y) n voted in
-          let slot : y ≡ getD plans i 0 = slotFor _ _ _ y (slotReport i (λ r. holds (λ z. eqb (z .plan) y) (r .highest)) h) in
-          omega (arith, l .each y (i, low, slot) off)
-      under x is y off (inr unvoted) = unvotedViews (equals n f) reports v y x unvoted
+      go : (any (votes reports x) n ≡ true) ⊎ (any (votes reports x) n ≡ false) → passes x ≡ false
+      go (inl voted) = let (i, low, h) = anyWhere (votes reports x) n voted in before x i low h
+      go (inr unvoted) = notTrue (passes x) (λ h. clash (bothJoin (apart first spare) _ off (unvotedClaims (equals n f) reports x first u unvoted (bothSplit (apart x spare) _ h .1))) never)
 
-  -- A plan that a report names is in the slots of locks and highest votes.
-  namedSlot : (p i : ℕ) → i < n → reporting reports (names p) i ≡ true → (j : ℕ) × (j < n + n) × (keptPlan plans n j ≡ p)
-  unfolding names
-  namedSlot p i low h =
-      ⊎-elim (λ locked. (i, omega arith, rw (lt-ltb i n low) (sym (slotFor _ _ _ p locked))))
-      (λ voted.
-      let e : n + i - n ≡ i = omega arith in
-      (n + i, omega arith, rw (le-ltb (n + i) n (omega arith), e) (sym (slotFor _ _ _ p voted))))
-      (either (holds (λ x. eqb (x .plan) p) (voteOf (getD marks (128 + i) 0) (getD views (128 + i) 0) (getD plans (128 + i) 0))) _ (slotReport i (names p) h))
+-- ---- the two-set clause
 
-  -- ---- step C
+module _ (vs : Vaults) (rs : Reports) (v u : ℕ) (o₁ : Option ℕ) (found₁ : Found (λ x. claimed vs rs x (u + 1)) o₁) where
+  -- No plan is claimed at the next view.
+  pub twoUnfound : not (isNone o₁) ≡ false → false ≡ twoSets vs rs v u
+  twoUnfound h = go o₁ found₁ h
+    where
+      go : (o : Option ℕ) → Found (λ x. claimed vs rs x (u + 1)) o → not (isNone o) ≡ false → false ≡ twoSets vs rs v u
+      go none never h = sym (twoNone vs rs v u never)
+      go (some m) at h = absurd (false≢true (sym h))
 
-  pub choiceStart : (start : ℕ) → safe rule1 (equals n f) reports v start ≡ true → some start ≡ choice (equals n f) reports v start
-  unfolding choice
-  choiceStart start e = rw e
+  -- One is: then another plan that is claimed at u decides.
+  pub twoFound : (o₂ : Option ℕ) → u + 1 < v → not (isNone o₁) ≡ true → Found (λ x. apart x o₁ && claimed vs rs x u) o₂ → not (isNone o₂) ≡ twoSets vs rs v u
+  twoFound o₂ low h found₂ = go o₁ o₂ found₁ h found₂
+    where
+      go : (o₁ o₂ : Option ℕ) → Found (λ x. claimed vs rs x (u + 1)) o₁ → not (isNone o₁) ≡ true → Found (λ x. apart x o₁ && claimed vs rs x u) o₂
+          → not (isNone o₂) ≡ twoSets vs rs v u
+      go none o₂ never h found = absurd (false≢true h)
+      go (some m) none at h never = sym (twoLone vs rs v u m (λ y off. notTrue _ (λ c. clash (bothJoin (not (eqb y m)) _ (ap not (ne-eqb y m off)) c) (never y))))
+      go (some m) (some x) at h found =
+          let (off, c) = bothSplit (not (eqb x m)) _ found in
+          sym (twoBoth vs rs v u m x low at (eqb-false x m (not-true _ off)) c)
 
-  pub choiceOther : (start : ℕ) → safe rule1 (equals n f) reports v start ≡ false
-      → smallest (safe rule1 (equals n f) reports v) (keptPlan plans n) (n + n) ≡ choice (equals n f) reports v start
-  choiceOther start e =
-      let never : ¬ Safe rule1 (equals n f) reports v start = λ s. clash (safeIff (equals n f) reports rule1 v start .0 s) e in
-      chosenOne (equals n f) reports v start
-      (other never (leastIsSmallest (equals n f) reports v start (keptPlan plans n) (n + n) never namedSlot (smallest (safe rule1 (equals n f) reports v) (keptPlan plans n) (n + n))
-      (smallestLeast (safe rule1 (equals n f) reports v) (keptPlan plans n) (n + n))))
-      (choiceIs (equals n f) reports v start)
+-- ---- safe plans
+
+pub safeStart : (rule : Rule) (vs : Vaults) (rs : Reports) (v p : ℕ) → v ≡ 0 → true ≡ safe rule vs rs v p
+unfolding safe
+safeStart rule vs rs v p e = rw (eq-eqb v 0 e)
+
+pub safeFree : (rule : Rule) (vs : Vaults) (rs : Reports) (v p : ℕ) → free vs rs ≡ true → true ≡ safe rule vs rs v p
+unfolding safe
+safeFree rule vs rs v p e = go (eqb v 0)
+  where
+    go : (b : Bool) → true ≡ (b || (free vs rs || any (λ u. allowed vs rs p u && backed rule vs rs v p u) v))
+    go true = refl
+    go false = rw e
+
+module _ (vs : Vaults) (rs : Reports) (v p u : ℕ) (l : Lowest vs rs v u) where
+  -- There is no next view below v.
+  pub safeLast : (rule : Rule) → allowed vs rs p u ≡ false → v ≤ u + 1 → false ≡ safe rule vs rs v p
+  safeLast rule off high = sym (ap (λ (t : Bool). t && backed rule vs rs v p (u + 1)) (le-ltb (u + 1) v high)) ∙ sym (nextServes vs rs v rule p u l off)
+
+  -- By Rule 1 the claims back p.
+  pub oneFirst : (b : Bool) → allowed vs rs p u ≡ true → b ≡ claimed vs rs p u → b ≡ safe rule1 vs rs v p
+  unfolding backed
+  oneFirst b allow is = is ∙ sym (firstServes vs rs v rule1 p u l allow)
+
+  pub oneNext : (b : Bool) → allowed vs rs p u ≡ false → u + 1 < v → b ≡ claimed vs rs p (u + 1) → b ≡ safe rule1 vs rs v p
+  unfolding backed
+  oneNext b off low is = is ∙ sym (ap (λ (t : Bool). t && claimed vs rs p (u + 1)) (lt-ltb (u + 1) v low)) ∙ sym (nextServes vs rs v rule1 p u l off)
+
+  -- Too few claim p at u, and so at the next view.
+  pub oneNever : claimed vs rs p u ≡ false → false ≡ safe rule1 vs rs v p
+  unfolding backed
+  oneNever few = go (which (allowed vs rs p u))
+    where
+      go : (allowed vs rs p u ≡ true) ⊎ (allowed vs rs p u ≡ false) → false ≡ safe rule1 vs rs v p
+      go (inl allow) = oneFirst false allow (sym few)
+      go (inr off) = sym (nextServes vs rs v rule1 p u l off ∙ notTrue _ (λ h. clash (claimedFalls vs rs p (u + 1) u (omega arith) (bothSplit (ltb (u + 1) v) _ h .1)) few))
+
+  -- By Rule 3 the two-set clause backs it where the claims do not.
+  pub threeFirst : (b : Bool) → safe rule1 vs rs v p ≡ false → allowed vs rs p u ≡ true → b ≡ twoSets vs rs v u → b ≡ safe rule3 vs rs v p
+  unfolding backed
+  threeFirst b never allow is =
+      is ∙ sym (ap (λ (t : Bool). t || twoSets vs rs v u) (sym (firstServes vs rs v rule1 p u l allow) ∙ never)) ∙ sym (firstServes vs rs v rule3 p u l allow)
+
+  pub threeNext : (b : Bool) → safe rule1 vs rs v p ≡ false → allowed vs rs p u ≡ false → u + 1 < v → b ≡ twoSets vs rs v (u + 1) → b ≡ safe rule3 vs rs v p
+  unfolding backed
+  threeNext b never off low is =
+      is ∙ sym (ap (λ (t : Bool). t || twoSets vs rs v (u + 1)) (oneNext (claimed vs rs p (u + 1)) off low refl ∙ never))
+      ∙ sym (ap (λ (t : Bool). t && (claimed vs rs p (u + 1) || twoSets vs rs v (u + 1))) (lt-ltb (u + 1) v low)) ∙ sym (nextServes vs rs v rule3 p u l off)
+
+-- The rule of a call.
+pub byRule : (vs : Vaults) (rs : Reports) (v p : ℕ) (three set b : Bool) → three ≡ set → b ≡ safe (ruleOf set) vs rs v p → b ≡ safe (ruleOf three) vs rs v p
+byRule vs rs v p three set b same is = is ∙ ap (λ (t : Bool). safe (ruleOf t) vs rs v p) (sym same)
+
+-- What Rule 1 accepts Rule 3 accepts.
+pub threeOne : (vs : Vaults) (rs : Reports) (v p : ℕ) → safe rule1 vs rs v p ≡ true → true ≡ safe rule3 vs rs v p
+threeOne vs rs v p h = sym (safeIff vs rs rule3 v p .0 (go (safeIff vs rs rule1 v p .1 h)))
+  where
+    go : Safe rule1 vs rs v p → Safe rule3 vs rs v p
+    go (atStart e) = atStart e
+    go (noLock q) = noLock q
+    go (since u low q c) = since u low q (inl c)
+
+-- ---- step C
 
 -- The smaller of x and of what was found before, as the code takes it.
 pub smallerTaken : (x : ℕ) (o : Option ℕ) → better x o ≡ true → some x ≡ smaller true x o
@@ -209,36 +216,70 @@ smallerKept x b none h = absurd (false≢true (sym h))
 smallerKept x true (some y) h = let e : y ≡ min x y = omega (arith, ltb-false x y h) in ap some e
 smallerKept x false (some y) h = refl
 
--- One plan more.
-smallestMore : (test : ℕ → Bool) (plan : ℕ → ℕ) (k : ℕ) → smallest test plan (k + 1) ≡ smaller (test (plan k)) (plan k) (smallest test plan k)
-unfolding smallest
-smallestMore test plan k = rw add-one
-
-pub smallestStep : (test : ℕ → Bool) (plan : ℕ → ℕ) (k x : ℕ) (best next : Option ℕ) → x ≡ plan k → best ≡ smallest test plan k → next ≡ smaller (test x) x best
-    → next ≡ smallest test plan (k + 1)
-smallestStep test plan k x best next is was step = step ∙ (λ i. smaller (test (is i)) (is i) (was i)) ∙ sym (smallestMore test plan k)
+-- Trying a plan twice changes nothing.
+smallerTwice : (x : ℕ) (b : Bool) (o : Option ℕ) → smaller b x (smaller b x o) ≡ smaller b x o
+smallerTwice x false o = refl
+smallerTwice x true none = let e : min x x ≡ x = omega arith in ap some e
+smallerTwice x true (some y) = let e : min x (min x y) ≡ min x y = omega arith in ap some e
 
 pub smallestNone : (test : ℕ → Bool) (plan : ℕ → ℕ) → none ≡ smallest test plan 0
 unfolding smallest
 smallestNone test plan = refl
 
--- ---- the rules
+smallestNever : (test : ℕ → Bool) (plan : ℕ → ℕ) → ((x : ℕ) → test x ≡ false) → (k : ℕ) → none ≡ smallest test plan k
+unfolding smallest
+smallestNever test plan never zero = refl
+smallestNever test plan never (suc k) = rw (never (plan k)) (smallestNever test plan never k)
 
-pub safeStart : (rule : Rule) (vs : Vaults) (rs : Reports) (v p : ℕ) → v ≡ 0 → true ≡ safe rule vs rs v p
-unfolding safe
-safeStart rule vs rs v p e = rw (eq-eqb v 0 e)
+-- One plan more.
+smallestMore : (test : ℕ → Bool) (plan : ℕ → ℕ) (k : ℕ) → smallest test plan (k + 1) ≡ smaller (test (plan k)) (plan k) (smallest test plan k)
+unfolding smallest
+smallestMore test plan k = rw add-one
 
--- The highest view that backs p serves it, or no view does.
-pub safeLast : (rule : Rule) (vs : Vaults) (rs : Reports) (v p t : ℕ) (b : Bool) → v ≢ 0 → t ≡ backedViews rule vs rs v p
-    → b ≡ isQuorum vs (reporting rs (allowsTo p t)) → b ≡ safe rule vs rs v p
-safeLast rule vs rs v p t b above is allow =
-    allow ∙ ap (λ (t : ℕ). isQuorum vs (reporting rs (allowsTo p t))) is ∙ sym (lastDecides vs rs v rule p (omega arith))
+-- A report names a plan, or another plan stands in for it.
+namedOr : (rs : Reports) (n i d e : ℕ) → (namedPlan rs n d i ≡ namedPlan rs n e i) ⊎ ((namedPlan rs n d i ≡ d) × (namedPlan rs n e i ≡ e))
+namedOr rs n i d e = go (ltb i n)
+  where
+    orPlan : (o : Option Vote) → (planOr d o ≡ planOr e o) ⊎ ((planOr d o ≡ d) × (planOr e o ≡ e))
+    orPlan none = inr (refl, refl)
+    orPlan (some x) = inl refl
 
-module _ (vs : Vaults) (rs : Reports) (v p c : ℕ) (three : Bool) (is : c ≡ claimedViews vs rs v p) where
-  -- By Rule 1 the claims alone back p.
-  pub backedOne : three ≡ false → c ≡ backedViews (ruleOf three) vs rs v p
-  backedOne e = rw e (is ∙ sym (backedRule1 vs rs v p))
+    byPlan : (vote : Report → Option Vote) (o : Option Report) → (planBy vote d o ≡ planBy vote e o) ⊎ ((planBy vote d o ≡ d) × (planBy vote e o ≡ e))
+    byPlan vote none = inr (refl, refl)
+    byPlan vote (some r) = orPlan (vote r)
 
-  -- By Rule 3 the two-set clause backs it too.
-  pub backedThree : (d t : ℕ) → three ≡ true → d ≡ twoViews vs rs v → t ≡ max c d → t ≡ backedViews (ruleOf three) vs rs v p
-  backedThree d t e two most = rw e (most ∙ (λ i. max (is i) (two i)) ∙ sym (backedRule3 vs rs v p))
+    go : (b : Bool) → (cond b (planBy (λ r. r .lock) d (rs i)) (planBy (λ r. r .highest) d (rs (i - n))) ≡ cond b (planBy (λ r. r .lock) e (rs i)) (planBy (λ r. r .highest) e (rs (i - n))))
+        ⊎ ((cond b (planBy (λ r. r .lock) d (rs i)) (planBy (λ r. r .highest) d (rs (i - n))) ≡ d) × (cond b (planBy (λ r. r .lock) e (rs i)) (planBy (λ r. r .highest) e (rs (i - n))) ≡ e))
+    go true = byPlan (λ r. r .lock) (rs i)
+    go false = byPlan (λ r. r .highest) (rs (i - n))
+
+-- The search tries x at place i, where last stands in; the definition has start there, which does not pass.
+module _ (test : ℕ → Bool) (rs : Reports) (n i start last x : ℕ) (best next : Option ℕ)
+    (off : test start ≡ false) (tried : smaller (test last) last best ≡ best) (is : x ≡ namedPlan rs n last i) (step : next ≡ smaller (test x) x best) where
+  pub smallestStep : best ≡ smallest test (namedPlan rs n start) i → next ≡ smallest test (namedPlan rs n start) (i + 1)
+  smallestStep was = step ∙ go (namedOr rs n i last start) ∙ ap (smaller (test (namedPlan rs n start i)) (namedPlan rs n start i)) was ∙ sym (smallestMore test (namedPlan rs n start) i)
+    where
+      go : (namedPlan rs n last i ≡ namedPlan rs n start i) ⊎ ((namedPlan rs n last i ≡ last) × (namedPlan rs n start i ≡ start))
+          → smaller (test x) x best ≡ smaller (test (namedPlan rs n start i)) (namedPlan rs n start i) best
+      go (inl same) = ap (λ (y : ℕ). smaller (test y) y best) (is ∙ same)
+      go (inr (a, b)) =
+          let left : smaller (test x) x best ≡ best = ap (λ (y : ℕ). smaller (test y) y best) (is ∙ a) ∙ tried in
+          let right : smaller (test (namedPlan rs n start i)) (namedPlan rs n start i) best ≡ best = ap (λ (y : ℕ). smaller (test y) y best) b ∙ ap (λ (t : Bool). smaller t start best) off in
+          left ∙ sym right
+
+  -- x is the plan tried last from now on.
+  pub triedStep : smaller (test x) x next ≡ next
+  triedStep = ap (smaller (test x) x) step ∙ smallerTwice x (test x) best ∙ sym step
+
+module _ (vs : Vaults) (rs : Reports) (v start : ℕ) where
+  pub choiceStart : true ≡ safe rule1 vs rs v start → some start ≡ choice vs rs v start
+  unfolding choice
+  choiceStart e = rw (sym e)
+
+  pub choiceOther : (o : Option ℕ) → safe rule1 vs rs v start ≡ false → o ≡ smallest (safe rule1 vs rs v) (namedPlan rs (vs .n) start) (vs .n + vs .n) → o ≡ choice vs rs v start
+  unfolding choice
+  choiceOther o e is = rw e is
+
+  -- No plan is safe.
+  pub choiceNone : ((x : ℕ) → safe rule1 vs rs v x ≡ false) → none ≡ choice vs rs v start
+  choiceNone never = choiceOther none (never start) (smallestNever (safe rule1 vs rs v) (namedPlan rs (vs .n) start) never (vs .n + vs .n))

@@ -1,15 +1,13 @@
--- What the search keeps on the way: the two plans that are claimed highest, and the smallest safe plan so far.
+-- What the search finds on the way: a plan that passes a test, and the smallest safe plan so far.
 -- Assumes nothing.
-use Prim.Native.Nat.{ℕ, _+_, _-_, max}
-use mathlib.Core.Bool.{Bool, true, false, cond}
+use Prim.Native.Nat.{ℕ}
+use mathlib.Core.Path.{_≡_}
+use mathlib.Core.Bool.{Bool, true, false, not}
 use mathlib.Core.Option.{Option, none, some}
-use mathlib.Core.List.{List}
 use lib.Dec.{ltb, eqb}
-use lib.ListN.{getD}
 use Rattle.rules.specs.Rules.{Rule, rule1, rule3}
 use Rattle.safe.specs.declared.Choice.{Choice}
 use Rattle.safe.specs.declared.Choice.the-variants.{Plan, Nothing}
-use Rattle.safe.specs.declared.Top.{Top}
 
 -- The rule of a call: Rule 3 where it asks for it, else Rule 1.
 abbrev pub ruleOf : Bool → Rule
@@ -21,15 +19,15 @@ abbrev pub chosen : Choice → Option ℕ
 chosen (Plan p) = some p
 chosen Nothing = none
 
--- Plan x, claimed in t views, takes its place among the two that are claimed in most views.
-unfoldable pub rank : Top → ℕ → ℕ → Top
-rank b x t =
-    cond (eqb x (b .plan)) b
-    (cond (ltb (b .first) t) (record { plan = x; first = t; second = b .first }) (record { plan = b .plan; first = b .first; second = max (b .second) t }))
+-- Plan x is not the one that is left out, if any.
+abbrev pub apart : ℕ → Option ℕ → Bool
+apart x none = true
+apart x (some m) = not (eqb x m)
 
--- The plans kept in the slots of locks and then of highest votes: among them is each plan that a report names.
-abbrev pub keptPlan : List ℕ → ℕ → ℕ → ℕ
-keptPlan plans n i = cond (ltb i n) (getD plans (128 + i) 0) (getD plans (i - n) 0)
+-- The plan found passes the test; where none is found, none does.
+abbrev pub Found : (ℕ → Bool) → Option ℕ → Type 0
+Found test none = (x : ℕ) → test x ≡ false
+Found test (some x) = test x ≡ true
 
 -- Plan x is smaller than the one found so far, if any.
 abbrev pub better : ℕ → Option ℕ → Bool

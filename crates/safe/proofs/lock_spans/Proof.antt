@@ -1,4 +1,4 @@
--- `claims::spans_of` meets its contract.
+-- `safe::lock_spans` meets its contract.
 -- The first r places hold the spans of the first r reports, and `spansMore` writes one more.
 -- Assumes nothing.
 use Prim.Native.Nat.{_-_, _≤_, _<_}
@@ -6,23 +6,24 @@ use mathlib.Core.Path.{_≡_}
 use native.Mathlib.Omega.{arith}
 use lib.ListN.{length, length-set}
 use borrow.Author.Needs.{needs}
 use Rattle.claims.proofs.Laws.{spansMore}
 use Rattle.claims.specs.Layout.{reportsIn}
 use Rattle.claims.specs.Spans.{AreSpans}
-use Rattle.claims.proofs.spans_of.Statement.{statement}
-use Rattle.claims.proofs.spans_of.Tie as tie
+use Rattle.rules.specs.Views.{lockSpan}
+use Rattle.safe.proofs.lock_spans.Statement.{statement}
+use Rattle.safe.proofs.lock_spans.Tie as tie
 
 abbrev Inv-loop : tie.InvT-loop
-Inv-loop kept at marks views plans n v p spans₀ r₀ spans r = (r ≤ n) × (length spans ≡ 64) × AreSpans spans r v p (reportsIn kept at marks views plans v)
+Inv-loop kept at marks views plans n v spans₀ r₀ spans r = (r ≤ n) × (length spans ≡ 64) × AreSpans spans r (λ i. lockSpan v (reportsIn kept at marks views plans v i))
 
 abbrev μ-loop : tie.MeasureT-loop
-μ-loop kept at marks views plans n v p spans₀ r₀ spans r = n - r
+μ-loop kept at marks views plans n v spans₀ r₀ spans r = n - r
 
 loop-holds : tie.Need-loop-holds Inv-loop μ-loop
 loop-holds c = (omega arith, search needs, λ i low. absurd (omega arith))
 
-span-of-requires : tie.Need-span-of-requires Inv-loop μ-loop
-span-of-requires c κs = search needs
+lock-span-requires : tie.Need-lock-span-requires Inv-loop μ-loop
+lock-span-requires c κs = search needs
 
 mul-spans : tie.Need-mul-spans Inv-loop μ-loop
 mul-spans c = search needs
@@ -43,20 +44,20 @@ loop-again c =
     let low : at .r < length (at .spans) = omega arith in (
       omega arith,
       simp length-set (at .inv .1),
-      spansMore (at .spans) (at .r) (a .v) (a .p) (c .span-of .result) (reportsIn (a .kept .now) (a .at .now) (a .marks .now) (a .views .now) (a .plans .now) (a .v)) low (c .span-of .ensures) (at .inv .2),
+      spansMore (at .spans) (at .r) (c .lock-span .result) (λ i. lockSpan (a .v) (reportsIn (a .kept .now) (a .at .now) (a .marks .now) (a .views .now) (a .plans .now) (a .v) i)) low (c .lock-span .ensures) (at .inv .2),
     )
 
 returns : tie.Need-returns Inv-loop μ-loop
 returns c = λ i low. c .before .loop .inv .2 i (omega arith)
 
-pub spans-of-spec : {M : Type 1} → statement M
-spans-of-spec =
+pub lock-spans-spec : {M : Type 1} → statement M
+lock-spans-spec =
     tie.close
     (tie.spec
     Inv-loop
     μ-loop
     loop-holds
-    span-of-requires
+    lock-span-requires
     mul-spans
     array-write-spans
     add-r

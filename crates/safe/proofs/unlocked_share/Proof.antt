@@ -1,0 +1,34 @@
+-- `safe::unlocked_share` meets its contract.
+-- A vault counts where it has reported and has no lock.
+-- Assumes nothing.
+use mathlib.Core.Path.{sym, _∙_}
+use borrow.Author.Needs.{needs}
+use borrow.Author.Tests.{eq-eqb, ne-eqb}
+use Rattle.claims.specs.Layout.{reportsIn, voteOf}
+use Rattle.rules.specs.Rules.{unlocked}
+use Rattle.safe.proofs.unlocked_share.Statement.{statement}
+use Rattle.safe.proofs.unlocked_share.Tie as tie
+
+reported-requires : tie.Need-reported-requires
+reported-requires c κs = search needs
+
+add-if2 : tie.Need-add-if2
+add-if2 c = search needs
+
+shared-slice-read-if2 : tie.Need-shared-slice-read-if2
+shared-slice-read-if2 c = search needs
+
+returns : tie.Need-returns
+unfolding reportsIn unlocked voteOf
+returns c = simp (sym (c .before .before .before .reported .ensures) ∙ c .before .before .if1 .taken, eq-eqb _ _ (c .if2 .taken))
+
+returns-2 : tie.Need-returns-2
+unfolding reportsIn unlocked voteOf
+returns-2 c = simp (sym (c .before .before .before .reported .ensures) ∙ c .before .before .if1 .taken, ne-eqb _ _ (c .if2 .left))
+
+returns-3 : tie.Need-returns-3
+unfolding reportsIn
+returns-3 c = simp (sym (c .before .reported .ensures) ∙ c .if1 .left)
+
+pub unlocked-share-spec : {M : Type 1} → statement M
+unlocked-share-spec = tie.close (tie.spec reported-requires add-if2 shared-slice-read-if2 returns returns-2 returns-3)
