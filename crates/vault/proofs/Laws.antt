@@ -4,7 +4,7 @@
 -- Assumes nothing.
 use Prim.Native.Nat.{ℕ, zero, suc, _+_, _^_, _≤_, _<_}
 use mathlib.Core.Path.{_≡_, refl, sym, _∙_, ap, subst}
-use mathlib.Core.Bool.{Bool, true, false, cond}
+use mathlib.Core.Bool.{Bool, true, false, not, cond}
 use mathlib.Core.List.{List, _++_}
 use mathlib.Core.Option.{none}
 use native.Mathlib.Omega.{arith}
@@ -24,6 +24,7 @@ use Rattle.layout.specs.Layout.{encodeRecord, decodeRecord}
 use Rattle.sound.specs.declared.Lent.{Lent}
 use Rattle.sound.specs.declared.Lent.the-variants.{Blank, Unsound, Sound}
 use Rattle.sound.specs.Sound.{sound, lentIs}
+use Rattle.sound.proofs.Laws.{off, on, lent-other}
 use Rattle.protocol.specs.Record.{Settings, Record}
 use Rattle.protocol.specs.Pass.{Out, pass, fromC, timerEntry}
 use Rattle.protocol.specs.Calls as calls
@@ -100,27 +101,29 @@ module _ (n f id class plan : ℕ) (given : first (settingRows (record { n = n; 
 -- ---- a record that is lent
 
 module _ (rec : List ℕ) where
-  -- Only an unsound record has another length.
-  lentLength : (l : Lent) → lentIs rec ≡ l → (Unsound ≡ l → ⊥) → length rec ≡ 11703
+  pub blankLength : lentIs rec ≡ Blank → length rec ≡ 11703
   unfolding lentIs
-  lentLength l e known = go (eqb (length rec) 11703) refl e
+  blankLength e = go (eqb (length rec) 11703) refl e
     where
       go : (b : Bool) → eqb (length rec) 11703 ≡ b
-          → cond b (cond (eqb (decodeRecord rec .n) 0) Blank (cond (sound (decodeRecord rec)) Sound Unsound)) Unsound ≡ l → length rec ≡ 11703
+          → cond b (cond (eqb (decodeRecord rec .n) 0) Blank (cond (sound (decodeRecord rec)) Sound Unsound)) Unsound ≡ Blank → length rec ≡ 11703
       go true is e = eqb-true (length rec) 11703 is
-      go false is e = absurd (known e)
-
-  pub blankLength : lentIs rec ≡ Blank → length rec ≡ 11703
-  blankLength e = lentLength Blank e (λ (u : Unsound ≡ Blank). let z : _≡_ {A = ℕ} 0 1 = cc in omega arith)
-
-  pub soundLength : lentIs rec ≡ Sound → length rec ≡ 11703
-  soundLength e = lentLength Sound e (λ (u : Unsound ≡ Sound). let z : _≡_ {A = ℕ} 0 1 = cc in omega arith)
+      go false is e = let z : _≡_ {A = ℕ} 0 1 = cc in absurd (omega arith)
 
   -- A sound record is one that calls leave.
   pub soundReady : Bytes rec → lentIs rec ≡ Sound → Ready (decodeRecord rec)
   soundReady bytes e =
       let (clean, held, ranged) = soundRead rec bytes e in
       record { clean = clean; sound = held; ranged = ranged }
+
+-- Bytes of a record's length that are not blank, by the record that they spell.
+module _ (rec : List ℕ) (size : length rec ≡ 11703) (given : decodeRecord rec .n ≡ 0 → ⊥) (r : slots.Record) (e : r ≡ decodeRecord rec) (b : Bool)
+    (is : b ≡ sound r) where
+  pub heldUnsound : not b ≡ true → lentIs rec ≡ Unsound
+  heldUnsound q = lent-other rec size given ∙ ap (λ (x : Bool). cond x Sound Unsound) (off (is ∙ ap sound e) q)
+
+  pub heldSound : not b ≡ false → lentIs rec ≡ Sound
+  heldSound q = lent-other rec size given ∙ ap (λ (x : Bool). cond x Sound Unsound) (on (is ∙ ap sound e) q)
 
 -- ---- what a call leaves
 
@@ -180,3 +183,11 @@ module _ (rec : List ℕ) (n f id class plan : ℕ) (out : List ℕ) where
   pub startSound : 256 ≤ length out → lentIs rec ≡ Sound → gave 4 rec out ≡ startLeft rec n f id class plan out
   unfolding startLeft answer
   startSound room = calledLent 4 rec out call room Sound
+
+  -- A record that is not blank, sound or not: 4.
+  pub startHeld : 256 ≤ length out → length rec ≡ 11703 → (decodeRecord rec .n ≡ 0 → ⊥) → gave 4 rec out ≡ startLeft rec n f id class plan out
+  startHeld room size given = go (sound (decodeRecord rec)) (lent-other rec size given)
+    where
+      go : (b : Bool) → lentIs rec ≡ cond b Sound Unsound → gave 4 rec out ≡ startLeft rec n f id class plan out
+      go true e = startSound room e
+      go false e = startUnsound room e

@@ -4,7 +4,6 @@ use frame::Frame;
 use frame::Reading;
 use pass::Passed;
 use record::Record;
-use sound::Lent;
 ghost use Prim.Native.Nat.{_≤_, _<_};
 ghost use mathlib.Core.Path.{_≡_};
 ghost use lib.ListN.{length};
@@ -63,12 +62,13 @@ pub fn start(rec: &mut [u8], n: u8, f: u8, id: u8, class: u8, plan: u64, out: &m
     if out.len() < 256 {
         return Answer::Refused(1);
     }
-    let lent = sound::classify(rec);
-    match lent {
-        Lent::Blank => start_blank(rec, n, f, id, class, plan, out),
-        Lent::Unsound => Answer::Refused(4),
-        Lent::Sound => Answer::Refused(4),
+    if rec.len() != layout::SIZE {
+        return Answer::Refused(4);
     }
+    if rec[0] != 0 {
+        return Answer::Refused(4);
+    }
+    start_blank(rec, n, f, id, class, plan, out)
 }
 
 // ---- frame
@@ -105,12 +105,24 @@ fn frame_read(rec: &mut [u8], r: Record, f: Frame, out: &mut [u8]) -> Answer
     Answer::Written(went.count)
 }
 
-// Frame on a sound record. The reader's refusal is passed on, with the record unchanged.
-fn frame_sound(rec: &mut [u8], sender: u8, bytes: &[u8], out: &mut [u8]) -> Answer
-    requires { ⌜ (lentIs (now rec) ≡ Sound) × (256 ≤ length (now out)) ⌝ }
-    ensures { λ a. ⌜ leftBy a (now (rec .exit)) (now (out .exit)) ≡ after (now (rec .entry)) (now (out .entry)) (answer (some (contents (decodeRecord (now (rec .entry))))) (hears (readFrame (now (bytes .entry)) sender (decodeRecord (now (rec .entry)) .n) (decodeRecord (now (rec .entry)) .id)))) ⌝ }
+// Frame on a record of the right length that is not blank. The reader's refusal is passed on, with the record unchanged.
+fn frame_held(rec: &mut [u8], sender: u8, bytes: &[u8], out: &mut [u8]) -> Answer
+    requires { ⌜ (length (now rec) ≡ 11703) × (decodeRecord (now rec) .n ≡ 0 → ⊥) × (256 ≤ length (now out)) ⌝ }
+    ensures { λ a. ⌜ leftBy a (now (rec .exit)) (now (out .exit)) ≡ frameLeft (now (rec .entry)) sender (now (bytes .entry)) (now (out .entry)) ⌝ }
 {
     let r = layout::decode(rec);
+    if !sound::sound_in(
+        &r.marks,
+        &r.views,
+        &r.plans,
+        r.n,
+        r.f,
+        r.id,
+        r.class,
+        r.view,
+    ) {
+        return Answer::Refused(3);
+    }
     let got = reader::read(bytes, sender, r.n, r.id);
     let Reading::Accepted(f) = got else {
         return Answer::Refused(frame::refusal_of(got));
@@ -125,12 +137,13 @@ pub fn frame(rec: &mut [u8], sender: u8, bytes: &[u8], out: &mut [u8]) -> Answer
     if out.len() < 256 {
         return Answer::Refused(1);
     }
-    let lent = sound::classify(rec);
-    match lent {
-        Lent::Blank => Answer::Refused(2),
-        Lent::Unsound => Answer::Refused(3),
-        Lent::Sound => frame_sound(rec, sender, bytes, out),
+    if rec.len() != layout::SIZE {
+        return Answer::Refused(3);
     }
+    if rec[0] == 0 {
+        return Answer::Refused(2);
+    }
+    frame_held(rec, sender, bytes, out)
 }
 
 // ---- timer
@@ -177,12 +190,24 @@ fn ring(r: Record, out: &mut [u8]) -> Passed
     pass::pass_a(left, out, at)
 }
 
-// Timer on a sound record.
-fn timer_sound(rec: &mut [u8], view: u32, out: &mut [u8]) -> Answer
-    requires { ⌜ (lentIs (now rec) ≡ Sound) × (256 ≤ length (now out)) ⌝ }
-    ensures { λ r. ⌜ leftBy r (now (rec .exit)) (now (out .exit)) ≡ after (now (rec .entry)) (now (out .entry)) (answer (some (contents (decodeRecord (now (rec .entry))))) (rings view)) ⌝ }
+// Timer on a record of the right length that is not blank.
+fn timer_held(rec: &mut [u8], view: u32, out: &mut [u8]) -> Answer
+    requires { ⌜ (length (now rec) ≡ 11703) × (decodeRecord (now rec) .n ≡ 0 → ⊥) × (256 ≤ length (now out)) ⌝ }
+    ensures { λ r. ⌜ leftBy r (now (rec .exit)) (now (out .exit)) ≡ timerLeft (now (rec .entry)) view (now (out .entry)) ⌝ }
 {
     let r = layout::decode(rec);
+    if !sound::sound_in(
+        &r.marks,
+        &r.views,
+        &r.plans,
+        r.n,
+        r.f,
+        r.id,
+        r.class,
+        r.view,
+    ) {
+        return Answer::Refused(3);
+    }
     let why = timer_refusal(r.view, view);
     if why != 0 {
         return Answer::Refused(why);
@@ -200,10 +225,11 @@ pub fn timer(rec: &mut [u8], view: u32, out: &mut [u8]) -> Answer
     if out.len() < 256 {
         return Answer::Refused(1);
     }
-    let lent = sound::classify(rec);
-    match lent {
-        Lent::Blank => Answer::Refused(2),
-        Lent::Unsound => Answer::Refused(3),
-        Lent::Sound => timer_sound(rec, view, out),
+    if rec.len() != layout::SIZE {
+        return Answer::Refused(3);
     }
+    if rec[0] == 0 {
+        return Answer::Refused(2);
+    }
+    timer_held(rec, view, out)
 }
