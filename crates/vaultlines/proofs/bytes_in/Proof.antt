@@ -1,26 +1,30 @@
--- `vaultlines::bytes_in` is safe and ends: an even count of at most 90 digits spells at most 45 bytes.
+-- `vaultlines::bytes_in` meets its contract: "not an even count of lower-case hex digits, or over 90 digits", else the bytes that the
+-- digits spell. The invariant is `SpelledTo`; the measure is what is left of the count.
 -- Assumes nothing.
-use Prim.Native.Nat.{_≤_, _-_, _*_}
-use mathlib.Core.Path.{_≡_}
-use lib.ListN.{length, length-set}
+use Prim.Native.Nat.{_-_}
+use mathlib.Core.Path.{refl}
 use native.Mathlib.Omega.{arith}
+use denote.Ref.{now}
+use Rattle.vaultlines.proofs.Spelled.{SpelledTo, longSpellsNone, oddSpellsNone, highSpellsNone, lowSpellsNone, spelledMore, spelledAll, spelledFirst}
 use Rattle.vaultlines.proofs.bytes_in.Statement.{statement}
 use Rattle.vaultlines.proofs.bytes_in.Tie as tie
 
 abbrev Inv-loop : tie.InvT-loop
-Inv-loop text bytes₀ count i₀ bytes i = (i ≤ count) × (count ≤ 45) × (count * 2 ≤ length text) × (length bytes ≡ 45)
+Inv-loop text bytes₀ count i₀ bytes i = SpelledTo text bytes count i
 
 abbrev μ-loop : tie.MeasureT-loop
 μ-loop text bytes₀ count i₀ bytes i = count - i
 
-add-result : tie.Need-add-result Inv-loop μ-loop
-add-result c = omega arith
-
 returns : tie.Need-returns Inv-loop μ-loop
-returns c = tt
+returns c = (longSpellsNone (now (c .before .before .before .args .text)) (omega arith), omega arith)
+
+returns-2 : tie.Need-returns-2 Inv-loop μ-loop
+returns-2 c = (oddSpellsNone (now (c .before .before .before .before .args .text)) (omega arith), omega arith)
 
 loop-holds : tie.Need-loop-holds Inv-loop μ-loop
-loop-holds c = omega arith
+loop-holds c =
+    let s = c .before .before .before .before in
+    spelledFirst (now (s .args .text)) (now (s .args .bytes)) _ refl (omega arith) (omega arith) (s .pre)
 
 mul-value-of : tie.Need-mul-value-of Inv-loop μ-loop
 mul-value-of c = omega arith
@@ -29,7 +33,7 @@ shared-slice-read-value-of : tie.Need-shared-slice-read-value-of Inv-loop μ-loo
 shared-slice-read-value-of c = omega arith
 
 value-of-requires : tie.Need-value-of-requires Inv-loop μ-loop
-value-of-requires c κs = omega arith
+value-of-requires c κs = tt
 
 mul-value-of-2 : tie.Need-mul-value-of-2 Inv-loop μ-loop
 mul-value-of-2 c = omega arith
@@ -41,25 +45,29 @@ shared-slice-read-value-of-2 : tie.Need-shared-slice-read-value-of-2 Inv-loop μ
 shared-slice-read-value-of-2 c = omega arith
 
 value-of-requires-2 : tie.Need-value-of-requires-2 Inv-loop μ-loop
-value-of-requires-2 c κs = omega arith
-
-add-result-2 : tie.Need-add-result-2 Inv-loop μ-loop
-add-result-2 c = omega arith
+value-of-requires-2 c κs = tt
 
 same-length : tie.Need-same-length Inv-loop μ-loop
 same-length c = omega arith
 
-returns-2 : tie.Need-returns-2 Inv-loop μ-loop
-returns-2 c = tt
-
-add-result-3 : tie.Need-add-result-3 Inv-loop μ-loop
-add-result-3 c = omega arith
+returns-3 : tie.Need-returns-3 Inv-loop μ-loop
+returns-3 c =
+    let l = c .before .before .before .before .before .before .loop in (
+      highSpellsNone _ (l .bytes) _ (l .i) (l .inv) (c .before .before .before .before .before .loop-test .taken) _ _ (c .before .before .before .value-of .ensures)
+          (c .before .value-of2 .ensures) (c .if3 .taken),
+      omega arith,
+    )
 
 same-length-2 : tie.Need-same-length-2 Inv-loop μ-loop
 same-length-2 c = omega arith
 
-returns-3 : tie.Need-returns-3 Inv-loop μ-loop
-returns-3 c = tt
+returns-4 : tie.Need-returns-4 Inv-loop μ-loop
+returns-4 c =
+    let l = c .before .before .before .before .before .before .before .loop in (
+      lowSpellsNone _ (l .bytes) _ (l .i) (l .inv) (c .before .before .before .before .before .before .loop-test .taken) _ _
+          (c .before .before .before .before .value-of .ensures) (c .before .before .value-of2 .ensures) (c .before .if3 .left) (c .if4 .taken),
+      omega arith,
+    )
 
 mul-bytes : tie.Need-mul-bytes Inv-loop μ-loop
 mul-bytes c = omega arith
@@ -77,13 +85,18 @@ loop-less : tie.Need-loop-less Inv-loop μ-loop
 loop-less c = omega arith
 
 loop-again : tie.Need-loop-again Inv-loop μ-loop
-loop-again c = simp length-set (omega arith)
+loop-again c =
+    let l = c .before .before .before .before .before .before .before .loop in
+    spelledMore _ (l .bytes) _ (l .i) (l .inv) (c .before .before .before .before .before .before .loop-test .taken) _ _
+    (c .before .before .before .before .value-of .ensures) (c .before .before .value-of2 .ensures) (c .before .if3 .left) (c .if4 .left)
 
 same-length-3 : tie.Need-same-length-3 Inv-loop μ-loop
 same-length-3 c = omega arith
 
-returns-4 : tie.Need-returns-4 Inv-loop μ-loop
-returns-4 c = tt
+returns-5 : tie.Need-returns-5 Inv-loop μ-loop
+returns-5 c =
+    let l = c .before .loop in
+    (spelledAll _ (l .bytes) _ (l .i) (l .inv) (c .loop-test .left), l .inv .few)
 
 pub bytes-in-spec : {M : Type 1} → statement M
 bytes-in-spec =
@@ -91,8 +104,8 @@ bytes-in-spec =
     (tie.spec
     Inv-loop
     μ-loop
-    add-result
     returns
+    returns-2
     loop-holds
     mul-value-of
     shared-slice-read-value-of
@@ -101,12 +114,10 @@ bytes-in-spec =
     add-value-of
     shared-slice-read-value-of-2
     value-of-requires-2
-    add-result-2
     same-length
-    returns-2
-    add-result-3
-    same-length-2
     returns-3
+    same-length-2
+    returns-4
     mul-bytes
     add-bytes
     slice-write-bytes
@@ -114,4 +125,4 @@ bytes-in-spec =
     loop-less
     loop-again
     same-length-3
-    returns-4)
+    returns-5)

@@ -2,7 +2,7 @@
 -- Assumes nothing.
 use mathlib.Core.Path.{sym}
 use borrow.Author.Needs.{needs}
-use Rattle.vaultlines.proofs.Laws.{digit-decimal, digit-letter}
+use Rattle.vaultlines.proofs.Digits.{digit-decimal, digit-letter}
 use Rattle.vaultlines.proofs.digit_of.Statement.{statement}
 use Rattle.vaultlines.proofs.digit_of.Tie as tie
 

@@ -9,7 +9,7 @@ use Rattle.vaultlines.proofs.feed_all.Tie as tie
 
 abbrev Inv-loop : tie.InvT-loop
 Inv-loop rec₀ text₀ page₀ piece now-at₀ i₀ rec text page now-at i =
-    (i ≤ length piece) × (length rec ≡ length rec₀) × (length text ≡ 90) × (length page ≡ 65536) × (now-at .at ≤ 65536)
+    (i ≤ length piece) × (length rec ≡ length rec₀) × (length text ≡ 91) × (length page ≡ 65536) × (now-at .len ≤ 91) × (now-at .at ≤ 65536)
 
 abbrev μ-loop : tie.MeasureT-loop
 μ-loop rec₀ text₀ page₀ piece now-at₀ i₀ rec text page now-at i = length piece - i

@@ -8,7 +8,7 @@ use borrow.Author.Needs.{needs}
 use lib.ListN.{length, drop, length-set}
 use Rattle.wire.specs.Placed.{placed}
 use Rattle.vaultlines.specs.Digits.{lineOf}
-use Rattle.vaultlines.proofs.Laws.{line-step, line-done}
+use Rattle.vaultlines.proofs.Digits.{line-step, line-done, length-line}
 use Rattle.vaultlines.proofs.put_line.Statement.{statement}
 use Rattle.vaultlines.proofs.put_line.Tie as tie
 
@@ -71,7 +71,11 @@ same-length c = simp length-set (omega arith)
 returns : tie.Need-returns Inv-loop μ-loop
 returns c =
     let l = c .before .loop in
-    (omega arith, line-done (l .page) (c .before .before .before .before .args .s .now) (l .to) (l .i) (omega arith) (omega arith) ∙ l .inv .3)
+    let s = c .before .before .before .before .args .s .now in
+    record {
+      shown = line-done (l .page) s (l .to) (l .i) (omega arith) (omega arith) ∙ l .inv .3;
+      ends = omega (arith, length-line s);
+    }
 
 pub put-line-spec : {M : Type 1} → statement M
 put-line-spec =

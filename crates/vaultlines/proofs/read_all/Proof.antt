@@ -9,7 +9,7 @@ use Rattle.vaultlines.proofs.read_all.Tie as tie
 
 abbrev Inv-loop : tie.InvT-loop
 Inv-loop rec₀ text₀ page₀ place₀ turns₀ rec text page place turns =
-    (length rec ≡ length rec₀) × (length text ≡ 90) × (length page ≡ 65536) × (place .at ≤ 65536)
+    (length rec ≡ length rec₀) × (length text ≡ 91) × (length page ≡ 65536) × (place .len ≤ 91) × (place .at ≤ 65536)
 
 abbrev μ-loop : tie.MeasureT-loop
 μ-loop rec₀ text₀ page₀ place₀ turns₀ rec text page place turns = turns
@@ -30,7 +30,7 @@ same-length-3 : tie.Need-same-length-3 Inv-loop μ-loop
 same-length-3 c = omega arith
 
 returns : tie.Need-returns Inv-loop μ-loop
-returns c = tt
+returns c = omega arith
 
 sub-turns : tie.Need-sub-turns Inv-loop μ-loop
 sub-turns c = omega arith
@@ -51,7 +51,7 @@ same-length-6 : tie.Need-same-length-6 Inv-loop μ-loop
 same-length-6 c = omega arith
 
 returns-2 : tie.Need-returns-2 Inv-loop μ-loop
-returns-2 c = tt
+returns-2 c = omega arith
 
 pub read-all-spec : {M : Type 1} → statement M
 read-all-spec =

@@ -3,7 +3,7 @@
 use mathlib.Core.Path.{sym, ap, subst, _∙_}
 use native.Mathlib.Omega.{arith}
 use Prim.Native.Nat.{ℕ, _+_, _≤_}
-use Rattle.vaultlines.proofs.Laws.{size-timer, size-decision, size-frame, length-short}
+use Rattle.vaultlines.proofs.Entries.{size-timer, size-decision, size-frame, length-short}
 use borrow.Author.Needs.{needs}
 use Rattle.vaultlines.proofs.size_at.Statement.{statement}
 use Rattle.vaultlines.proofs.size_at.Tie as tie

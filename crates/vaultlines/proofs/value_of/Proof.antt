@@ -3,7 +3,7 @@
 use mathlib.Core.Path.{sym}
 use native.Mathlib.Omega.{arith}
 use borrow.Author.Needs.{needs}
-use Rattle.vaultlines.proofs.Laws.{value-decimal, value-letter, value-low, value-between, value-high}
+use Rattle.vaultlines.proofs.Digits.{value-decimal, value-letter, value-low, value-between, value-high}
 use Rattle.vaultlines.proofs.value_of.Statement.{statement}
 use Rattle.vaultlines.proofs.value_of.Tie as tie
 

@@ -2,18 +2,15 @@
 -- ("Output digits are lower-case"). A byte is a decimal digit, a letter, or in one of the three gaps around them.
 -- Assumes nothing.
 use Prim.Native.Nat.{ℕ, suc, _+_, _*_, _-_, _/_, _%_, _≤_, _<_}
-use mathlib.Core.Path.{_≡_, sym, subst, _∙_}
+use mathlib.Core.Path.{_≡_, refl, _∙_}
 use mathlib.Core.List.{List, [], _∷_}
 use native.Mathlib.Omega.{arith}
-use native.Mathlib.Decide.{ℕ-discrete, decLe}
-use borrow.Author.Tests.{eq-eqb, ne-eqb, lt-ltb, le-ltb}
+use borrow.Author.Tests.{lt-ltb, le-ltb}
 use lib.ListN.{length, getD, set, drop, length-set, drop-of-length-le}
 use lib.Seq.{drop-cons}
 use Rattle.wire.specs.Placed.{placed}
 use Rattle.wire.proofs.Output.{placed-one, placed-next}
-use Rattle.frame.specs.Format.{lengthOf}
-use Rattle.frame.proofs.Laws.{inside, under, over, length-plan, length-bare, length-reports, length-low, length-high}
-use Rattle.entry.specs.Layout.{sizeAt}
+use Rattle.frame.proofs.Laws.{inside, under, over}
 use Rattle.vaultlines.specs.Digits.{valueOf, digitOf, lineOf}
 
 pub value-decimal : (b : ℕ) → 48 ≤ b → b ≤ 57 → valueOf b ≡ b - 48
@@ -63,47 +60,8 @@ pub line-done : (page s : List ℕ) (to i : ℕ) → length s ≤ i → to < len
 unfolding lineOf
 line-done page s to i h room = rw (drop-of-length-le s {i = i} h) (placed-one page to 10 room)
 
--- "Host entries: 0b, view (4), milliseconds (4) for a timer; 0a, view (4), plan (8) for a decision"
-pub size-timer : (s : List ℕ) → getD s 0 0 ≡ 254 → getD s 1 0 ≡ 11 → sizeAt s ≡ 10
-unfolding sizeAt
-size-timer s a b = simp (eq-eqb (getD s 0 0) 254 a, eq-eqb (getD s 1 0) 11 b)
-
-pub size-decision : (s : List ℕ) → getD s 0 0 ≡ 254 → (getD s 1 0 ≡ 11 → ⊥) → sizeAt s ≡ 14
-unfolding sizeAt
-size-decision s a b = simp (eq-eqb (getD s 0 0) 254 a, ne-eqb (getD s 1 0) 11 b)
-
--- "a recipient byte .., then the frame"
-pub size-frame : (s : List ℕ) → (getD s 0 0 ≡ 254 → ⊥) → sizeAt s ≡ 1 + lengthOf (getD s 1 0)
-unfolding sizeAt
-size-frame s a = simp (ne-eqb (getD s 0 0) 254 a) (omega arith)
-
--- no frame is longer than 45 bytes
-pub length-short : (k : ℕ) → lengthOf k ≤ 45
-length-short k =
-    elim (decLe k 0) [
-      | yes h ↦ subst (λ (m : ℕ). m ≤ 45) (sym (length-low k (omega arith))) (omega arith)
-      | no g ↦ elim (decLe k 5) [
-        | yes h ↦ subst (λ (m : ℕ). m ≤ 45) (sym (length-plan k (omega arith) h)) (omega arith)
-        | no h ↦ elim (decLe k 6) [
-          | yes e ↦ subst (λ (m : ℕ). m ≤ 45) (sym (length-bare k (omega arith))) (omega arith)
-          | no e ↦ elim (decLe k 8) [
-            | yes u ↦ subst (λ (m : ℕ). m ≤ 45) (sym (length-reports k (omega arith) u)) (omega arith)
-            | no u ↦ subst (λ (m : ℕ). m ≤ 45) (sym (length-high k (omega arith))) (omega arith)
-          ]
-        ]
-      ]
-    ]
-
--- an entry has a byte
-size-some : (s : List ℕ) → 1 ≤ sizeAt s
-size-some s =
-    elim (ℕ-discrete (getD s 0 0) 254) [
-      | yes a ↦ elim (ℕ-discrete (getD s 1 0) 11) [
-        | yes b ↦ subst (λ (m : ℕ). 1 ≤ m) (sym (size-timer s a b)) (omega arith)
-        | no b ↦ subst (λ (m : ℕ). 1 ≤ m) (sym (size-decision s a b)) (omega arith)
-      ]
-      | no a ↦ subst (λ (m : ℕ). 1 ≤ m) (sym (size-frame s a)) (omega arith)
-    ]
-
-pub size-more : (size : ℕ) (s : List ℕ) → size ≡ sizeAt s → 1 ≤ size
-size-more size s e = subst (λ (m : ℕ). 1 ≤ m) (sym e) (size-some s)
+-- two digits for each byte, and the line's end
+pub length-line : (s : List ℕ) → length (lineOf s) ≡ 2 * length s + 1
+unfolding lineOf
+length-line [] = refl
+length-line (b ∷ s) = omega (arith, length-line s)

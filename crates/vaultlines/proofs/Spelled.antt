@@ -1,0 +1,126 @@
+-- Laws of the bytes that a line's text spells: "not an even count of lower-case hex digits, or over 90 digits". The loop that reads a text
+-- keeps that the bytes read so far, with what the rest spells, are what the whole spells, and that the rest is all digits where the whole
+-- is. So the first byte that is no digit decides, or the text's end.
+-- Assumes nothing.
+use Prim.Native.Nat.{ℕ, suc, _+_, _*_, _/_, _%_, _≤_, _<_}
+use mathlib.Core.Path.{_≡_, refl, sym, ap, _∙_}
+use mathlib.Core.Bool.{Bool, true, false, not, _&&_, cond, or-true, or-false}
+use mathlib.Core.List.{List, [], _∷_, _++_, append-assoc, append-nil}
+use mathlib.Core.Option.{none, some}
+use native.Mathlib.Decide.{decLe}
+use native.Mathlib.Omega.{arith}
+use borrow.Author.Tests.{eq-eqb, ne-eqb, lt-ltb, le-ltb}
+use lib.Dec.{ltb}
+use lib.ListN.{length, getD, take, drop, set, length-set, drop-of-length-le}
+use lib.Seq.{drop-cons, take-suc-set, take-all, length-take-le}
+use Rattle.vaultlines.specs.Digits.{valueOf, allDigits, badLine, spelled, bytesOf}
+
+pub longSpellsNone : (text : List ℕ) → 90 < length text → none ≡ bytesOf text
+unfolding bytesOf badLine
+longSpellsNone text long = simp (lt-ltb 90 (length text) long, or-true)
+
+pub oddSpellsNone : (text : List ℕ) → (length text % 2 ≡ 0 → ⊥) → none ≡ bytesOf text
+unfolding bytesOf badLine
+oddSpellsNone text odd = simp (ne-eqb (length text % 2) 0 odd)
+
+-- An even count of at most 90: the digits decide.
+evenSpells : (text : List ℕ) → length text % 2 ≡ 0 → length text ≤ 90 → bytesOf text ≡ cond (allDigits text) (some (spelled text)) none
+unfolding bytesOf badLine
+evenSpells text even short = simp (eq-eqb (length text % 2) 0 even, le-ltb 90 (length text) short, or-false) (go (allDigits text))
+  where
+    go : (b : Bool) → cond (not b) none (some (spelled text)) ≡ cond b (some (spelled text)) none
+    go true = refl
+    go false = refl
+
+-- What holds after i of count bytes.
+pub record SpelledTo (text bytes : List ℕ) (count i : ℕ) : Type 0 where
+  pub even : count * 2 ≡ length text
+  pub few : count ≤ 45
+  pub at : i ≤ count
+  pub size : length bytes ≡ 45
+  pub digits : allDigits (drop (2 * i) text) ≡ allDigits text
+  pub spells : take i bytes ++ spelled (drop (2 * i) text) ≡ spelled text
+
+-- The next two digits.
+twoMore : (text : List ℕ) (i : ℕ) → 2 * i + 1 < length text
+    → drop (2 * i) text ≡ getD text (2 * i) 0 ∷ getD text (2 * i + 1) 0 ∷ drop (2 * (i + 1)) text
+twoMore text i room =
+    let second : suc (2 * i) ≡ 2 * i + 1 = omega arith in
+    let third : suc (2 * i + 1) ≡ 2 * (i + 1) = omega arith in
+    drop-cons text (2 * i) 0 (omega arith)
+    ∙ ap (λ (k : ℕ). getD text (2 * i) 0 ∷ drop k text) second
+    ∙ ap (λ (l : List ℕ). getD text (2 * i) 0 ∷ l) (drop-cons text (2 * i + 1) 0 room)
+    ∙ ap (λ (k : ℕ). getD text (2 * i) 0 ∷ getD text (2 * i + 1) 0 ∷ drop k text) third
+
+module _ (text bytes : List ℕ) (count i : ℕ) (so : SpelledTo text bytes count i) where
+  evenHere : bytesOf text ≡ cond (allDigits text) (some (spelled text)) none
+  evenHere = evenSpells text (omega arith) (omega arith)
+
+  notDigits : allDigits (drop (2 * i) text) ≡ false → none ≡ bytesOf text
+  notDigits bad = sym (evenHere ∙ ap (λ (b : Bool). cond b (some (spelled text)) none) (sym (so .digits) ∙ bad))
+
+  -- The next two digits' values.
+  module _ (more : i < count) (high low : ℕ) (eh : high ≡ valueOf (getD text (2 * i) 0)) (el : low ≡ valueOf (getD text (2 * i + 1) 0)) where
+    allTwo : allDigits (drop (2 * i) text) ≡ (ltb high 16 && (ltb low 16 && allDigits (drop (2 * (i + 1)) text)))
+    unfolding allDigits
+    allTwo = ap allDigits (twoMore text i (omega arith)) ∙ rw (← eh, ← el)
+
+    -- A byte that is no digit.
+    pub highSpellsNone : 15 < high → none ≡ bytesOf text
+    highSpellsNone bad = notDigits (allTwo ∙ simp (le-ltb high 16 (omega arith)))
+
+    pub lowSpellsNone : high ≤ 15 → 15 < low → none ≡ bytesOf text
+    lowSpellsNone good bad = notDigits (allTwo ∙ simp (lt-ltb high 16 (omega arith), le-ltb low 16 (omega arith)))
+
+    -- One byte more.
+    pub spelledMore : high ≤ 15 → low ≤ 15 → SpelledTo text (set bytes i (high * 16 + low)) count (i + 1)
+    unfolding spelled
+    spelledMore gh gl =
+        let b = high * 16 + low in
+        let rest = drop (2 * (i + 1)) text in
+        let next : i + 1 ≡ suc i = omega arith in
+        let two : spelled (drop (2 * i) text) ≡ b ∷ spelled rest = ap spelled (twoMore text i (omega arith)) ∙ rw (← eh, ← el) in
+        let all : allDigits (drop (2 * i) text) ≡ allDigits rest = allTwo ∙ simp (lt-ltb high 16 (omega arith), lt-ltb low 16 (omega arith)) in
+        record {
+          even = so .even;
+          few = so .few;
+          at = omega arith;
+          size = length-set bytes i b ∙ so .size;
+          digits = sym all ∙ so .digits;
+          spells = ap (λ (k : ℕ). take k (set bytes i b) ++ spelled rest) next
+              ∙ ap (λ (l : List ℕ). l ++ spelled rest) (take-suc-set bytes i b (omega arith))
+              ∙ append-assoc (take i bytes) (b ∷ []) (spelled rest)
+              ∙ ap (λ (l : List ℕ). take i bytes ++ l) (sym two)
+              ∙ so .spells;
+        }
+
+  -- All are read.
+  pub spelledAll : count ≤ i → some (take count bytes) ≡ bytesOf text
+  unfolding allDigits spelled
+  spelledAll done =
+      let same : i ≡ count = omega arith in
+      let rest : drop (2 * i) text ≡ [] = drop-of-length-le text {i = 2 * i} (omega arith) in
+      let all : allDigits text ≡ true = sym (so .digits) ∙ ap allDigits rest in
+      let here : take count bytes ≡ spelled text =
+      sym (append-nil (take count bytes)) ∙ ap (λ (k : ℕ). take k bytes ++ []) (sym same) ∙ ap (λ (l : List ℕ). take i bytes ++ spelled l) (sym rest) ∙ so .spells in
+      ap (λ (l : List ℕ). some l) here ∙ ap (λ (b : Bool). cond b (some (spelled text)) none) (sym all) ∙ sym evenHere
+
+-- None is read yet.
+pub spelledFirst : (text bytes : List ℕ) (count : ℕ) → count ≡ length text / 2 → length text % 2 ≡ 0 → length text ≤ 90 → length bytes ≡ 45
+    → SpelledTo text bytes count 0
+spelledFirst text bytes count half even short size = record {
+  even = omega arith;
+  few = omega arith;
+  at = omega arith;
+  size = size;
+  digits = refl;
+  spells = refl;
+}
+
+-- What is kept of a line spells what the line spells: of one that is longer, one byte beyond the digits is enough to give 20.
+pub keptSpells : (line : List ℕ) → bytesOf (take 91 line) ≡ bytesOf line
+keptSpells line = go (decLe (length line) 91)
+  where
+    go : Dec (length line ≤ 91) → bytesOf (take 91 line) ≡ bytesOf line
+    go (yes short) = ap bytesOf (take-all 91 line short)
+    go (no long) = sym (longSpellsNone (take 91 line) (omega (arith, length-take-le 91 line (omega arith)))) ∙ longSpellsNone line (omega arith)
