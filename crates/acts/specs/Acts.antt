@@ -6,7 +6,6 @@ use mathlib.Core.Option.{Option, none, some}
 use lib.ListN.{getD, take, drop}
 use Rattle.rules.specs.Rules.{Reports}
 use Rattle.claims.specs.Layout.{reportsIn}
-use Rattle.record.specs.declared.Record as slots
 use Rattle.record.specs.Slots.{frameSlot, reportSlot, Arrays}
 use Rattle.protocol.specs.Record.{Record}
 use Rattle.protocol.specs.Pass as pass

@@ -21,7 +21,7 @@ use Rattle.frame.proofs.Laws.{inside}
 use Rattle.record.specs.declared.Record as slots
 use Rattle.record.specs.Slots.{frameSlot, previousSlot, slotOf, withSlot, withView, Sized}
 use Rattle.record.proofs.Slots.{sized-slot}
-use Rattle.kept.specs.Kept.{frameIn, keptIn, asOption, planOf, keepFrame}
+use Rattle.kept.specs.Kept.{frameIn, keptIn, asOption, keepFrame}
 use Rattle.keeping.specs.Keeping.{moves, shifted, ownBroadcast}
 use Rattle.kept.proofs.Forms.{body-plan, kept-there, kept-nothing}
 use Rattle.protocol.specs.Record.{Record, changed, put, each, reported, spelt, voteBy, leads, voteOf, tells, changeFrame, voteFrame, reportFrame}
@@ -159,13 +159,6 @@ module _ (r : slots.Record) (k p : ℕ) where
       go false c has = h
 
 -- ---- the acts
-
--- Of other kinds than vote-1 and vote-2, a broadcast is only kept.
-pub plainBroadcast : (r : slots.Record) (f : Frame) → within 2 3 (f .kind) ≡ false → ownBroadcast r f ≡ keepFrame r (r .id) f
-unfolding ownBroadcast shifted moves
-plainBroadcast r f other =
-    let x : Report = slotOf r (frameSlot (f .kind) (r .id)) in
-    ap (λ (b : Bool). keepFrame (cond (b && (present x && not (eqb (x .plan) (planOf (f .body))))) (withSlot r (previousSlot (f .kind)) x) r) (r .id) f) other
 
 -- To vote, and to propose (k = 0).
 module _ (r : slots.Record) (k p : ℕ) (low : k ≤ 4) (row : r .id < 64) where

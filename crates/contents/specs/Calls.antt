@@ -4,7 +4,7 @@
 use Prim.Native.Nat.{ℕ}
 use mathlib.Core.Bool.{cond}
 use mathlib.Core.List.{List}
-use mathlib.Core.Option.{Option, none, some}
+use mathlib.Core.Option.{none, some}
 use lib.Dec.{ltb}
 use lib.ListN.{length}
 use Rattle.wire.specs.Placed.{placed}
@@ -14,8 +14,7 @@ use Rattle.layout.specs.Layout.{encodeRecord, decodeRecord}
 use Rattle.sound.specs.declared.Lent.{Lent}
 use Rattle.sound.specs.declared.Lent.the-variants.{Blank, Unsound, Sound}
 use Rattle.sound.specs.Sound.{lentIs}
-use Rattle.protocol.specs.Record.{Settings, Record}
-use Rattle.protocol.specs.Pass.{Out}
+use Rattle.protocol.specs.Record.{Record}
 use Rattle.protocol.specs.Calls.{Call, start, frame, timer, Answer, refused, accepted, answer}
 use Rattle.contents.specs.Contents.{contents, slotted}
 

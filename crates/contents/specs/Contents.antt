@@ -6,8 +6,7 @@ use mathlib.Core.Path.{_≡_}
 use mathlib.Core.Bool.{_&&_, cond}
 use mathlib.Core.List.{List, [], _∷_, _++_}
 use mathlib.Core.Option.{Option, none, some}
-use lib.Dec.{ltb, eqb}
-use lib.ListN.{length}
+use lib.Dec.{ltb}
 use Rattle.frame.specs.declared.Report.{Report}
 use Rattle.frame.specs.declared.Reports.{Reports}
 use Rattle.frame.specs.declared.Body.{Body}

@@ -1,7 +1,6 @@
 -- M1 to M11 hold of the rules (document 01, 'Marked edges'; 'The weight of each public call', 4), and the run where only the two-set
 -- clause serves. Each case has a test that computes, by the rules as counts (`safeIff`, `backedIff`, `countQuorum`); the list is decided at once.
 -- Assumes nothing.
-use Prim.Native.Nat.{ℕ}
 use mathlib.Core.Path.{_≡_, refl}
 use mathlib.Core.Bool.{Bool, true, not, _&&_}
 use mathlib.Core.List.{List, [], _∷_}
@@ -11,7 +10,7 @@ use Rattle.quorum.specs.Bools.{any}
 use Rattle.quorum.specs.Sets.{equals, weigh, isQuorum, isBlocking}
 use Rattle.quorum.proofs.Bools.{clash, bothSplit}
 use Rattle.quorum.proofs.Laws.{countQuorum}
-use Rattle.rules.specs.Rules.{Rule, Reports, reach, claims, unlocked, allows, reporting, noLock}
+use Rattle.rules.specs.Rules.{reach, claims, unlocked, allows, reporting, noLock}
 use Rattle.rules.specs.Counts.{claimed, free, allowed, twoSets, backed, safe}
 use Rattle.rules.proofs.Laws.{backedIff, safeIff}
 use Rattle.frame.specs.Refusal.{first}

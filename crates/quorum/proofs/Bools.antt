@@ -1,12 +1,11 @@
 -- What a computed test says: taking `&&`, `||` and `any` apart and putting them together.
 -- Facts on a vault or a report are `test ≡ true`; these lemmas are all that proofs need of Bool.
 -- Assumes nothing.
-use Prim.Native.Nat.{ℕ, zero, suc, _+_, _<_}
+use Prim.Native.Nat.{ℕ, zero, suc, _<_}
 use mathlib.Core.Path.{_≡_, refl, sym, _∙_}
 use mathlib.Core.Bool.{Bool, true, false, _&&_, _||_, false≢true}
-use mathlib.Core.Logic.{_⊎_, inl, inr, _↔_}
+use mathlib.Core.Logic.{_⊎_, inl, inr}
 use native.Mathlib.Omega.{arith}
-use native.Mathlib.Numerals.{add-one}
 use native.Mathlib.Decide.{decLt}
 use Rattle.quorum.specs.Bools.{any}
 
@@ -53,14 +52,6 @@ neither true b p q = p
 neither false b p q = q
 
 -- ---- some number below k
-
-pub anyNone : (test : ℕ → Bool) → any test 0 ≡ false
-unfolding any
-anyNone test = refl
-
-pub anyMore : (test : ℕ → Bool) (k : ℕ) → any test (k + 1) ≡ (any test k || test k)
-unfolding any
-anyMore test k = rw add-one
 
 pub anyAt : (test : ℕ → Bool) (k i : ℕ) → i < k → test i ≡ true → any test k ≡ true
 unfolding any

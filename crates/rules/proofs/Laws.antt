@@ -5,19 +5,19 @@
 -- report names is safe only if every plan is, so where the starting plan is not, the smallest safe plan is named by a report.
 -- Assumes nothing.
 use Prim.Native.Nat.{ℕ, zero, suc, _+_, _-_, _≤_, _<_, min}
-use mathlib.Core.Path.{_≡_, refl, sym, _∙_, ap, subst}
+use mathlib.Core.Path.{_≡_, refl, _∙_, ap}
 use mathlib.Core.Logic.{_≢_, _⊎_, inl, inr, ⊎-elim, _↔_}
-use mathlib.Core.Bool.{Bool, true, false, cond, not, _&&_, _||_, false≢true}
+use mathlib.Core.Bool.{Bool, true, false, cond, not, _&&_, false≢true}
 use mathlib.Core.Option.{Option, none, some}
 use native.Mathlib.Omega.{arith}
 use native.Mathlib.Decide.{ℕ-discrete}
-use lib.Dec.{leb, ltb, eqb}
+use lib.Dec.{ltb, eqb}
 use borrow.Author.Tests.{ltb-true, lt-ltb, le-ltb, eqb-true, eqb-false, eq-eqb, ne-eqb, not-true}
 use Rattle.quorum.specs.Bools.{any}
-use Rattle.quorum.specs.Sets.{Vaults, Set, weigh, size, isQuorum, isBlocking, Group, Quorum, Blocking}
+use Rattle.quorum.specs.Sets.{Vaults, Set, isBlocking, Quorum, Blocking}
 use Rattle.quorum.proofs.Bools.{which, clash, notTrue, bothSplit, bothJoin, orLeft, orRight, either, anyAt, anyWhere}
-use Rattle.quorum.proofs.Laws.{ByWeight, quorumByWeight, blockingByWeight, enoughMono, groupMap, countQuorum, countBlocking}
-use Rattle.rules.specs.Options.{isNone, holds}
+use Rattle.quorum.proofs.Laws.{ByWeight, blockingByWeight, enoughMono, groupMap, countQuorum, countBlocking}
+use Rattle.rules.specs.Options.{holds}
 use Rattle.rules.specs.Rules.{Vote, Report, Reports, Rule, rule1, rule3, claims, unlocked, allows, reporting, Claimed, TwoSets, Backed, Safe, atStart, noLock, since, IsSmallest, Chosen, own, other}
 use Rattle.rules.specs.Counts.{claimed, free, allowed, planOr, planBy, votedPlan, twoClaimed, twoSets, backed, safe, names, namedPlan, smaller, smallest, choice}
 use Rattle.rules.proofs.Single.{claimsFall, claimsUnnamed, allowsUnnamed, namesSplit}

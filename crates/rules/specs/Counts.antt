@@ -5,8 +5,8 @@ use mathlib.Core.Bool.{Bool, true, false, cond, not, _&&_, _||_}
 use mathlib.Core.Option.{Option, none, some}
 use lib.Dec.{ltb, eqb}
 use Rattle.quorum.specs.Bools.{any}
-use Rattle.quorum.specs.Sets.{Vaults, weigh, isQuorum, isBlocking}
-use Rattle.rules.specs.Options.{isNone, holds}
+use Rattle.quorum.specs.Sets.{Vaults, isQuorum, isBlocking}
+use Rattle.rules.specs.Options.{holds}
 use Rattle.rules.specs.Rules.{Vote, Report, Reports, Rule, rule1, rule3, claims, unlocked, allows, reporting}
 
 -- 'a blocking set claiming p at v'': the claimers are enough.

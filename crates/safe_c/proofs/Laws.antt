@@ -2,8 +2,8 @@
 -- The exports take n and f as bytes and hand them on as numbers of the machine's width, which are the same.
 -- Assumes nothing.
 use Prim.Native.Nat.{ℕ, _≤_, _<_}
-use mathlib.Core.Path.{_≡_, sym, _∙_, ap}
-use mathlib.Core.Bool.{Bool, true, false, cond, not, _&&_, and-false}
+use mathlib.Core.Path.{_≡_}
+use mathlib.Core.Bool.{Bool, true, false, cond, not, and-false}
 use mathlib.Core.Option.{Option}
 use mathlib.Core.List.{List}
 use lib.Dec.{leb, ltb, eqb}
@@ -14,7 +14,7 @@ use Rattle.quorum.proofs.Bools.{bothSplit}
 use Rattle.rules.specs.Counts.{safe, choice}
 use Rattle.claims.specs.Layout.{reportsIn, Laid}
 use Rattle.safe.specs.Choices.{ruleOf}
-use Rattle.safe_c.specs.Answers.{laid, safePlan, Answer, answered, choosePlan}
+use Rattle.safe_c.specs.Answers.{laid, safePlan, answered, choosePlan}
 
 module _ (kept at marks views plans : List ℕ) (n f : ℕ) where
   pub laidParts : laid kept at marks views plans n f ≡ true → Laid kept at marks views plans × (n ≤ 64) × (f < n)

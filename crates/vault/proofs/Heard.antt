@@ -2,7 +2,7 @@
 -- code's rows 16 and 17 read slots, and document 01's read contents; they agree. A frame that the reader accepted, once kept, leaves a
 -- record from which a pass can run, and its output is short enough.
 -- Assumes nothing.
-use Prim.Native.Nat.{ℕ, zero, suc, _≤_, _<_}
+use Prim.Native.Nat.{ℕ, _≤_, _<_}
 use mathlib.Core.Path.{_≡_, refl, sym, _∙_, ap, subst}
 use mathlib.Core.Logic.{_⊎_, inl, inr}
 use mathlib.Core.Bool.{Bool, true, false, cond, _&&_, _||_, or-false}
@@ -11,7 +11,7 @@ use mathlib.Core.Option.{some}
 use native.Mathlib.Omega.{arith}
 use lib.Dec.{leb, ltb, eqb}
 use lib.ListN.{length}
-use borrow.Author.Tests.{lt-ltb, le-ltb, le-leb, lt-leb, eqb-true, eqb-false, ltb-true, ltb-false, leb-false}
+use borrow.Author.Tests.{le-leb, lt-leb, eqb-true, eqb-false, ltb-true, ltb-false, leb-false}
 use Rattle.quorum.proofs.Bools.{which}
 use Rattle.rules.specs.Options.{holds}
 use Rattle.wire.specs.Fields.{Bytes}
@@ -32,14 +32,14 @@ use Rattle.sound.specs.declared.Lent.the-variants.{Blank, Unsound, Sound}
 use Rattle.sound.specs.Sound.{sound, lentIs}
 use Rattle.protocol.specs.Record.{Record, when}
 use Rattle.protocol.specs.Pass.{pass, fromA}
-use Rattle.protocol.specs.Calls.{Call, recordRows, keep, heard, Readable, frame, Answer, unless, accepted, answer}
+use Rattle.protocol.specs.Calls.{recordRows, keep, heard, Readable, frame, Answer, unless, accepted, answer}
 use Rattle.protocol.proofs.Sound.{Whole}
 use Rattle.protocol.proofs.Went.{noneGiven}
 use Rattle.protocol.proofs.Proper.{heardWhole}
 use Rattle.protocol.proofs.Size.{outputShort}
 use Rattle.protocol.proofs.Read.{acceptedReadable}
 use Rattle.contents.specs.Contents.{contents, Clean}
-use Rattle.contents.specs.Calls.{gave, after, onLent, called, frameLeft}
+use Rattle.contents.specs.Calls.{gave, after, called, frameLeft}
 use Rattle.contents.proofs.Kept.{contentsKeep}
 use Rattle.contents.proofs.Clean.{cleanKeep}
 use Rattle.contents.proofs.Sound.{soundRead}

@@ -68,10 +68,6 @@ entryLeast (Decision view plan) = omega (arith, length-spell (hostFields 10 view
 
 -- ---- entries one after the other
 
-pub laidNone : Laid []
-unfolding entriesWithin
-laidNone = record { valid = tt; entries = refl }
-
 -- What is known of the first entry of some bytes.
 record First (s : List ℕ) (e : Entry) : Type 0 where
   size : sizeAt s ≡ length (entryBytes e)

@@ -1,6 +1,6 @@
 -- `pass::act_on` meets its contract: by the act.
 -- Assumes nothing.
-use mathlib.Core.Path.{_≡_, subst}
+use mathlib.Core.Path.{subst}
 use Rattle.acts.specs.declared.Act.{Act}
 use Rattle.acts.specs.Acts.{asAct}
 use Rattle.pass.specs.Steps.{Votes}

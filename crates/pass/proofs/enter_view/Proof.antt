@@ -1,6 +1,6 @@
 -- `pass::enter_view` meets its contract: by whether the vault leads the view.
 -- Assumes nothing.
-use mathlib.Core.Path.{_≡_, ap, _∙_}
+use mathlib.Core.Path.{ap, _∙_}
 use native.Mathlib.Omega.{arith}
 use Rattle.rules.specs.Rules.{rule1, rule3}
 use Rattle.record.specs.declared.Record.{Record}

@@ -1,6 +1,6 @@
 -- `pass::report_for` meets its contract: each report is what its slot holds.
 -- Assumes nothing.
-use mathlib.Core.Path.{_≡_, ap, _∙_}
+use mathlib.Core.Path.{ap, _∙_}
 use Rattle.frame.specs.declared.Body.the-variants.{Told}
 use Rattle.record.specs.Slots.{slotIn}
 use borrow.Author.Needs.{needs}
