@@ -114,11 +114,11 @@ fn answers_come_before_more_input() {
     assert!(child.wait().unwrap().success());
 }
 
-/// 300,000 lines in 20 megabytes of address space, the program and its libraries included.
+/// 1,000,000 lines in 20 megabytes of address space, the program and its libraries included.
 #[test]
 fn a_long_input_needs_little_memory() {
     let mut text = String::from("00040100020000000000000007\n");
-    for i in 0..300_000u32 {
+    for i in 0..1_000_000u32 {
         match i % 3 {
             0 => text.push_str(&format!("0201{:08x}0000000000000007\n", i / 3)),
             1 => text.push_str("0900000000\n"),

@@ -41,7 +41,7 @@ calls : (says "00040100020000000000000007" ≡ some (start 4 1 0 2 7))
 unfolding valueOf within allDigits badLine spelled bytesOf startOf timerOf frameOf callOf numberAt
 calls = (refl, refl, refl, refl, refl, refl)
 
--- A vote-k of vault 0 in view 0 for plan 7; its proposal is k = 0.
+-- What vault 0 sends to all in view 0 for plan 7: kind 1 is its proposal, kind 2 its vote-1.
 abbrev sends : ℕ → Entry
 sends kind = ForAll (record { kind = kind; sender = 0; view = 0; body = Plan 7 })
 

@@ -1,4 +1,5 @@
--- What the parts of the line program promise each other: the count of bytes that a text spells, and answers whose bytes can be printed.
+-- What the parts of the line program promise each other: the count of bytes that a text spells, answers whose bytes can be printed, the
+-- place of a line's answer on the page, and a byte of input.
 -- Assumes nothing.
 use Prim.Native.Nat.{ℕ, _≤_}
 use mathlib.Core.Path.{_≡_}
@@ -38,8 +39,7 @@ Printable (Refused number) out = Unit {0}
 unfoldable pub roomAt : ℕ → ℕ
 roomAt at = cond (leb at 64768) at 0
 
--- One byte of input: "A line ends at byte 0a", and is answered; any other byte goes to what is kept of the line, of which there are at
--- most 91.
+-- One byte of input: "A line ends at byte 0a", and is answered; any other byte is added to what is kept of the line, at most 91 bytes.
 pub record Fed (rec line page : List ℕ) (at b : ℕ) (rec′ line′ page′ : List ℕ) (at′ : ℕ) : Type 0 where
   pub ends : b ≡ 10 → (line′ ≡ []) × Answered (lineLeft rec line) page (roomAt at) rec′ page′ at′
   pub goes : (b ≡ 10 → ⊥) → (rec′ ≡ rec) × (line′ ≡ take 91 (line ++ (b ∷ []))) × (page′ ≡ page) × (at′ ≡ at)
