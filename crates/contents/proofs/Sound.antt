@@ -33,7 +33,7 @@ use Rattle.sound.specs.Sound.{emptyAt, noPlan, ahead, frameSound, placeSound, k
 use Rattle.sound.proofs.Laws.{place-empty, place-frame, lent-other}
 use Rattle.protocol.specs.Record.{Record, spelt, voteOf}
 use Rattle.protocol.specs.Pass.{hasPrevious}
-use Rattle.protocol.specs.Calls.{settingRows}
+use Rattle.settings.specs.Settings.{settingRows}
 use Rattle.protocol.specs.Sound.{InRow, Sound, Ranged}
 use Rattle.protocol.proofs.Tables.{whenSome}
 use Rattle.protocol.proofs.Sound.{idBelow, sizeBelow}

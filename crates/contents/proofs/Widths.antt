@@ -24,7 +24,7 @@ use Rattle.layout.specs.Layout as layout
 use Rattle.kept.specs.Kept.{planOf, headSlot}
 use Rattle.protocol.specs.Record.{Record, reported, spelt}
 use Rattle.protocol.specs.Pass.{hasPrevious}
-use Rattle.protocol.specs.Calls.{settingRows}
+use Rattle.settings.specs.Settings.{settingRows}
 use Rattle.protocol.specs.Sound.{Sound, Fits, Ranged}
 use Rattle.protocol.proofs.Tables.{whenSome}
 use Rattle.protocol.proofs.Slots.{viewFits}

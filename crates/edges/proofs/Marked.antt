@@ -19,7 +19,7 @@ use Rattle.edges.specs.Cases.{Case, starting, safely, unsafely, serving,
 
 -- The case's test.
 right : Case → Bool
-right (starting n f k) = eqb (first (settingRows n f 0 0)) k
+right (starting n f k) = eqb (first (settingRows (record { n = n; f = f; id = 0; class = 0 }))) k
 right (safely rule rs v p) = safe rule (equals 4 1) rs v p
 right (unsafely rule rs v p) = not (safe rule (equals 4 1) rs v p)
 right (serving rule rs v p u) = ltb u v && (allowed (equals 4 1) rs p u && backed rule (equals 4 1) rs v p u)

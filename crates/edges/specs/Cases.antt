@@ -57,7 +57,7 @@ pub data Case : Type 0 where
 
 -- What a case claims, of the rules' own definitions.
 abbrev pub Holds : Case → Type 0
-Holds (starting n f k) = first (settingRows n f 0 0) ≡ k
+Holds (starting n f k) = first (settingRows (record { n = n; f = f; id = 0; class = 0 })) ≡ k
 Holds (safely rule rs v p) = Safe rule (equals 4 1) rs v p
 Holds (unsafely rule rs v p) = ¬ Safe rule (equals 4 1) rs v p
 Holds (serving rule rs v p u) = (u < v) × Quorum (equals 4 1) (λ i. reporting rs (allows p u) i ≡ true) × Backed rule (equals 4 1) rs v p u

@@ -1,51 +1,118 @@
--- The record's bytes. The layout is this program's choice: 11,703 bytes, each string of which spells one record. So it can spell
--- a blank record and every content, and 'spells no record' is: another length.
+-- The record's bytes. The layout is this program's choice: a shared part (settings, current view, the row of view-changes), then one
+-- practice's block (starting plan, all other slots). Each part has a head of 8 bytes, then its slots of 13 bytes end to end. Every
+-- string of 11,703 bytes spells one record. So it can spell a blank record and every content, and 'spells no record' is: another length.
 -- Assumes nothing.
-use Prim.Native.Nat.{ℕ, _^_, _<_}
+use Prim.Native.Nat.{ℕ, zero, suc, _+_, _-_, _*_, _^_, _≤_, _<_}
+use mathlib.Core.Bool.{cond}
 use mathlib.Core.Path.{_≡_}
-use mathlib.Core.List.{List, _∷_, _++_}
-use lib.ListN.{length, getD, take, drop}
+use mathlib.Core.List.{List, [], _∷_, _++_}
+use lib.Dec.{ltb}
+use lib.ListN.{length, getD}
 use Rattle.wire.specs.Digits.{numberAt, digits}
-use Rattle.words.specs.Words.{numbers, spelled, Below}
-use Rattle.record.specs.declared.Record.{Record}
+use Rattle.frame.specs.declared.Report.{Report}
+use Rattle.settings.specs.declared.Settings.{Settings}
+use Rattle.record.specs.Slots.{rows, slotCount, emptySlot, Record}
+
+-- ---- sizes
+
+-- The head of a part: n, f, id, class (1 each) and the current view (4) in the shared part; the starting plan (8) in the block.
+abbrev pub headSize : ℕ
+headSize = 8
+
+-- "a mark (1 present, 0 absent), a view (4 bytes) and a plan (8)": a slot.
+abbrev pub slotSize : ℕ
+slotSize = 13
+
+-- The shared part: a head, and the 64 slots of the view-changes.
+abbrev pub sharedSize : ℕ
+sharedSize = 840
+
+-- A practice's block: a head, and the other 835 slots.
+abbrev pub blockSize : ℕ
+blockSize = 10863
 
 -- How many bytes a record has: "A lent record of the wrong length .. is unsound and not blank."
 abbrev pub recordSize : ℕ
 recordSize = 11703
 
--- "n, f, id, class, starting plan, current view": the first 16 bytes.
-unfoldable pub headOf : ℕ → ℕ → ℕ → ℕ → ℕ → ℕ → List ℕ
-headOf n f id class view plan = n ∷ f ∷ id ∷ class ∷ (digits 4 view ++ digits 8 plan)
+-- ---- places
 
--- The bytes of a record: its head, then the marks, the views and the plans of its slots.
+-- Where the current view stands in the shared part's head, behind n, f, id and class.
+abbrev pub viewPlace : ℕ
+viewPlace = 4
+
+-- Where the bytes of slot i of a part stand.
+abbrev pub partPlace : ℕ → ℕ
+partPlace i = headSize + slotSize * i
+
+-- Where the bytes of slot i of a record stand: the first 64 slots are the shared part's, the others the block's.
+unfoldable pub place : ℕ → ℕ
+place i = cond (ltb i rows) (partPlace i) (sharedSize + partPlace (i - rows))
+
+-- ---- slots
+
+-- "a mark (1 present, 0 absent), a view (4 bytes) and a plan (8)": the slot whose bytes stand at a place.
+abbrev pub slotIn : List ℕ → ℕ → Report
+slotIn s at = record { mark = getD s at 0; view = numberAt 4 s (at + 1); plan = numberAt 8 s (at + 5) }
+
+-- The bytes of a slot.
+abbrev pub slotBytes : Report → List ℕ
+slotBytes x = x .mark ∷ (digits 4 (x .view) ++ digits 8 (x .plan))
+
+-- The bytes of the slots from a number on, end to end.
+unfoldable pub spelledSlots : (ℕ → Report) → ℕ → ℕ → List ℕ
+spelledSlots slots from zero = []
+spelledSlots slots from (suc k) = spelledSlots slots from k ++ slotBytes (slots (from + k))
+
+-- ---- the record
+
+-- "n, f, id, class", the current view, and the row of view-changes.
+unfoldable pub sharedOf : Record → List ℕ
+sharedOf r =
+    (r .set .n ∷ r .set .f ∷ r .set .id ∷ r .set .class ∷ digits 4 (r .view)) ++ spelledSlots (r .slots) 0 rows
+
+-- The starting plan, the other kinds' rows and reports, the previous votes and the decision.
+unfoldable pub blockOf : Record → List ℕ
+blockOf r = digits 8 (r .plan) ++ spelledSlots (r .slots) rows (slotCount - rows)
+
+-- The bytes of a record.
 unfoldable pub encodeRecord : Record → List ℕ
-encodeRecord r =
-    headOf (r .n) (r .f) (r .id) (r .class) (r .view) (r .plan)
-    ++ (r .marks ++ (spelled 4 (r .views) ++ spelled 8 (r .plans)))
+encodeRecord r = sharedOf r ++ blockOf r
 
 -- The record that bytes spell.
 unfoldable pub decodeRecord : List ℕ → Record
 decodeRecord s =
     record {
-      n = getD s 0 0;
-      f = getD s 1 0;
-      id = getD s 2 0;
-      class = getD s 3 0;
-      view = numberAt 4 s 4;
-      plan = numberAt 8 s 8;
-      marks = take 899 (drop 16 s);
-      views = numbers 4 899 (take 3596 (drop 915 s));
-      plans = numbers 8 899 (take 7192 (drop 4511 s));
+      set = record { n = getD s 0 0; f = getD s 1 0; id = getD s 2 0; class = getD s 3 0 };
+      view = numberAt 4 s viewPlace;
+      plan = numberAt 8 s sharedSize;
+      slots = λ i. cond (ltb i slotCount) (slotIn s (place i)) emptySlot;
     }
 
--- A record whose parts fit: the arrays have 899 elements, and each number is one that its bytes can spell.
+-- ---- widths
+
+-- A slot whose numbers have their widths.
+pub record Small (x : Report) : Type 0 where
+  pub mark : x .mark < 256
+  pub view : x .view < 256 ^ 4
+  pub plan : x .plan < 256 ^ 8
+
+-- Settings of one byte each.
+pub record Narrow (s : Settings) : Type 0 where
+  pub n : s .n < 256
+  pub f : s .f < 256
+  pub id : s .id < 256
+  pub class : s .class < 256
+
+-- A record whose parts fit: each number is one that its bytes can spell, and there is nothing beyond the last slot.
 pub record Fits (r : Record) : Type 0 where
-  pub n : r .n < 256
-  pub f : r .f < 256
-  pub id : r .id < 256
-  pub class : r .class < 256
+  pub set : Narrow (r .set)
   pub view : r .view < 256 ^ 4
   pub plan : r .plan < 256 ^ 8
-  pub marks : (length (r .marks) ≡ 899) × Below 256 (r .marks)
-  pub views : (length (r .views) ≡ 899) × Below (256 ^ 4) (r .views)
-  pub plans : (length (r .plans) ≡ 899) × Below (256 ^ 8) (r .plans)
+  pub slots : (i : ℕ) → Small (r .slots i)
+  pub beyond : (i : ℕ) → slotCount ≤ i → r .slots i ≡ emptySlot
+
+-- Bytes of a record's length that hold this record. Since a record has one spelling, no byte is left open.
+pub record Holds (s : List ℕ) (r : Record) : Type 0 where
+  pub size : length s ≡ recordSize
+  pub is : decodeRecord s ≡ r

@@ -1,88 +1,208 @@
-// A record as 11,703 bytes: n, f, id and class (1 each), view (4), starting plan (8), 899 marks, 899 views (4 each), 899 plans
-// (8 each), big-endian. Every string of so many bytes spells one record, and every record has one spelling.
-use record::Record;
+// A record's bytes, read and changed where they lie. A shared part comes first (n, f, id, class, current view, the row of
+// view-changes), then one practice's block (starting plan, all other slots). Each part has a head of 8 bytes, then slots of 13 bytes
+// end to end: mark (1), view (4), plan (8), big-endian. Every string of SIZE bytes spells one record, and every record has one spelling.
+use frame::Report;
+use settings::Settings;
 ghost use mathlib.Core.Path.{_≡_};
-ghost use lib.ListN.{length};
+ghost use Prim.Native.Nat.{_+_, _*_, _≤_, _<_};
+ghost use lib.ListN.{length, replicate};
 ghost use Rattle.wire.specs.Placed.{placed};
-ghost use Rattle.words.specs.Words.{spelled};
-ghost use Rattle.layout.specs.Layout.{encodeRecord, decodeRecord, headOf};
+ghost use Rattle.record.specs.Slots.{slotCount, frameSlot, reportSlot, previousSlot, Place, withSlot, withView, fresh};
+ghost use Rattle.layout.specs.Layout.{slotSize, recordSize, place, slotIn, slotBytes, decodeRecord, Holds};
 
-// How many bytes a record has.
+// The senders that have a row.
+pub const ROWS: usize = 64;
+
+// The bytes of a part's head, and of a slot.
+pub const HEAD: usize = 8;
+
+pub const SLOT: usize = 13;
+
+// The bytes of the shared part, and of a record. The block is what lies between.
+pub const SHARED: usize = 840;
+
 pub const SIZE: usize = 11703;
 
-// The record that the bytes spell.
-pub fn decode(bytes: &[u8]) -> Record
-    requires { ⌜ length (now bytes) ≡ 11703 ⌝ }
-    ensures { λ r. ⌜ r ≡ decodeRecord (now (bytes .entry)) ⌝ }
+// Where the view stands in the shared part's head.
+pub const VIEW: usize = 4;
+
+// The number of slots, and the slots where reports, previous votes and the decision begin.
+pub const SLOTS: usize = 899;
+
+pub const REPORTS: usize = 512;
+
+pub const PREVIOUS: usize = 896;
+
+pub const DECISION: usize = 898;
+
+fn wide(x: u8) -> usize
+    ensures { λ r. ⌜ r ≡ x ⌝ }
 {
-    let mut marks = [0u8; 899];
-    bytes::copy(&bytes[16..915], &mut marks);
-    let mut views = [0u32; 899];
-    words::fill32(&bytes[915..4511], &mut views);
-    let mut plans = [0u64; 899];
-    words::fill64(&bytes[4511..11703], &mut plans);
-    let view = wire::number32(bytes, 4);
-    let plan = wire::number(bytes, 8, 8);
-    Record {
-        n: bytes[0],
-        f: bytes[1],
-        id: bytes[2],
-        class: bytes[3],
+    x as usize
+}
+
+// ---- slots by number
+
+// The slot of the kept frame of a kind and a sender: kinds 6, 7, 8, 1, 2, 3, 4, 5, of 64 rows each.
+pub fn frame_slot(kind: u8, sender: u8) -> usize
+    requires { ⌜ Place kind sender ⌝ }
+    ensures { λ r. ⌜ (r ≡ frameSlot kind sender) × (r < 512) ⌝ }
+{
+    (wide(kind) + 2) % 8 * ROWS + wide(sender)
+}
+
+// The slot of report j (0 highest, 1 previous, 2 lock) in the kept suggest or proof of a sender.
+pub fn report_slot(kind: u8, which: u8, sender: u8) -> usize
+    requires { ⌜ (7 ≤ kind) × (which < 3) × Place kind sender ⌝ }
+    ensures { λ r. ⌜ (r ≡ reportSlot kind which sender) × (512 ≤ r) × (r < 896) ⌝ }
+{
+    REPORTS + (wide(kind) - 7) * (3 * ROWS) + wide(which) * ROWS + wide(sender)
+}
+
+// The slot of the own previous vote of a kind: 2 is vote-1, 3 is vote-2.
+pub fn previous_slot(kind: u8) -> usize
+    requires { ⌜ (2 ≤ kind) × (kind ≤ 3) ⌝ }
+    ensures { λ r. ⌜ (r ≡ previousSlot kind) × (896 ≤ r) × (r < 898) ⌝ }
+{
+    PREVIOUS + (wide(kind) - 2)
+}
+
+// Where the bytes of a slot stand in a record.
+pub fn place_of(i: usize) -> usize
+    requires { ⌜ i < slotCount ⌝ }
+    ensures { λ r. ⌜ (r ≡ place i) × (r + slotSize ≤ recordSize) ⌝ }
+{
+    if i < ROWS {
+        return HEAD + SLOT * i;
+    }
+    SHARED + (HEAD + SLOT * (i - ROWS))
+}
+
+// ---- slots by place, in a record or in a part of one
+
+// What stands at a place.
+pub fn slot_at(part: &[u8], at: usize) -> Report
+    requires { ⌜ at + slotSize ≤ length (now part) ⌝ }
+    ensures { λ r. ⌜ r ≡ slotIn (now (part .entry)) at ⌝ }
+{
+    let view = wire::number32(part, at + 1);
+    let plan = wire::number(part, at + 5, 8);
+    Report {
+        mark: part[at],
         view,
         plan,
-        marks,
-        views,
-        plans,
     }
 }
 
-fn wide(x: u32) -> u64
+// Its view alone: where the rest is not asked for, it is not read.
+pub fn view_at(part: &[u8], at: usize) -> u32
+    requires { ⌜ at + slotSize ≤ length (now part) ⌝ }
+    ensures { λ r. ⌜ r ≡ slotIn (now (part .entry)) at .view ⌝ }
+{
+    wire::number32(part, at + 1)
+}
+
+// Its plan alone.
+pub fn plan_at(part: &[u8], at: usize) -> u64
+    requires { ⌜ at + slotSize ≤ length (now part) ⌝ }
+    ensures { λ r. ⌜ r ≡ slotIn (now (part .entry)) at .plan ⌝ }
+{
+    wire::number(part, at + 5, 8)
+}
+
+fn wider(x: u32) -> u64
     ensures { λ r. ⌜ r ≡ x ⌝ }
 {
     x as u64
 }
 
-// The settings, the view and the starting plan, as the first 16 bytes.
-fn put_head(out: &mut [u8], n: u8, f: u8, id: u8, class: u8, view: u32, plan: u64)
-    requires { ⌜ length (now out) ≡ 11703 ⌝ }
-    ensures { λ _. ⌜ now (out .exit) ≡ placed (now (out .entry)) 0 (headOf n f id class view plan) ⌝ }
+// Puts a slot at a place: thirteen bytes change.
+pub fn put_at(part: &mut [u8], at: usize, slot: Report)
+    requires { ⌜ at + slotSize ≤ length (now part) ⌝ }
+    ensures { λ _. ⌜ now (part .exit) ≡ placed (now (part .entry)) at (slotBytes slot) ⌝ }
 {
-    out[0] = n;
-    out[1] = f;
-    out[2] = id;
-    out[3] = class;
-    wire::put(out, 4, 4, wide(view));
-    wire::put(out, 8, 8, plan);
+    part[at] = slot.mark;
+    wire::put(part, at + 1, 4, wider(slot.view));
+    wire::put(part, at + 5, 8, slot.plan);
 }
 
-fn put_marks(out: &mut [u8], marks: &[u8])
-    requires { ⌜ (length (now out) ≡ 11703) × (length (now marks) ≡ 899) ⌝ }
-    ensures { λ _. ⌜ now (out .exit) ≡ placed (now (out .entry)) 16 (now (marks .entry)) ⌝ }
+// ---- the record
+
+// Puts slot i of a record.
+pub fn put_slot(rec: &mut [u8], i: usize, slot: Report)
+    requires { ⌜ (length (now rec) ≡ recordSize) × (i < slotCount) ⌝ }
+    ensures { λ _. ⌜ Holds (now (rec .exit)) (withSlot (decodeRecord (now (rec .entry))) i slot) ⌝ }
 {
-    bytes::copy(marks, &mut out[16..915]);
+    let at = place_of(i);
+    put_at(rec, at, slot);
 }
 
-fn put_views(out: &mut [u8], views: &[u32])
-    requires { ⌜ (length (now out) ≡ 11703) × (length (now views) ≡ 899) ⌝ }
-    ensures { λ _. ⌜ now (out .exit) ≡ placed (now (out .entry)) 915 (spelled 4 (now (views .entry))) ⌝ }
+// Slot i of a record.
+pub fn slot_of(rec: &[u8], i: usize) -> Report
+    requires { ⌜ (length (now rec) ≡ recordSize) × (i < slotCount) ⌝ }
+    ensures { λ r. ⌜ r ≡ decodeRecord (now (rec .entry)) .slots i ⌝ }
 {
-    words::spill32(views, &mut out[915..4511]);
+    let at = place_of(i);
+    slot_at(rec, at)
 }
 
-fn put_plans(out: &mut [u8], plans: &[u64])
-    requires { ⌜ (length (now out) ≡ 11703) × (length (now plans) ≡ 899) ⌝ }
-    ensures { λ _. ⌜ now (out .exit) ≡ placed (now (out .entry)) 4511 (spelled 8 (now (plans .entry))) ⌝ }
+// The settings.
+pub fn settings_of(rec: &[u8]) -> Settings
+    requires { ⌜ length (now rec) ≡ recordSize ⌝ }
+    ensures { λ r. ⌜ r ≡ decodeRecord (now (rec .entry)) .set ⌝ }
 {
-    words::spill64(plans, &mut out[4511..11703]);
+    Settings {
+        n: rec[0],
+        f: rec[1],
+        id: rec[2],
+        class: rec[3],
+    }
 }
 
-// The record's bytes.
-pub fn encode(r: Record, out: &mut [u8])
-    requires { ⌜ length (now out) ≡ 11703 ⌝ }
-    ensures { λ _. ⌜ now (out .exit) ≡ encodeRecord r ⌝ }
+// The current view.
+pub fn view_of(rec: &[u8]) -> u32
+    requires { ⌜ length (now rec) ≡ recordSize ⌝ }
+    ensures { λ r. ⌜ r ≡ decodeRecord (now (rec .entry)) .view ⌝ }
 {
-    put_head(out, r.n, r.f, r.id, r.class, r.view, r.plan);
-    put_marks(out, &r.marks);
-    put_views(out, &r.views);
-    put_plans(out, &r.plans);
+    wire::number32(rec, VIEW)
+}
+
+// The starting plan.
+pub fn plan_of(rec: &[u8]) -> u64
+    requires { ⌜ length (now rec) ≡ recordSize ⌝ }
+    ensures { λ r. ⌜ r ≡ decodeRecord (now (rec .entry)) .plan ⌝ }
+{
+    wire::number(rec, SHARED, 8)
+}
+
+// Another current view.
+pub fn put_view(rec: &mut [u8], view: u32)
+    requires { ⌜ length (now rec) ≡ recordSize ⌝ }
+    ensures { λ _. ⌜ Holds (now (rec .exit)) (withView (decodeRecord (now (rec .entry))) view) ⌝ }
+{
+    wire::put(rec, VIEW, 4, wider(view));
+}
+
+// Every byte becomes 0.
+fn clear(rec: &mut [u8])
+    ensures { λ _. ⌜ now (rec .exit) ≡ replicate (length (now (rec .entry))) 0 ⌝ }
+{
+    let mut i: usize = 0;
+    while i < rec.len() {
+        rec[i] = 0;
+        i += 1;
+    }
+}
+
+// The record that start enters view 0 with: no kept frames, no previous votes, no decision.
+pub fn put_fresh(rec: &mut [u8], set: Settings, plan: u64)
+    requires { ⌜ length (now rec) ≡ recordSize ⌝ }
+    ensures { λ _. ⌜ Holds (now (rec .exit)) (fresh set plan) ⌝ }
+{
+    clear(rec);
+    rec[0] = set.n;
+    rec[1] = set.f;
+    rec[2] = set.id;
+    rec[3] = set.class;
+    wire::put(rec, SHARED, 8, plan);
 }

@@ -27,9 +27,11 @@ use Rattle.frame.specs.Refusal.{first, linkRows, leaderOf}
 use Rattle.frame.proofs.Laws.{neither}
 use Rattle.entry.specs.declared.Entry.{Entry}
 use Rattle.entry.specs.declared.Entry.the-variants.{ForAll, ForOne}
-use Rattle.protocol.specs.Record.{Settings, Record, put}
+use Rattle.protocol.specs.Record.{Record, put}
+use Rattle.settings.specs.declared.Settings.{Settings}
 use Rattle.protocol.specs.Pass.{Out}
-use Rattle.protocol.specs.Calls.{settingRows, recordRows, timerRows, started, heard, rung, Readable, Call, start, frame, timer, short, Answer, refused, accepted, answer}
+use Rattle.protocol.specs.Calls.{recordRows, timerRows, started, heard, rung, Readable, Call, start, frame, timer, short, Answer, refused, accepted, answer}
+use Rattle.settings.specs.Settings.{settingRows}
 use Rattle.protocol.specs.Runs.{_∈_, Setting, Item, leftBy, wroteBy, recordAt, written, Sent, Fair, Run, nothingYet, andThen, Decides, Started, here, earlier}
 use Rattle.protocol.specs.Claim.{Demand3}
 use Rattle.protocol.proofs.Tables.{putOther, putOwn}

@@ -25,7 +25,8 @@ use Rattle.frame.specs.declared.Frame.{Frame}
 use Rattle.frame.specs.Refusal.{leaderOf}
 use Rattle.entry.specs.declared.Entry.{Entry}
 use Rattle.entry.specs.declared.Entry.the-variants.{ForAll}
-use Rattle.protocol.specs.Record.{Settings, Record, put, each, reported, spelt, voteBy, reportBy, kindOf, keeping, vaults, leader, leads, voteOf, reportsOf, sentNow, tells, changeFrame, voteFrame, reportFrame}
+use Rattle.protocol.specs.Record.{Record, put, each, reported, spelt, voteBy, reportBy, kindOf, keeping, vaults, leader, leads, voteOf, reportsOf, sentNow, tells, changeFrame, voteFrame, reportFrame}
+use Rattle.settings.specs.declared.Settings.{Settings}
 use Rattle.protocol.specs.Pass.{Act, ask, enter, cast, decide, shift, hasPrevious, timerEntry, entered, does, suggestEntry, writes, actC, Out, taken}
 use Rattle.protocol.specs.Calls.{keep}
 use Rattle.protocol.specs.Runs.{_∈_, Setting}

@@ -20,7 +20,8 @@ use Rattle.entry.specs.declared.Entry.the-variants.{ForAll, ForOne, Timer, Deci
 use Rattle.entry.specs.Layout.{hostFields, entryBytes, layout}
 use Rattle.protocol.specs.Record.{Record, when, each, highest, leads, changeOf, planNow, leader, sentNow}
 use Rattle.protocol.specs.Pass.{Act, ask, enter, cast, decide, does, suggestEntry, writes, asked, isNews, actA, canEnter, actB, mayPropose, chosen, actC, approves, actD, agreed, actVote, actH, Out, Step, taken, pass, stepA, stepB, stepC, stepD, stepVote, stepH, fromC, fromA}
-use Rattle.protocol.specs.Calls.{settingRows, recordRows, timerRows, fresh, started, keep, heard, wanted, rung, Call, start, frame, timer, short, accepted, answer}
+use Rattle.protocol.specs.Calls.{recordRows, timerRows, fresh, started, keep, heard, wanted, rung, Call, start, frame, timer, short, accepted, answer}
+use Rattle.settings.specs.Settings.{settingRows}
 use Rattle.protocol.proofs.Tables.{eachSome, whenSome}
 use Rattle.protocol.proofs.Went.{unlessAccepted}
 

@@ -24,10 +24,11 @@ use Rattle.frame.specs.declared.Frame.{Frame}
 use Rattle.frame.specs.Refusal.{first, leaderOf}
 use Rattle.frame.proofs.Laws.{neither}
 use Rattle.entry.specs.Layout.{AllValid}
-use Rattle.settings.specs.Settings.{delayOf}
-use Rattle.protocol.specs.Record.{Settings, Record, put, kindOf, keeping, vaults, leader, leads, voteOf, reportsOf, sentNow, changeFrame, voteFrame, reportFrame}
+use Rattle.settings.specs.Settings.{settingRows, delayOf}
+use Rattle.protocol.specs.Record.{Record, put, kindOf, keeping, vaults, leader, leads, voteOf, reportsOf, sentNow, changeFrame, voteFrame, reportFrame}
+use Rattle.settings.specs.declared.Settings.{Settings}
 use Rattle.protocol.specs.Pass.{Act, ask, enter, cast, decide, shift, hasPrevious, entered, does, suggestEntry, writes}
-use Rattle.protocol.specs.Calls.{settingRows, start}
+use Rattle.protocol.specs.Calls.{start}
 use Rattle.protocol.specs.Sound.{InRow, Sound, Fits, Ranged}
 use Rattle.protocol.proofs.Tables.{keepWas, eachSome, whenSome}
 use Rattle.protocol.proofs.May.{Held, Reached, Wished, May, proposedChosen}

@@ -21,7 +21,7 @@ use Rattle.frame.proofs.Laws.{bounds}
 use Rattle.frame.specs.Refusal.{first, badPrevious, contentRows, leaderRows}
 use Rattle.protocol.specs.Record.{Record, spelt, voteOf}
 use Rattle.protocol.specs.Pass.{hasPrevious}
-use Rattle.protocol.specs.Calls.{settingRows}
+use Rattle.settings.specs.Settings.{settingRows}
 use Rattle.protocol.proofs.Good.{previousThird}
 use Rattle.protocol.proofs.Sound.{sizeBelow}
 use Rattle.protocol.specs.Sound.{InRow, Sound, every, ifAny, passesRow, previousStands, isSound, Tabled}

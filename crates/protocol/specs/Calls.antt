@@ -13,13 +13,10 @@ use Rattle.frame.specs.declared.Reading.{Reading}
 use Rattle.frame.specs.declared.Reading.the-variants.{Accepted, Refused}
 use Rattle.frame.specs.Format.{Valid}
 use Rattle.frame.specs.Refusal.{Row, row, first, linkRows, contentRows, leaderRows}
-use Rattle.settings.specs.Settings as table
-use Rattle.protocol.specs.Record.{Settings, Record, changed, keeping, changeOf}
+use Rattle.settings.specs.Settings.{settingRows}
+use Rattle.protocol.specs.Record.{Record, changed, keeping, changeOf}
+use Rattle.settings.specs.declared.Settings.{Settings}
 use Rattle.protocol.specs.Pass.{timerEntry, ask, does, writes, Out, onward, pass, fromA, fromC}
-
--- Rows 5 to 8, in the table of crate settings.
-abbrev pub settingRows : Settings → List Row
-settingRows s = table.settingRows (s .n) (s .f) (s .id) (s .class)
 
 -- 'view below current (kind 6: at or below)'.
 abbrev pub isOld : Record → Frame → Bool

@@ -4,7 +4,7 @@ use Prim.Native.Nat.{ℕ, zero, suc}
 use mathlib.Core.Bool.{Bool, true, false, cond, not, _&&_}
 use mathlib.Core.Option.{Option, none, some}
 use lib.Dec.{ltb, eqb}
-use Rattle.quorum.specs.Sets.{Vaults, equals}
+use Rattle.quorum.specs.Sets.{Vaults}
 use Rattle.rules.specs.Options.{isNone, holds}
 use Rattle.rules.specs.Rules.{Vote, Report, Reports, Rule, rule1, rule3, claimVote, lockVote}
 use Rattle.frame.specs.declared.Report as Slot
@@ -13,13 +13,8 @@ use Rattle.frame.specs.declared.Body.{Body}
 use Rattle.frame.specs.declared.Body.the-variants.{Plan, Empty, Told}
 use Rattle.frame.specs.declared.Frame.{Frame}
 use Rattle.frame.specs.Refusal.{leaderOf}
-
--- 'n, f, id, class'.
-pub record Settings : Type 0 where
-  pub n : ℕ
-  pub f : ℕ
-  pub id : ℕ
-  pub class : ℕ
+use Rattle.settings.specs.declared.Settings.{Settings}
+use Rattle.settings.specs.Settings.{vaultsOf}
 
 -- 'For each sender and kind it keeps one frame': kept k j is that of kind k from sender j.
 -- 'its own previous vote-1 and vote-2': previous 1 and previous 2.
@@ -101,7 +96,7 @@ keeping f t = put₂ (f .kind) (f .sender) (some f) t
 module _ (r : Record) where
   -- Its n vaults, of which f may break the rules.
   abbrev pub vaults : Vaults
-  vaults = equals (r .set .n) (r .set .f)
+  vaults = vaultsOf (r .set)
 
   -- 'its leader is vault (view mod n)'.
   abbrev pub leader : ℕ → ℕ

@@ -11,7 +11,8 @@ use Rattle.frame.specs.declared.Frame.{Frame}
 use Rattle.frame.specs.declared.Reading.the-variants.{Accepted, Refused}
 use Rattle.entry.specs.declared.Entry.{Entry}
 use Rattle.entry.specs.declared.Entry.the-variants.{ForAll, ForOne, Decision}
-use Rattle.protocol.specs.Record.{Settings, Record, put}
+use Rattle.protocol.specs.Record.{Record, put}
+use Rattle.settings.specs.declared.Settings.{Settings}
 use Rattle.protocol.specs.Pass.{Out}
 use Rattle.protocol.specs.Calls.{Readable, Call, start, frame, timer, short, Answer, refused, accepted, answer}
 

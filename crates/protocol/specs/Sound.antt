@@ -14,10 +14,12 @@ use Rattle.frame.specs.declared.Frame.{Frame}
 use Rattle.frame.specs.declared.Reading.the-variants.{Accepted, Refused}
 use Rattle.frame.specs.Format.{Valid}
 use Rattle.frame.specs.Refusal.{first, badPrevious, contentRows, leaderRows}
-use Rattle.protocol.specs.Record.{Settings, Record, spelt, voteOf}
+use Rattle.protocol.specs.Record.{Record, spelt, voteOf}
+use Rattle.settings.specs.declared.Settings.{Settings}
 use Rattle.entry.specs.Layout.{AllValid, layout, entriesOf}
 use Rattle.protocol.specs.Pass.{hasPrevious, Out}
-use Rattle.protocol.specs.Calls.{settingRows, Readable, Call, start, frame, timer, short, accepted, answer}
+use Rattle.protocol.specs.Calls.{Readable, Call, start, frame, timer, short, accepted, answer}
+use Rattle.settings.specs.Settings.{settingRows}
 
 -- 'every kept frame passes 9 to 15 for its row (its own row excused from the own-number half of 11)': x, of kind k, in row j.
 pub record InRow (s : Settings) (k j : ℕ) (x : Frame) : Type 0 where

@@ -1,93 +1,92 @@
--- The slots of a record: where each stands, what it holds, and the record with one of them changed.
+-- A record by slots. Everything that has a mark, a view and a plan is a slot: where each stands, what it holds, and the record with
+-- one of them changed. How the slots lie in bytes is crate layout's.
 -- Assumes nothing.
-use Prim.Native.Nat.{ℕ, _+_, _-_, _*_, _≤_, _<_}
-use mathlib.Core.List.{List}
-use mathlib.Core.Path.{_≡_}
-use lib.ListN.{length, getD, set, replicate}
+use Prim.Native.Nat.{ℕ, _+_, _-_, _*_, _%_, _≤_, _<_}
+use mathlib.Core.Bool.{cond}
+use lib.Dec.{eqb}
 use Rattle.frame.specs.declared.Report.{Report}
-use Rattle.record.specs.declared.Record.{Record}
+use Rattle.settings.specs.declared.Settings.{Settings}
 
--- "For each sender and kind it keeps one frame": where it stands.
-abbrev pub frameSlot : ℕ → ℕ → ℕ
-frameSlot kind sender = (kind - 1) * 64 + sender
+-- ---- how many
 
--- Where report j (0 highest, 1 previous, 2 lock) of a kept suggest or proof stands.
-abbrev pub reportSlot : ℕ → ℕ → ℕ → ℕ
-reportSlot kind which sender = 512 + (kind - 7) * 192 + which * 64 + sender
+-- "n is 4 to 64": the senders that have a row.
+abbrev pub rows : ℕ
+rows = 64
 
--- "its own previous vote-1 and vote-2": where that of kind 2 or 3 stands.
-abbrev pub previousSlot : ℕ → ℕ
-previousSlot kind = 894 + kind
+-- "Kind", 1 to 8.
+abbrev pub kinds : ℕ
+kinds = 8
 
--- "and the decision": where it stands.
+-- The reports of one kind's rows: "three reports" each.
+abbrev pub reportRows : ℕ
+reportRows = 192
+
+-- Where the reports begin, behind the frames of all kinds and rows.
+abbrev pub firstReport : ℕ
+firstReport = 512
+
+-- Where the own previous votes begin, behind the reports of suggests and proofs.
+abbrev pub firstPrevious : ℕ
+firstPrevious = 896
+
+-- "and the decision": where it stands, behind the two previous votes.
 abbrev pub decisionSlot : ℕ
 decisionSlot = 898
 
--- "a mark (1 present, 0 absent), a view and a plan": what stands at a slot of three flat arrays.
-abbrev pub slotIn : List ℕ → List ℕ → List ℕ → ℕ → Report
-slotIn marks views plans at = record { mark = getD marks at 0; view = getD views at 0; plan = getD plans at 0 }
+-- How many slots there are.
+abbrev pub slotCount : ℕ
+slotCount = 899
 
--- What stands at a slot of a record.
-abbrev pub slotOf : Record → ℕ → Report
-slotOf r at = slotIn (r .marks) (r .views) (r .plans) at
+-- ---- where
 
--- The record with another content in one slot.
-abbrev pub withSlot : Record → ℕ → Report → Record
-withSlot r at slot =
-    record {
-      n = r .n;
-      f = r .f;
-      id = r .id;
-      class = r .class;
-      view = r .view;
-      plan = r .plan;
-      marks = set (r .marks) at (slot .mark);
-      views = set (r .views) at (slot .view);
-      plans = set (r .plans) at (slot .plan);
-    }
+-- "For each sender and kind it keeps one frame": where it stands. The row of view-changes is the first, and the other kinds follow
+-- in a circle: 6, 7, 8, 1, 2, 3, 4, 5.
+abbrev pub frameSlot : ℕ → ℕ → ℕ
+frameSlot kind sender = (kind + 2) % kinds * rows + sender
 
--- The record at another current view.
-abbrev pub withView : Record → ℕ → Record
-withView r view =
-    record {
-      n = r .n;
-      f = r .f;
-      id = r .id;
-      class = r .class;
-      view = view;
-      plan = r .plan;
-      marks = r .marks;
-      views = r .views;
-      plans = r .plans;
-    }
+-- Where report j (0 highest, 1 previous, 2 lock) of a kept suggest or proof stands.
+abbrev pub reportSlot : ℕ → ℕ → ℕ → ℕ
+reportSlot kind which sender = firstReport + (kind - 7) * reportRows + which * rows + sender
 
--- "it enters view 0 with .. no kept frames and no reports"
-unfoldable pub fresh : ℕ → ℕ → ℕ → ℕ → ℕ → Record
-fresh n f id class plan =
-    record {
-      n = n;
-      f = f;
-      id = id;
-      class = class;
-      view = 0;
-      plan = plan;
-      marks = replicate 899 0;
-      views = replicate 899 0;
-      plans = replicate 899 0;
-    }
-
--- Three arrays of as many elements as a record has slots.
-pub record Arrays (ms vs ps : List ℕ) : Type 0 where
-  pub marks : length ms ≡ 899
-  pub views : length vs ≡ 899
-  pub plans : length ps ≡ 899
-
--- The arrays of a record are as long as they are declared.
-abbrev pub Sized : Record → Type 0
-Sized r = Arrays (r .marks) (r .views) (r .plans)
+-- "its own previous vote-1 and vote-2": where that of kind 2 or 3 stands.
+abbrev pub previousSlot : ℕ → ℕ
+previousSlot kind = firstPrevious + (kind - 2)
 
 -- "For each sender and kind": a kind, and a sender that a record has a row for.
 pub record Place (kind sender : ℕ) : Type 0 where
   pub low : 1 ≤ kind
-  pub high : kind ≤ 8
-  pub row : sender < 64
+  pub high : kind ≤ kinds
+  pub row : sender < rows
+
+-- ---- what
+
+-- "Absent means all 13 bytes zero": a slot that holds nothing.
+abbrev pub emptySlot : Report
+emptySlot = record { mark = 0; view = 0; plan = 0 }
+
+-- "n, f, id, class, starting plan, current view", and the slots.
+pub record Record : Type 0 where
+  pub set : Settings
+  pub view : ℕ
+  pub plan : ℕ
+  pub slots : ℕ → Report
+
+-- What stands at a slot of a record.
+abbrev pub slotOf : Record → ℕ → Report
+slotOf r at = r .slots at
+
+-- Slots of which one has another content.
+unfoldable pub slotPut : (ℕ → Report) → ℕ → Report → ℕ → Report
+slotPut slots at slot i = cond (eqb at i) slot (slots i)
+
+-- The record with another content in one slot.
+abbrev pub withSlot : Record → ℕ → Report → Record
+withSlot r at slot = record { set = r .set; view = r .view; plan = r .plan; slots = slotPut (r .slots) at slot }
+
+-- The record at another current view.
+abbrev pub withView : Record → ℕ → Record
+withView r view = record { set = r .set; view = view; plan = r .plan; slots = r .slots }
+
+-- "it enters view 0 with .. no kept frames and no reports"
+unfoldable pub fresh : Settings → ℕ → Record
+fresh set plan = record { set = set; view = 0; plan = plan; slots = λ i. emptySlot }

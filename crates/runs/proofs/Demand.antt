@@ -24,7 +24,8 @@ use Rattle.entry.specs.Layout.{ValidEntry, AllValid}
 use Rattle.layout.specs.Layout.{decodeRecord}
 use Rattle.sound.specs.declared.Lent.the-variants.{Unsound}
 use Rattle.sound.specs.Sound.{lentIs}
-use Rattle.protocol.specs.Record.{Settings, Record, put}
+use Rattle.protocol.specs.Record.{Record, put}
+use Rattle.settings.specs.declared.Settings.{Settings}
 use Rattle.protocol.specs.Pass.{Out}
 use Rattle.protocol.specs.Calls as by
 use Rattle.protocol.specs.Calls.{Readable, Answer, refused, accepted, answer}

@@ -13,9 +13,11 @@ use Rattle.rules.specs.Rules.{Vote}
 use Rattle.frame.specs.declared.Frame.{Frame}
 use Rattle.frame.specs.declared.Reading.the-variants.{Accepted, Refused}
 use Rattle.frame.specs.Refusal.{first}
-use Rattle.protocol.specs.Record.{Settings, Record, put}
+use Rattle.protocol.specs.Record.{Record, put}
+use Rattle.settings.specs.declared.Settings.{Settings}
 use Rattle.protocol.specs.Pass.{Act, ask, enter, cast, decide, hasPrevious, does, Out, Step, taken, pass}
-use Rattle.protocol.specs.Calls.{settingRows, recordRows, timerRows, fresh, started, keep, heard, wanted, rung, Call, start, frame, timer, short, accepted, answer}
+use Rattle.protocol.specs.Calls.{recordRows, timerRows, fresh, started, keep, heard, wanted, rung, Call, start, frame, timer, short, accepted, answer}
+use Rattle.settings.specs.Settings.{settingRows}
 use Rattle.protocol.proofs.Tables.{putOther}
 use Rattle.protocol.proofs.Good.{doesSet}
 use Rattle.protocol.proofs.May.{Sure, done, and, sureC, sureA}

@@ -10,10 +10,15 @@ use borrow.Author.Tests.{leb-false, ltb-false, eqb-false}
 use lib.Dec.{leb, ltb, eqb}
 use Rattle.frame.specs.Refusal.{row, first}
 use Rattle.frame.proofs.Laws.{none, neither}
+use Rattle.settings.specs.declared.Settings.{Settings}
 use Rattle.settings.specs.Settings.{settingRows, Allowed}
 
-pub allowed : (n f id class : ℕ) → first (settingRows n f id class) ≡ 0 → Allowed n f id class
-allowed n f id class e =
+pub allowed : (s : Settings) → first (settingRows s) ≡ 0 → Allowed s
+allowed s e =
+    let n : ℕ = s .n in
+    let f : ℕ = s .f in
+    let id : ℕ = s .id in
+    let class : ℕ = s .class in
     let row₈ = row 8 (ltb 7 class) ∷ [] in
     let row₇ = row 7 (leb n id) ∷ row₈ in
     let row₆ = row 6 (eqb f 0 || leb n (3 * f)) ∷ row₇ in

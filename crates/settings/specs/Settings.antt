@@ -5,15 +5,21 @@ use mathlib.Core.Bool.{_||_}
 use mathlib.Core.List.{List, [], _∷_}
 use lib.ListN.{getD}
 use lib.Dec.{leb, ltb, eqb}
+use Rattle.quorum.specs.Sets.{Vaults, equals}
 use Rattle.frame.specs.Refusal.{Row, row}
+use Rattle.settings.specs.declared.Settings.{Settings}
+
+-- "n is 4 to 64; f is at least 1": the vaults that the settings speak of, each of weight 1.
+abbrev pub vaultsOf : Settings → Vaults
+vaultsOf s = equals (s .n) (s .f)
 
 -- "n below 4 or above 64"; "f is 0 or 3f ≥ n"; "id ≥ n"; "class above 7"
-abbrev pub settingRows : ℕ → ℕ → ℕ → ℕ → List Row
-settingRows n f id class =
-    row 5 (ltb n 4 || ltb 64 n)
-    ∷ row 6 (eqb f 0 || leb n (3 * f))
-    ∷ row 7 (leb n id)
-    ∷ row 8 (ltb 7 class)
+abbrev pub settingRows : Settings → List Row
+settingRows s =
+    row 5 (ltb (s .n) 4 || ltb 64 (s .n))
+    ∷ row 6 (eqb (s .f) 0 || leb (s .n) (3 * s .f))
+    ∷ row 7 (leb (s .n) (s .id))
+    ∷ row 8 (ltb 7 (s .class))
     ∷ []
 
 -- "The link class, 0 to 7, gives the delay Δ in milliseconds: 20, 50, 100, 200, 500, 1000, 2000, 5000."
@@ -25,10 +31,10 @@ unfoldable pub delayOf : ℕ → ℕ
 delayOf class = getD delays class 0
 
 -- Settings that pass 5 to 8: "n is 4 to 64; f is at least 1 with 3f below n"; "id, 0 to n - 1"; "The link class, 0 to 7".
-pub record Allowed (n f id class : ℕ) : Type 0 where
-  pub least : 4 ≤ n
-  pub most : n ≤ 64
-  pub liars : 1 ≤ f
-  pub third : 3 * f < n
-  pub own : id < n
-  pub link : class ≤ 7
+pub record Allowed (s : Settings) : Type 0 where
+  pub least : 4 ≤ s .n
+  pub most : s .n ≤ 64
+  pub liars : 1 ≤ s .f
+  pub third : 3 * s .f < s .n
+  pub own : s .id < s .n
+  pub link : s .class ≤ 7

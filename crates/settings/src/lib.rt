@@ -4,6 +4,14 @@ ghost use Prim.Native.Nat.{_*_};
 ghost use Rattle.frame.specs.Refusal.{first};
 ghost use Rattle.settings.specs.Settings.{settingRows, delayOf};
 
+// "n, f, id, class": how many vaults there are, how many of them may break the rules, the vault's own number, its link class.
+pub struct Settings {
+    pub n: u8,
+    pub f: u8,
+    pub id: u8,
+    pub class: u8,
+}
+
 // The delay in milliseconds of each link class, 0 to 7.
 const DELAYS: [u32; 8] = [20, 50, 100, 200, 500, 1000, 2000, 5000];
 
@@ -14,25 +22,25 @@ fn wide(x: u8) -> u32
 }
 
 // Refusals 5 to 8 of settings, in their order; 0 where none is given.
-pub fn settings_refusal(n: u8, f: u8, id: u8, class: u8) -> u8
-    ensures { λ r. ⌜ r ≡ first (settingRows n f id class) ⌝ }
+pub fn settings_refusal(s: Settings) -> u8
+    ensures { λ r. ⌜ r ≡ first (settingRows s) ⌝ }
 {
-    if n < 4 {
+    if s.n < 4 {
         return 5;
     }
-    if 64 < n {
+    if 64 < s.n {
         return 5;
     }
-    if f == 0 {
+    if s.f == 0 {
         return 6;
     }
-    if wide(n) <= 3 * wide(f) {
+    if wide(s.n) <= 3 * wide(s.f) {
         return 6;
     }
-    if n <= id {
+    if s.n <= s.id {
         return 7;
     }
-    if 7 < class {
+    if 7 < s.class {
         return 8;
     }
     0

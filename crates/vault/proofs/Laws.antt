@@ -25,10 +25,12 @@ use Rattle.sound.specs.declared.Lent.{Lent}
 use Rattle.sound.specs.declared.Lent.the-variants.{Blank, Unsound, Sound}
 use Rattle.sound.specs.Sound.{sound, lentIs}
 use Rattle.sound.proofs.Laws.{off, on, lent-other}
-use Rattle.protocol.specs.Record.{Settings, Record}
+use Rattle.protocol.specs.Record.{Record}
+use Rattle.settings.specs.declared.Settings.{Settings}
 use Rattle.protocol.specs.Pass.{Out, pass, fromC, timerEntry}
 use Rattle.protocol.specs.Calls as calls
-use Rattle.protocol.specs.Calls.{settingRows, started, start, unless, accepted, answer}
+use Rattle.protocol.specs.Calls.{started, start, unless, accepted, answer}
+use Rattle.settings.specs.Settings.{settingRows}
 use Rattle.protocol.proofs.Sound.{Whole}
 use Rattle.protocol.proofs.Proper.{freshWhole}
 use Rattle.protocol.proofs.Size.{outputShort}

@@ -5,7 +5,8 @@ use mathlib.Core.Path.{_≡_}
 use mathlib.Core.List.{List}
 use Rattle.frame.specs.declared.Reading.{Reading}
 use Rattle.frame.specs.Refusal.{first}
-use Rattle.protocol.specs.Record.{Settings, Record}
+use Rattle.protocol.specs.Record.{Record}
+use Rattle.settings.specs.declared.Settings.{Settings}
 use Rattle.protocol.specs.Calls.{Call, start, frame, timer, timerRows}
 use Rattle.contents.specs.Calls.{Left, wrote, gave}
 use Rattle.vault.specs.declared.Answer.{Answer}

@@ -23,7 +23,8 @@ use Rattle.settings.specs.Settings.{delayOf}
 use Rattle.layout.specs.Layout.{decodeRecord}
 use Rattle.sound.specs.declared.Lent.{Lent}
 use Rattle.sound.specs.Sound.{lentIs}
-use Rattle.protocol.specs.Record.{Settings, Record, highest}
+use Rattle.protocol.specs.Record.{Record, highest}
+use Rattle.settings.specs.declared.Settings.{Settings}
 use Rattle.protocol.specs.Pass.{Out, does, writes, agreed, pass, stepA, stepB, stepC, stepD, stepVote, stepH}
 use Rattle.protocol.specs.Calls as by
 use Rattle.protocol.specs.Calls.{refused, accepted, answer, started, keep, heard}
