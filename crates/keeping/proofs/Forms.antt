@@ -4,6 +4,7 @@
 use Prim.Native.Nat.{ℕ, _≤_}
 use mathlib.Core.Path.{_≡_, ap, sym, _∙_}
 use mathlib.Core.Bool.{true}
+use mathlib.Core.Option.{none, some}
 use native.Mathlib.Omega.{arith}
 use borrow.Author.Tests.{eq-eqb, ne-eqb, eqb-true}
 use Rattle.frame.specs.declared.Report.{Report}
@@ -13,57 +14,56 @@ use Rattle.frame.specs.declared.Body.the-variants.{Plan, Empty, Told}
 use Rattle.frame.specs.declared.Frame.{Frame}
 use Rattle.frame.specs.Format.{fits}
 use Rattle.frame.proofs.Laws.{inside, over, bounds}
-use Rattle.record.specs.declared.Record.{Record}
-use Rattle.record.specs.Slots.{frameSlot, withSlot}
-use Rattle.kept.specs.declared.Kept.the-variants as kept
-use Rattle.kept.specs.Kept.{reportsIn, bodyIn, frameIn, keptIn, planOf, withReports, withBody, keepFrame}
+use Rattle.record.specs.Slots.{Record, frameSlot, withSlot}
+use Rattle.keeping.specs.Kept.{reportsIn, bodyIn, frameIn, keptIn, planOf, withReports, withBody, keepFrame}
 
 module _ (slots : ℕ → Report) (kind sender : ℕ) where
-  pub body-plan : 1 ≤ kind → kind ≤ 5 → bodyIn slots kind sender ≡ Plan (slots (frameSlot kind sender) .plan)
+  pub bodyPlan : 1 ≤ kind → kind ≤ 5 → bodyIn slots kind sender ≡ Plan (slots (frameSlot kind sender) .plan)
   unfolding bodyIn
-  body-plan a b = simp (inside 1 5 kind a b)
+  bodyPlan a b = simp (inside 1 5 kind a b)
 
-  pub body-bare : kind ≡ 6 → bodyIn slots kind sender ≡ Empty
+  pub bodyBare : kind ≡ 6 → bodyIn slots kind sender ≡ Empty
   unfolding bodyIn
-  body-bare e = simp (over 1 5 kind (omega arith) (omega arith), eq-eqb kind 6 e)
+  bodyBare e = simp (over 1 5 kind (omega arith) (omega arith), eq-eqb kind 6 e)
 
-  pub body-reports : 7 ≤ kind → bodyIn slots kind sender ≡ Told (reportsIn slots kind sender)
+  pub bodyReports : 7 ≤ kind → bodyIn slots kind sender ≡ Told (reportsIn slots kind sender)
   unfolding bodyIn
-  body-reports a = simp (over 1 5 kind (omega arith) (omega arith), ne-eqb kind 6 (omega arith))
+  bodyReports a = simp (over 1 5 kind (omega arith) (omega arith), ne-eqb kind 6 (omega arith))
 
-  pub kept-there : slots (frameSlot kind sender) .mark ≡ 1 → keptIn slots kind sender ≡ kept.Kept (frameIn slots kind sender)
+  pub keptThere : slots (frameSlot kind sender) .mark ≡ 1 → keptIn slots kind sender ≡ some (frameIn slots kind sender)
   unfolding keptIn
-  kept-there e = simp (eq-eqb _ _ e)
+  keptThere e = simp (eq-eqb _ _ e)
 
-  pub kept-nothing : (slots (frameSlot kind sender) .mark ≡ 1 → ⊥) → keptIn slots kind sender ≡ kept.Nothing
+  pub keptNothing : (slots (frameSlot kind sender) .mark ≡ 1 → ⊥) → keptIn slots kind sender ≡ none
   unfolding keptIn
-  kept-nothing e = simp (ne-eqb _ _ e)
+  keptNothing e = simp (ne-eqb _ _ e)
 
 -- a body that fits its kind says which kinds it can be
-pub fits-kind : (kind : ℕ) (body : Body) → fits kind body ≡ true → (1 ≤ kind) × (kind ≤ 8)
-fits-kind kind (Plan p) e = let h = bounds 1 5 kind e in (h .0, omega arith)
-fits-kind kind Empty e = let h : kind ≡ 6 = eqb-true kind 6 e in (omega arith, omega arith)
-fits-kind kind (Told t) e = let h = bounds 7 8 kind e in (omega arith, h .1)
+pub fitsKind : (kind : ℕ) (body : Body) → fits kind body ≡ true → (1 ≤ kind) × (kind ≤ 8)
+fitsKind kind (Plan p) e = let h = bounds 1 5 kind e in (h .0, omega arith)
+fitsKind kind Empty e = let h : kind ≡ 6 = eqb-true kind 6 e in (omega arith, omega arith)
+fitsKind kind (Told t) e = let h = bounds 7 8 kind e in (omega arith, h .1)
 
-pub told-kind : (kind : ℕ) {body : Body} {t : Reports} → body ≡ Told t → fits kind body ≡ true → 7 ≤ kind
-told-kind kind {body} {t} e h = let k : fits kind (Told t) ≡ true = ap (fits kind) (sym e) ∙ h in bounds 7 8 kind k .0
+pub toldKind : (kind : ℕ) {body : Body} {t : Reports} → body ≡ Told t → fits kind body ≡ true → 7 ≤ kind
+toldKind kind {body} {t} e h = let k : fits kind (Told t) ≡ true = ap (fits kind) (sym e) ∙ h in bounds 7 8 kind k .0
 
 module _ (r : Record) (sender : ℕ) (f : Frame) where
   -- the record with the frame's head and what follows it, by the form of the body
-  keep-body : {b : Body} → f .body ≡ b
-      → keepFrame r sender f ≡ withBody (withSlot r (frameSlot (f .kind) sender) (record { mark = 1; view = f .view; plan = planOf b })) (f .kind) sender b
+  keepBody : {b : Body} → f .body ≡ b
+      → keepFrame r sender f
+      ≡ withBody (withSlot r (frameSlot (f .kind) sender) (record { mark = 1; view = f .view; plan = planOf b })) (f .kind) sender b
   unfolding keepFrame
-  keep-body e = λ i. withBody (withSlot r (frameSlot (f .kind) sender) (record { mark = 1; view = f .view; plan = planOf (e i) })) (f .kind) sender (e i)
+  keepBody e = λ i. withBody (withSlot r (frameSlot (f .kind) sender) (record { mark = 1; view = f .view; plan = planOf (e i) })) (f .kind) sender (e i)
 
-  pub keep-plan : {p : ℕ} → f .body ≡ Plan p
+  pub keepPlan : {p : ℕ} → f .body ≡ Plan p
       → keepFrame r sender f ≡ withSlot r (frameSlot (f .kind) sender) (record { mark = 1; view = f .view; plan = p })
-  keep-plan e = keep-body e
+  keepPlan e = keepBody e
 
-  pub keep-bare : f .body ≡ Empty
+  pub keepBare : f .body ≡ Empty
       → keepFrame r sender f ≡ withSlot r (frameSlot (f .kind) sender) (record { mark = 1; view = f .view; plan = 0 })
-  keep-bare e = keep-body e
+  keepBare e = keepBody e
 
-  pub keep-told : {t : Reports} → f .body ≡ Told t
+  pub keepTold : {t : Reports} → f .body ≡ Told t
       → keepFrame r sender f
       ≡ withReports (withSlot r (frameSlot (f .kind) sender) (record { mark = 1; view = f .view; plan = 0 })) (f .kind) sender t
-  keep-told e = keep-body e
+  keepTold e = keepBody e

@@ -9,8 +9,7 @@ use Rattle.frame.specs.declared.Report.{Report}
 use Rattle.frame.specs.Format.{within}
 use Rattle.frame.specs.Refusal.{first, present}
 use Rattle.frame.proofs.Laws.{both, bounds}
-use Rattle.record.specs.declared.Record.{Record}
-use Rattle.record.specs.Slots.{frameSlot, previousSlot, withSlot}
+use Rattle.record.specs.Slots.{Record, frameSlot, previousSlot, withSlot}
 use Rattle.keeping.specs.Keeping.{stale, outdone, keepRows, moves, ownSlot, shifted}
 
 module _ (slots : ℕ → Report) (current sender kind view : ℕ) where

@@ -8,9 +8,8 @@ use Rattle.frame.specs.declared.Report.{Report}
 use Rattle.frame.specs.declared.Frame.{Frame}
 use Rattle.frame.specs.Format.{within}
 use Rattle.frame.specs.Refusal.{Row, row, present}
-use Rattle.record.specs.declared.Record.{Record}
-use Rattle.record.specs.Slots.{frameSlot, previousSlot, slotOf, withSlot}
-use Rattle.kept.specs.Kept.{planOf, keepFrame}
+use Rattle.record.specs.Slots.{Record, frameSlot, previousSlot, slotOf, withSlot}
+use Rattle.keeping.specs.Kept.{planOf, keepFrame}
 
 -- "view below current (kind 6: at or below)"
 unfoldable pub stale : ℕ → ℕ → ℕ → Bool
@@ -34,7 +33,7 @@ moves slot kind plan = within 2 3 kind && (present slot && not (eqb (slot .plan)
 
 -- The own kept frame of a kind.
 abbrev pub ownSlot : Record → ℕ → Report
-ownSlot r kind = slotOf r (frameSlot kind (r .id))
+ownSlot r kind = slotOf r (frameSlot kind (r .set .id))
 
 -- The record with the own kept vote moved to the previous one, where a new vote of that kind for a plan moves it.
 unfoldable pub shifted : Record → ℕ → ℕ → Record
@@ -42,4 +41,4 @@ shifted r kind plan = cond (moves (ownSlot r kind) kind plan) (withSlot r (previ
 
 -- "Its own broadcasts go into its own row", and the kept vote-1 or vote-2 for another plan becomes the previous one.
 unfoldable pub ownBroadcast : Record → Frame → Record
-ownBroadcast r f = keepFrame (shifted r (f .kind) (planOf (f .body))) (r .id) f
+ownBroadcast r f = keepFrame (shifted r (f .kind) (planOf (f .body))) (r .set .id) f

@@ -3,7 +3,6 @@
 -- Assumes nothing.
 use Prim.Native.Nat.{ℕ}
 use mathlib.Core.Bool.{cond}
-use mathlib.Core.Path.{_≡_}
 use mathlib.Core.Option.{Option, none, some}
 use lib.Dec.{eqb}
 use Rattle.frame.specs.declared.Report.{Report}
@@ -13,10 +12,7 @@ use Rattle.frame.specs.declared.Body.the-variants.{Plan, Empty, Told}
 use Rattle.frame.specs.declared.Frame.{Frame}
 use Rattle.frame.specs.Format.{within}
 use Rattle.frame.specs.Refusal.{present}
-use Rattle.record.specs.declared.Record.{Record}
-use Rattle.record.specs.Slots.{frameSlot, reportSlot, slotOf, withSlot}
-use Rattle.kept.specs.declared.Kept.{Kept}
-use Rattle.kept.specs.declared.Kept.the-variants as kept
+use Rattle.record.specs.Slots.{Record, frameSlot, reportSlot, slotOf, withSlot}
 
 -- ---- what is kept
 
@@ -41,17 +37,12 @@ frameIn slots kind sender =
     record { kind = kind; sender = sender; view = slots (frameSlot kind sender) .view; body = bodyIn slots kind sender }
 
 -- "For each sender and kind it keeps one frame": the frame, where one is kept.
-unfoldable pub keptIn : (ℕ → Report) → ℕ → ℕ → Kept
-keptIn slots kind sender = cond (present (slots (frameSlot kind sender))) (kept.Kept (frameIn slots kind sender)) kept.Nothing
-
--- An answer of `frame_in` as an optional frame.
-abbrev pub asOption : Kept → Option Frame
-asOption (kept.Kept f) = some f
-asOption kept.Nothing = none
+unfoldable pub keptIn : (ℕ → Report) → ℕ → ℕ → Option Frame
+keptIn slots kind sender = cond (present (slots (frameSlot kind sender))) (some (frameIn slots kind sender)) none
 
 -- "For each sender and kind it keeps one frame", of a record.
 abbrev pub keptFrame : Record → ℕ → ℕ → Option Frame
-keptFrame r kind sender = asOption (keptIn (slotOf r) kind sender)
+keptFrame r kind sender = keptIn (slotOf r) kind sender
 
 -- ---- keeping
 
@@ -83,12 +74,3 @@ withBody r kind sender (Told t) = withReports r kind sender t
 -- "it keeps one frame: the one with the highest view so far": the record with a frame put into a sender's row.
 unfoldable pub keepFrame : Record → ℕ → Frame → Record
 keepFrame r sender f = withBody (withSlot r (frameSlot (f .kind) sender) (headSlot f)) (f .kind) sender (f .body)
-
--- Two records with the same settings, current view and starting plan.
-pub record SameHead (r s : Record) : Type 0 where
-  pub n : r .n ≡ s .n
-  pub f : r .f ≡ s .f
-  pub id : r .id ≡ s .id
-  pub class : r .class ≡ s .class
-  pub view : r .view ≡ s .view
-  pub plan : r .plan ≡ s .plan

@@ -14,10 +14,11 @@ use lib.ListN.{length}
 use Rattle.frame.specs.declared.Report.{Report}
 use Rattle.frame.specs.declared.Frame.{Frame}
 use Rattle.frame.specs.Refusal.{first, absent, badForm, badPrevious, contentRows, leaderRows}
+use Rattle.settings.specs.declared.Settings.{Settings}
 use Rattle.settings.specs.Settings.{settingRows}
 use Rattle.record.specs.Slots.{frameSlot, reportSlot, decisionSlot}
-use Rattle.layout.specs.Layout.{decodeRecord}
-use Rattle.kept.specs.Kept.{frameIn}
+use Rattle.layout.specs.Layout.{recordSize, decodeRecord}
+use Rattle.keeping.specs.Kept.{frameIn}
 use Rattle.sound.specs.Sound.{all, reportsAbsent, emptyAt, noPlan, ahead, frameSound, placeSound, stands, previousSound, votesSound, rowsSound, soundIn, sound, lentIs}
 use Rattle.sound.specs.declared.Lent.the-variants.{Blank, Unsound, Sound}
 
@@ -77,31 +78,32 @@ module _ (slots : ℕ → Report) (kind sender : ℕ) where
   unfolding emptyAt
   empty-reports a h = rw (a, le-ltb kind 7 h)
 
-module _ (n id view : ℕ) (f : Frame) where
-  pub frame-row : n ≤ f .sender → frameSound n id view f ≡ false
+module _ (set : Settings) (view : ℕ) (f : Frame) where
+  pub frame-row : set .n ≤ f .sender → frameSound set view f ≡ false
   unfolding frameSound
-  frame-row h = rw (le-ltb (f .sender) n h)
+  frame-row h = rw (le-ltb (f .sender) (set .n) h)
 
-  pub frame-ahead : f .sender < n → ahead id view f ≡ true → frameSound n id view f ≡ false
+  pub frame-ahead : f .sender < set .n → ahead set view f ≡ true → frameSound set view f ≡ false
   unfolding frameSound
-  frame-ahead h a = rw (lt-ltb (f .sender) n h, a)
+  frame-ahead h a = rw (lt-ltb (f .sender) (set .n) h, a)
 
-  pub frame-rows : f .sender < n → ahead id view f ≡ false → frameSound n id view f ≡ eqb (first (contentRows f ++ leaderRows f n id)) 0
+  pub frame-rows : f .sender < set .n → ahead set view f ≡ false
+      → frameSound set view f ≡ eqb (first (contentRows f ++ leaderRows f (set .n) (set .id))) 0
   unfolding frameSound
-  frame-rows h a = rw (lt-ltb (f .sender) n h, a)
+  frame-rows h a = rw (lt-ltb (f .sender) (set .n) h, a)
 
-module _ (slots : ℕ → Report) (n id view kind sender : ℕ) where
-  pub place-empty : (slots (frameSlot kind sender) .mark ≡ 1 → ⊥) → placeSound slots n id view kind sender ≡ emptyAt slots kind sender
+module _ (slots : ℕ → Report) (set : Settings) (view kind sender : ℕ) where
+  pub place-empty : (slots (frameSlot kind sender) .mark ≡ 1 → ⊥) → placeSound slots set view kind sender ≡ emptyAt slots kind sender
   unfolding placeSound
   place-empty h = rw (ne-eqb (slots (frameSlot kind sender) .mark) 1 h)
 
   pub place-plan : slots (frameSlot kind sender) .mark ≡ 1 → noPlan kind (slots (frameSlot kind sender) .plan) ≡ false
-      → placeSound slots n id view kind sender ≡ false
+      → placeSound slots set view kind sender ≡ false
   unfolding placeSound
   place-plan h a = rw (eq-eqb (slots (frameSlot kind sender) .mark) 1 h, a)
 
   pub place-frame : slots (frameSlot kind sender) .mark ≡ 1 → noPlan kind (slots (frameSlot kind sender) .plan) ≡ true
-      → placeSound slots n id view kind sender ≡ frameSound n id view (frameIn slots kind sender)
+      → placeSound slots set view kind sender ≡ frameSound set view (frameIn slots kind sender)
   unfolding placeSound
   place-frame h a = rw (eq-eqb (slots (frameSlot kind sender) .mark) 1 h, a)
 
@@ -118,18 +120,18 @@ module _ (slots : ℕ → Report) (id : ℕ) where
   unfolding votesSound
   votes-decision a b = rw (a, b)
 
-module _ (slots : ℕ → Report) (n f id class view : ℕ) where
-  pub sound-settings : (first (settingRows n f id class) ≡ 0 → ⊥) → soundIn slots n f id class view ≡ false
+module _ (slots : ℕ → Report) (set : Settings) (view : ℕ) where
+  pub sound-settings : (first (settingRows set) ≡ 0 → ⊥) → soundIn slots set view ≡ false
   unfolding soundIn
-  sound-settings h = rw (ne-eqb (first (settingRows n f id class)) 0 h)
+  sound-settings h = rw (ne-eqb (first (settingRows set)) 0 h)
 
-  pub sound-rows : first (settingRows n f id class) ≡ 0 → rowsSound slots n id view ≡ false → soundIn slots n f id class view ≡ false
+  pub sound-rows : first (settingRows set) ≡ 0 → rowsSound slots set view ≡ false → soundIn slots set view ≡ false
   unfolding soundIn
-  sound-rows h a = rw (eq-eqb (first (settingRows n f id class)) 0 h, a)
+  sound-rows h a = rw (eq-eqb (first (settingRows set)) 0 h, a)
 
-  pub sound-votes : first (settingRows n f id class) ≡ 0 → rowsSound slots n id view ≡ true → soundIn slots n f id class view ≡ votesSound slots id
+  pub sound-votes : first (settingRows set) ≡ 0 → rowsSound slots set view ≡ true → soundIn slots set view ≡ votesSound slots (set .id)
   unfolding soundIn
-  sound-votes h a = rw (eq-eqb (first (settingRows n f id class)) 0 h, a)
+  sound-votes h a = rw (eq-eqb (first (settingRows set)) 0 h, a)
 
 -- ---- loops
 
@@ -156,14 +158,14 @@ all-stop test (suc n) i h e = ⊎-elim
 -- ---- lent bytes
 
 module _ (s : List ℕ) where
-  pub lent-length : (length s ≡ 11703 → ⊥) → lentIs s ≡ Unsound
+  pub lent-length : (length s ≡ recordSize → ⊥) → lentIs s ≡ Unsound
   unfolding lentIs
-  lent-length h = rw (ne-eqb (length s) 11703 h)
+  lent-length h = rw (ne-eqb (length s) recordSize h)
 
-  pub lent-blank : length s ≡ 11703 → decodeRecord s .n ≡ 0 → lentIs s ≡ Blank
+  pub lent-blank : length s ≡ recordSize → decodeRecord s .set .n ≡ 0 → lentIs s ≡ Blank
   unfolding lentIs
-  lent-blank h k = rw (eq-eqb (length s) 11703 h, eq-eqb (decodeRecord s .n) 0 k)
+  lent-blank h k = rw (eq-eqb (length s) recordSize h, eq-eqb (decodeRecord s .set .n) 0 k)
 
-  pub lent-other : length s ≡ 11703 → (decodeRecord s .n ≡ 0 → ⊥) → lentIs s ≡ cond (sound (decodeRecord s)) Sound Unsound
+  pub lent-other : length s ≡ recordSize → (decodeRecord s .set .n ≡ 0 → ⊥) → lentIs s ≡ cond (sound (decodeRecord s)) Sound Unsound
   unfolding lentIs
-  lent-other h k = rw (eq-eqb (length s) 11703 h, ne-eqb (decodeRecord s .n) 0 k)
+  lent-other h k = rw (eq-eqb (length s) recordSize h, ne-eqb (decodeRecord s .set .n) 0 k)

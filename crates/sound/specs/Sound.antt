@@ -10,11 +10,11 @@ use lib.ListN.{length}
 use Rattle.frame.specs.declared.Report.{Report}
 use Rattle.frame.specs.declared.Frame.{Frame}
 use Rattle.frame.specs.Refusal.{first, present, absent, badForm, badPrevious, contentRows, leaderRows}
+use Rattle.settings.specs.declared.Settings.{Settings}
 use Rattle.settings.specs.Settings.{settingRows}
-use Rattle.record.specs.declared.Record.{Record}
-use Rattle.record.specs.Slots.{frameSlot, reportSlot, previousSlot, decisionSlot, slotOf}
+use Rattle.record.specs.Slots.{rows, kinds, Record, frameSlot, reportSlot, previousSlot, decisionSlot, slotOf}
 use Rattle.layout.specs.Layout.{recordSize, decodeRecord}
-use Rattle.kept.specs.Kept.{frameIn}
+use Rattle.keeping.specs.Kept.{frameIn}
 use Rattle.sound.specs.declared.Lent.{Lent}
 use Rattle.sound.specs.declared.Lent.the-variants.{Blank, Unsound, Sound}
 
@@ -40,29 +40,29 @@ unfoldable pub noPlan : ℕ → ℕ → Bool
 noPlan kind plan = ltb kind 6 || eqb plan 0
 
 -- "no frame in its own row but the view-change is above the current view"
-unfoldable pub ahead : ℕ → ℕ → Frame → Bool
-ahead id view f = eqb (f .sender) id && (not (eqb (f .kind) 6) && ltb view (f .view))
+unfoldable pub ahead : Settings → ℕ → Frame → Bool
+ahead set view f = eqb (f .sender) (set .id) && (not (eqb (f .kind) 6) && ltb view (f .view))
 
 -- "every kept frame passes 9 to 15 for its row (its own row excused from the own-number half of 11)": 9, 10 and 12 are passed by
 -- place, and of 11 the half is left that the sender is below n.
-unfoldable pub frameSound : ℕ → ℕ → ℕ → Frame → Bool
-frameSound n id view f =
-    ltb (f .sender) n && (not (ahead id view f) && eqb (first (contentRows f ++ leaderRows f n id)) 0)
+unfoldable pub frameSound : Settings → ℕ → Frame → Bool
+frameSound set view f =
+    ltb (f .sender) (set .n) && (not (ahead set view f) && eqb (first (contentRows f ++ leaderRows f (set .n) (set .id))) 0)
 
 -- "For each sender and kind it keeps one frame": a sound one, or nothing stands there.
-unfoldable pub placeSound : (ℕ → Report) → ℕ → ℕ → ℕ → ℕ → ℕ → Bool
-placeSound slots n id view kind sender =
+unfoldable pub placeSound : (ℕ → Report) → Settings → ℕ → ℕ → ℕ → Bool
+placeSound slots set view kind sender =
     cond (present (slots (frameSlot kind sender)))
-    (noPlan kind (slots (frameSlot kind sender) .plan) && frameSound n id view (frameIn slots kind sender))
+    (noPlan kind (slots (frameSlot kind sender) .plan) && frameSound set view (frameIn slots kind sender))
     (emptyAt slots kind sender)
 
 -- The places of a kind, of each sender that the layout has a row for.
-unfoldable pub kindSound : (ℕ → Report) → ℕ → ℕ → ℕ → ℕ → Bool
-kindSound slots n id view kind = all (placeSound slots n id view kind) 64
+unfoldable pub kindSound : (ℕ → Report) → Settings → ℕ → ℕ → Bool
+kindSound slots set view kind = all (placeSound slots set view kind) rows
 
 -- The places of kinds 1 to 8.
-unfoldable pub rowsSound : (ℕ → Report) → ℕ → ℕ → ℕ → Bool
-rowsSound slots n id view = all (λ k. kindSound slots n id view (k + 1)) 8
+unfoldable pub rowsSound : (ℕ → Report) → Settings → ℕ → Bool
+rowsSound slots set view = all (λ k. kindSound slots set view (k + 1)) kinds
 
 -- ---- the own votes
 
@@ -82,17 +82,17 @@ votesSound slots id =
 -- ---- the record
 
 -- "It is sound when its settings pass 5 to 8, every kept frame passes .., and each previous vote stands to its highest as in 14."
-unfoldable pub soundIn : (ℕ → Report) → ℕ → ℕ → ℕ → ℕ → ℕ → Bool
-soundIn slots n f id class view =
-    eqb (first (settingRows n f id class)) 0 && (rowsSound slots n id view && votesSound slots id)
+unfoldable pub soundIn : (ℕ → Report) → Settings → ℕ → Bool
+soundIn slots set view =
+    eqb (first (settingRows set)) 0 && (rowsSound slots set view && votesSound slots (set .id))
 
 -- The same of a record.
 abbrev pub sound : Record → Bool
-sound r = soundIn (slotOf r) (r .n) (r .f) (r .id) (r .class) (r .view)
+sound r = soundIn (slotOf r) (r .set) (r .view)
 
 -- "Otherwise it is blank when its n is 0."
 abbrev pub blank : Record → Bool
-blank r = eqb (r .n) 0
+blank r = eqb (r .set .n) 0
 
 -- "A lent record of the wrong length, or whose bytes spell no record, is unsound and not blank."
 unfoldable pub lentIs : List ℕ → Lent
