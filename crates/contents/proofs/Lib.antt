@@ -7,3 +7,4 @@ pub mod Slotted
 pub mod Widths
 pub mod Tests
 pub mod Sound
+pub mod Ready
