@@ -24,24 +24,24 @@ use Rattle.settings.specs.declared.Settings.{Settings}
 use Rattle.record.specs.Slots as slots
 use Rattle.record.specs.Slots.{rows, kinds, frameSlot, previousSlot, decisionSlot, slotOf}
 use Rattle.layout.specs.Layout as layout
-use Rattle.layout.specs.Layout.{encodeRecord, decodeRecord}
+use Rattle.layout.specs.Layout.{recordSize, decodeRecord}
+use Rattle.layout.proofs.Laws.{fitsDecoded}
 use Rattle.keeping.specs.Kept.{frameIn, keptFrame}
 use Rattle.keeping.proofs.Forms.{keptThere, keptNothing}
 use Rattle.sound.specs.declared.Lent.the-variants as lent
 use Rattle.sound.specs.Sound.{emptyAt, noPlan, ahead, frameSound, placeSound, kindSound, rowsSound, stands, previousSound, votesSound, soundIn, sound, lentIs}
-use Rattle.sound.proofs.Laws.{place-empty, place-frame, lent-other}
+use Rattle.sound.proofs.Laws.{place-empty, place-frame}
 use Rattle.protocol.specs.Record.{Record, spelt, voteOf}
 use Rattle.protocol.specs.Pass.{hasPrevious}
 use Rattle.settings.specs.Settings.{settingRows}
 use Rattle.protocol.specs.Sound.{InRow, Sound, Ranged}
 use Rattle.protocol.proofs.Tables.{whenSome}
 use Rattle.protocol.proofs.Sound.{idBelow, sizeBelow}
-use Rattle.contents.specs.Contents.{keptOf, contents, headOf, slotted, Clean}
+use Rattle.contents.specs.Contents.{keptOf, contents, headOf, Clean}
 use Rattle.contents.proofs.Kept.{previousBounds}
 use Rattle.contents.proofs.Clean.{keptAt, cleanOf, filledOf}
 use Rattle.contents.proofs.Acts.{voteSpelt, previousSpelt}
-use Rattle.contents.proofs.Slotted.{Placed, contentsSlotted, cleanSlotted}
-use Rattle.contents.proofs.Widths.{rangedFits, fitsSlotted}
+use Rattle.contents.proofs.Widths.{rangedFits}
 use Rattle.contents.proofs.Tests.{allAt, allOf, formedIs, formedOf, Held, planOnly, heldThere, heldNot, emptyOf, validIn}
 
 -- ---- a kept frame
@@ -292,3 +292,27 @@ module _ (r : slots.Record) (clean : Clean r) (given : Sound (contents r)) where
       bothJoin (eqb (first (settingRows (r .set))) 0) (rowsSound u (r .set) (r .view) && votesSound u (r .set .id))
       (eq-eqb (first (settingRows (r .set))) 0 settingsGiven)
       (bothJoin (rowsSound u (r .set) (r .view)) (votesSound u (r .set .id)) rowsGiven votesGiven)
+
+-- ---- what is lent
+
+soundOnly : (a b c : Bool) → cond a (cond b lent.Blank (cond c lent.Sound lent.Unsound)) lent.Unsound ≡ lent.Sound
+    → (a ≡ true) × (c ≡ true)
+soundOnly true true c e = let z : _≡_ {A = ℕ} 0 1 = cc in absurd (omega arith)
+soundOnly true false true e = (refl, refl)
+soundOnly true false false e = let z : _≡_ {A = ℕ} 0 1 = cc in absurd (omega arith)
+soundOnly false b c e = let z : _≡_ {A = ℕ} 0 1 = cc in absurd (omega arith)
+
+-- Lent bytes that are sound have a record's length.
+pub sizeSound : (rec : List ℕ) → lentIs rec ≡ lent.Sound → length rec ≡ recordSize
+unfolding lentIs
+sizeSound rec e =
+    eqb-true (length rec) recordSize (soundOnly (eqb (length rec) recordSize) (eqb (decodeRecord rec .set .n) 0) (sound (decodeRecord rec)) e .0)
+
+-- They hold just their contents, and these are sound and have their widths.
+pub soundRead : (rec : List ℕ) → Bytes rec → lentIs rec ≡ lent.Sound
+    → Clean (decodeRecord rec) × Sound (contents (decodeRecord rec)) × Ranged (contents (decodeRecord rec))
+unfolding lentIs
+soundRead rec bytes e =
+    let given = soundOnly (eqb (length rec) recordSize) (eqb (decodeRecord rec .set .n) 0) (sound (decodeRecord rec)) e .1 in
+    let fit = fitsDecoded rec bytes in
+    (cleanSound (decodeRecord rec) fit given, contentsSound (decodeRecord rec) fit given, rangedFits (decodeRecord rec) fit)
