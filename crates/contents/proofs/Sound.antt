@@ -62,14 +62,17 @@ module _ (set : Settings) (view : ℕ) (f : Frame) where
   passedOf h =
       let (a, t) = bothSplit (ltb (f .sender) (set .n)) (not (ahead set view f) && eqb (first (contentRows f ++ leaderRows f (set .n) (set .id))) 0) h in
       let (b, c) = bothSplit (not (ahead set view f)) (eqb (first (contentRows f ++ leaderRows f (set .n) (set .id))) 0) t in
-      let (d, e) = first-both (contentRows f) (leaderRows f (set .n) (set .id)) positive (eqb-true (first (contentRows f ++ leaderRows f (set .n) (set .id))) 0 c) in
+      let (d, e) = first-both (contentRows f) (leaderRows f (set .n) (set .id)) positive
+      (eqb-true (first (contentRows f ++ leaderRows f (set .n) (set .id))) 0 c) in
       record { row = ltb-true (f .sender) (set .n) a; behind = not-true (ahead set view f) b; content = d; leader = e }
 
   passedSound : Passed set view f → frameSound set view f ≡ true
   unfolding frameSound
-  passedSound p = bothJoin (ltb (f .sender) (set .n)) (not (ahead set view f) && eqb (first (contentRows f ++ leaderRows f (set .n) (set .id))) 0) (lt-ltb (f .sender) (set .n) (p .row))
+  passedSound p = bothJoin (ltb (f .sender) (set .n)) (not (ahead set view f) && eqb (first (contentRows f ++ leaderRows f (set .n) (set .id))) 0)
+      (lt-ltb (f .sender) (set .n) (p .row))
       (bothJoin (not (ahead set view f)) (eqb (first (contentRows f ++ leaderRows f (set .n) (set .id))) 0) (ap not (p .behind))
-      (eq-eqb (first (contentRows f ++ leaderRows f (set .n) (set .id))) 0 (first-none (contentRows f) (leaderRows f (set .n) (set .id)) positive (p .content) ∙ p .leader)))
+      (eq-eqb (first (contentRows f ++ leaderRows f (set .n) (set .id))) 0
+      (first-none (contentRows f) (leaderRows f (set .n) (set .id)) positive (p .content) ∙ p .leader)))
 
   -- 'no frame in its own row but the view-change is above the current view'.
   notAhead : f .sender ≡ set .id → f .kind ≢ 6 → ahead set view f ≡ false → f .view ≤ view
@@ -143,7 +146,8 @@ module _ (r : slots.Record) (z : layout.Fits r) (h : sound r ≡ true) where
   unfolding rowsSound kindSound
   placePass k j low high row =
       let is : k - 1 + 1 ≡ k = omega arith in
-      let kind : kindSound s (r .set) (r .view) (k - 1 + 1) ≡ true = allAt (λ k. kindSound s (r .set) (r .view) (k + 1)) kinds (k - 1) (partsPass .1) (omega arith) in
+      let kind : kindSound s (r .set) (r .view) (k - 1 + 1) ≡ true = allAt (λ k. kindSound s (r .set) (r .view) (k + 1)) kinds (k - 1) (partsPass .1)
+      (omega arith) in
       allAt (placeSound s (r .set) (r .view) k) rows j (subst (λ (k : ℕ). kindSound s (r .set) (r .view) k ≡ true) is kind) row
 
   -- Where a frame is kept, it has a plan only in kinds 1 to 5, and passes.
@@ -152,7 +156,8 @@ module _ (r : slots.Record) (z : layout.Fits r) (h : sound r ≡ true) where
   unfolding placeSound
   framePass k j low high row e =
       bothSplit (noPlan k (s (frameSlot k j) .plan)) (frameSound (r .set) (r .view) (frameIn s k j))
-      (ap (λ (b : Bool). cond b (noPlan k (s (frameSlot k j) .plan) && frameSound (r .set) (r .view) (frameIn s k j)) (emptyAt s k j)) (sym (eq-eqb (s (frameSlot k j) .mark) 1 e))
+      (ap (λ (b : Bool). cond b (noPlan k (s (frameSlot k j) .plan) && frameSound (r .set) (r .view) (frameIn s k j)) (emptyAt s k j))
+      (sym (eq-eqb (s (frameSlot k j) .mark) 1 e))
       ∙ placePass k j low high row)
 
   heldPass : (k j : ℕ) → 1 ≤ k → k ≤ kinds → j < rows → Held s k j
@@ -179,10 +184,12 @@ module _ (r : slots.Record) (z : layout.Fits r) (h : sound r ≡ true) where
       go (inr e) = subst (λ (k : ℕ). previousSound s (r .set .id) (suc k) ≡ true) (sym (eqb-true k 2 e)) (votesPass .1)
 
   -- 'each previous vote stands to its highest as in 14'.
-  standsPass : (k : ℕ) → hasPrevious k ≡ true → (badForm (s (previousSlot (suc k))) ≡ false) × (badPrevious (s (frameSlot (suc k) (r .set .id))) (s (previousSlot (suc k))) ≡ false)
+  standsPass : (k : ℕ) → hasPrevious k ≡ true → (badForm (s (previousSlot (suc k))) ≡ false)
+      × (badPrevious (s (frameSlot (suc k) (r .set .id))) (s (previousSlot (suc k))) ≡ false)
   unfolding previousSound stands
   standsPass k has =
-      let (a, b) = bothSplit (not (badForm (s (previousSlot (suc k))))) (not (badPrevious (s (frameSlot (suc k) (r .set .id))) (s (previousSlot (suc k))))) (previousPass k has) in
+      let (a, b) = bothSplit (not (badForm (s (previousSlot (suc k))))) (not (badPrevious (s (frameSlot (suc k) (r .set .id))) (s (previousSlot (suc k)))))
+      (previousPass k has) in
       (not-true (badForm (s (previousSlot (suc k)))) a, not-true (badPrevious (s (frameSlot (suc k) (r .set .id))) (s (previousSlot (suc k)))) b)
 
   pub cleanSound : Clean r

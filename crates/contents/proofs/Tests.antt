@@ -93,7 +93,8 @@ module _ (s : ℕ → Report) (k j : ℕ) where
   unfolding noPlan
   planIs (plan low high) h = sym (ap planOf (bodyPlan s k j low high))
   planIs (bare e) h = eqb-true (x .plan) 0 (ap (λ (b : Bool). b || eqb (x .plan) 0) (sym (le-ltb k 6 (omega arith))) ∙ h) ∙ sym (ap planOf (bodyBare s k j e))
-  planIs (reports low high) h = eqb-true (x .plan) 0 (ap (λ (b : Bool). b || eqb (x .plan) 0) (sym (le-ltb k 6 (omega arith))) ∙ h) ∙ sym (ap planOf (bodyReports s k j low))
+  planIs (reports low high) h = eqb-true (x .plan) 0 (ap (λ (b : Bool). b || eqb (x .plan) 0) (sym (le-ltb k 6 (omega arith))) ∙ h)
+      ∙ sym (ap planOf (bodyReports s k j low))
 
   pub planOnly : Form k → x .plan ≡ planOf (bodyIn s k j) → noPlan k (x .plan) ≡ true
   unfolding noPlan
@@ -124,7 +125,8 @@ module _ (s : ℕ → Report) (k j : ℕ) where
       let (a, b) = bothSplit (absent x) (ltb k 7 || reportsAbsent s k j) h in
       record {
         head = absentIs x a ∙ ap headOf (sym kept);
-        told = λ w lw seven. absentIs (s (reportSlot k w j)) (each w lw (ap (λ (b : Bool). b || reportsAbsent s k j) (sym (le-ltb k 7 (omega arith))) ∙ b)) ∙ ap (toldOf w) (sym kept);
+        told = λ w lw seven. absentIs (s (reportSlot k w j)) (each w lw (ap (λ (b : Bool). b || reportsAbsent s k j) (sym (le-ltb k 7 (omega arith))) ∙ b))
+            ∙ ap (toldOf w) (sym kept);
       }
     where
       each : (w : ℕ) → w < 3 → reportsAbsent s k j ≡ true → absent (s (reportSlot k w j)) ≡ true
@@ -133,7 +135,8 @@ module _ (s : ℕ → Report) (k j : ℕ) where
           let (b, c) = bothSplit (absent (s (reportSlot k 1 j))) (absent (s (reportSlot k 2 j))) t in
           pick w low a b c
         where
-          pick : (w : ℕ) → w < 3 → absent (s (reportSlot k 0 j)) ≡ true → absent (s (reportSlot k 1 j)) ≡ true → absent (s (reportSlot k 2 j)) ≡ true → absent (s (reportSlot k w j)) ≡ true
+          pick : (w : ℕ) → w < 3 → absent (s (reportSlot k 0 j)) ≡ true → absent (s (reportSlot k 1 j)) ≡ true → absent (s (reportSlot k 2 j)) ≡ true
+              → absent (s (reportSlot k w j)) ≡ true
           pick zero low a b c = a
           pick (suc zero) low a b c = b
           pick (suc (suc zero)) low a b c = c
@@ -143,7 +146,8 @@ module _ (s : ℕ → Report) (k j : ℕ) where
   unfolding emptyAt reportsAbsent
   emptyOf e h =
       let kept = keptNothing s k j e in
-      bothJoin (absent x) (ltb k 7 || reportsAbsent s k j) (ap absent (h .head ∙ ap headOf kept)) (go (decLt k 7) (λ w lw seven. ap absent (h .told w lw seven ∙ ap (toldOf w) kept)))
+      bothJoin (absent x) (ltb k 7 || reportsAbsent s k j) (ap absent (h .head ∙ ap headOf kept))
+      (go (decLt k 7) (λ w lw seven. ap absent (h .told w lw seven ∙ ap (toldOf w) kept)))
     where
       go : Dec (k < 7) → ((w : ℕ) → w < 3 → 7 ≤ k → absent (s (reportSlot k w j)) ≡ true) → (ltb k 7 || reportsAbsent s k j) ≡ true
       go (yes low) told = orLeft (ltb k 7) (reportsAbsent s k j) (lt-ltb k 7 low)
