@@ -1,15 +1,17 @@
-// Keeping frames: the refusals against the record, and the vault's own broadcasts in its own row.
+// Keeping frames where the record's bytes lie: the refusals against the record, and frames put into the rows of their senders.
 use frame::Body;
 use frame::Frame;
 use frame::Report;
-use record::Record;
+use frame::Reports;
 ghost use mathlib.Core.Path.{_≡_};
 ghost use mathlib.Core.Bool.{true};
-ghost use Prim.Native.Nat.{_<_};
+ghost use Prim.Native.Nat.{_≤_, _<_};
+ghost use lib.ListN.{length};
 ghost use Rattle.frame.specs.Format.{fits};
 ghost use Rattle.frame.specs.Refusal.{first};
-ghost use Rattle.record.specs.Slots.{slotIn, Arrays, Place};
-ghost use Rattle.kept.specs.Kept.{planOf};
+ghost use Rattle.record.specs.Slots.{rows, slotOf, Place};
+ghost use Rattle.layout.specs.Layout.{recordSize, decodeRecord, Holds};
+ghost use Rattle.keeping.specs.Kept.{planOf, withReports, keepFrame};
 ghost use Rattle.keeping.specs.Keeping.{stale, outdone, keepRows, moves, shifted, ownBroadcast};
 
 fn is_stale(current: u32, kind: u8, view: u32) -> bool
@@ -34,26 +36,63 @@ fn is_outdone(slot: Report, view: u32) -> bool
 }
 
 // Refusals 16 and 17, of a frame's sender, kind and view against the record; 0 where neither is given.
-pub fn keep_refusal<'a>(
-    marks: &'a [u8],
-    views: &'a [u32],
-    plans: &'a [u64],
-    current: u32,
-    sender: u8,
-    kind: u8,
-    view: u32,
-) -> u8
-    requires { ⌜ Place kind sender × Arrays (now marks) (now views) (now plans) ⌝ }
-    ensures { λ r. ⌜ r ≡ first (keepRows (slotIn (now (marks .entry)) (now (views .entry)) (now (plans .entry))) current sender kind view) ⌝ }
+pub fn keep_refusal(rec: &[u8], current: u32, sender: u8, kind: u8, view: u32) -> u8
+    requires { ⌜ Place kind sender × (length (now rec) ≡ recordSize) ⌝ }
+    ensures { λ r. ⌜ r ≡ first (keepRows (slotOf (decodeRecord (now (rec .entry)))) current sender kind view) ⌝ }
 {
     if is_stale(current, kind, view) {
         return 16;
     }
-    let at = record::frame_slot(kind, sender);
-    if is_outdone(record::slot_in(marks, views, plans, at), view) {
+    let at = layout::frame_slot(kind, sender);
+    if is_outdone(layout::slot_of(rec, at), view) {
         return 17;
     }
     0
+}
+
+// Puts three reports into the places of a kind and a sender.
+fn put_reports(rec: &mut [u8], kind: u8, sender: u8, t: Reports)
+    requires { ⌜ (7 ≤ kind) × Place kind sender × (length (now rec) ≡ recordSize) ⌝ }
+    ensures { λ _. ⌜ Holds (now (rec .exit)) (withReports (decodeRecord (now (rec .entry))) kind sender t) ⌝ }
+{
+    let first = layout::report_slot(kind, 0, sender);
+    let highest = t.highest;
+    let previous = t.previous;
+    let lock = t.lock;
+    layout::put_slot(rec, first, highest);
+    layout::put_slot(rec, first + layout::ROWS, previous);
+    layout::put_slot(rec, first + 2 * layout::ROWS, lock);
+}
+
+// The plan that a frame's own slot holds.
+fn plan_of(body: Body) -> u64
+    ensures { λ p. ⌜ p ≡ planOf body ⌝ }
+{
+    match body {
+        Body::Plan(plan) => plan,
+        Body::Empty => 0,
+        Body::Told(_) => 0,
+    }
+}
+
+// Puts a frame into a sender's row.
+pub fn keep(rec: &mut [u8], sender: u8, f: Frame)
+    requires { ⌜ (fits (f .kind) (f .body) ≡ true) × (sender < rows) × (length (now rec) ≡ recordSize) ⌝ }
+    ensures { λ _. ⌜ Holds (now (rec .exit)) (keepFrame (decodeRecord (now (rec .entry))) sender f) ⌝ }
+{
+    let at = layout::frame_slot(f.kind, sender);
+    let body = f.body;
+    let head = Report {
+        mark: 1,
+        view: f.view,
+        plan: plan_of(body),
+    };
+    layout::put_slot(rec, at, head);
+    match body {
+        Body::Plan(_) => return,
+        Body::Empty => return,
+        Body::Told(t) => put_reports(rec, f.kind, sender, t),
+    }
 }
 
 // A new vote of a kind for a plan moves the kept one to the previous one.
@@ -72,36 +111,27 @@ fn vote_moves(slot: Report, kind: u8, plan: u64) -> bool
     slot.plan != plan
 }
 
-// The record with the own kept vote moved to the previous one, where a new vote of that kind for a plan moves it.
-fn shift(r: Record, kind: u8, plan: u64) -> Record
-    requires { ⌜ Place kind (r .id) ⌝ }
-    ensures { λ s. ⌜ s ≡ shifted r kind plan ⌝ }
+// Moves the own kept vote to the previous one, where a new vote of that kind for a plan moves it.
+fn shift(rec: &mut [u8], id: u8, kind: u8, plan: u64)
+    requires { ⌜ Place kind id × (id ≡ decodeRecord (now rec) .set .id) × (length (now rec) ≡ recordSize) ⌝ }
+    ensures { λ _. ⌜ Holds (now (rec .exit)) (shifted (decodeRecord (now (rec .entry))) kind plan) ⌝ }
 {
-    let at = record::frame_slot(kind, r.id);
-    let slot = record::slot_in(&r.marks, &r.views, &r.plans, at);
+    let at = layout::frame_slot(kind, id);
+    let slot = layout::slot_of(rec, at);
     if !vote_moves(slot, kind, plan) {
-        return r;
+        return;
     }
-    let before = record::previous_slot(kind);
-    r.with_slot(before, slot)
+    let before = layout::previous_slot(kind);
+    layout::put_slot(rec, before, slot);
 }
 
-fn plan_of(body: Body) -> u64
-    ensures { λ p. ⌜ p ≡ planOf body ⌝ }
-{
-    match body {
-        Body::Plan(plan) => plan,
-        Body::Empty => 0,
-        Body::Told(_) => 0,
-    }
-}
-
-// The record after the vault's own broadcast of a frame.
-pub fn own_broadcast(r: Record, f: Frame) -> Record
-    requires { ⌜ (fits (f .kind) (f .body) ≡ true) × (r .id < 64) ⌝ }
-    ensures { λ s. ⌜ s ≡ ownBroadcast r f ⌝ }
+// Puts a frame that the vault itself broadcasts into its own row, and the kept vote that it moves to the previous one.
+pub fn own_broadcast(rec: &mut [u8], id: u8, f: Frame)
+    requires { ⌜ (fits (f .kind) (f .body) ≡ true) × (id < rows) × (id ≡ decodeRecord (now rec) .set .id) × (length (now rec) ≡ recordSize) ⌝ }
+    ensures { λ _. ⌜ Holds (now (rec .exit)) (ownBroadcast (decodeRecord (now (rec .entry))) f) ⌝ }
 {
     let body = f.body;
     let plan = plan_of(body);
-    kept::keep(shift(r, f.kind, plan), r.id, f)
+    shift(rec, id, f.kind, plan);
+    keep(rec, id, f);
 }

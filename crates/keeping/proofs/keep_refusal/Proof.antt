@@ -3,7 +3,8 @@
 use mathlib.Core.Path.{ap, sym, _∙_}
 use Rattle.frame.specs.declared.Report.{Report}
 use Rattle.frame.proofs.Laws.{told}
-use Rattle.record.specs.Slots.{slotIn}
+use Rattle.record.specs.Slots.{slotOf}
+use Rattle.layout.specs.Layout.{decodeRecord}
 use Rattle.keeping.specs.Keeping.{outdone}
 use Rattle.keeping.proofs.Laws.{refused-stale, refused-outdone, taken}
 use borrow.Author.Needs.{needs}
@@ -15,38 +16,34 @@ is-stale-requires c κs = search needs
 
 returns : tie.Need-returns
 returns c =
-    let a = c .before .before .before .before .before .args in
-    sym (refused-stale (slotIn (a .marks .now) (a .views .now) (a .plans .now)) (a .current) (a .sender) (a .kind) (a .view)
+    let a = c .before .before .before .args in
+    sym (refused-stale (slotOf (decodeRecord (a .rec .now))) (a .current) (a .sender) (a .kind) (a .view)
     (told (c .before .is-stale .ensures) (c .if1 .taken)))
 
 frame-slot-requires : tie.Need-frame-slot-requires
 frame-slot-requires c κs = search needs
 
-slot-in-requires : tie.Need-slot-in-requires
-slot-in-requires c κs = search needs
+slot-of-requires : tie.Need-slot-of-requires
+slot-of-requires c κs = search needs
 
 is-outdone-requires : tie.Need-is-outdone-requires
 is-outdone-requires c κs = search needs
 
 returns-2 : tie.Need-returns-2
 returns-2 c =
-    let a = c .before .before .before .before .before .before .before .before .before .args in
-    sym (refused-outdone (slotIn (a .marks .now) (a .views .now) (a .plans .now)) (a .current) (a .sender) (a .kind) (a .view)
+    let a = c .before .before .before .before .before .before .before .args in
+    let slot = c .before .before .slot-of .ensures ∙ ap (slotOf (decodeRecord (a .rec .now))) (c .before .before .before .frame-slot .ensures .0) in
+    sym (refused-outdone (slotOf (decodeRecord (a .rec .now))) (a .current) (a .sender) (a .kind) (a .view)
     (told (c .before .before .before .before .before .is-stale .ensures) (c .before .before .before .before .if1 .left))
-    (told (c .before .is-outdone .ensures
-    ∙ ap (λ (x : Report). outdone x (a .view))
-    (c .before .before .slot-in .ensures
-    ∙ ap (slotIn (a .marks .now) (a .views .now) (a .plans .now)) (c .before .before .before .frame-slot .ensures .0))) (c .if2 .taken)))
+    (told (c .before .is-outdone .ensures ∙ ap (λ (x : Report). outdone x (a .view)) slot) (c .if2 .taken)))
 
 returns-3 : tie.Need-returns-3
 returns-3 c =
-    let a = c .before .before .before .before .before .before .before .before .before .args in
-    sym (taken (slotIn (a .marks .now) (a .views .now) (a .plans .now)) (a .current) (a .sender) (a .kind) (a .view)
+    let a = c .before .before .before .before .before .before .before .args in
+    let slot = c .before .before .slot-of .ensures ∙ ap (slotOf (decodeRecord (a .rec .now))) (c .before .before .before .frame-slot .ensures .0) in
+    sym (taken (slotOf (decodeRecord (a .rec .now))) (a .current) (a .sender) (a .kind) (a .view)
     (told (c .before .before .before .before .before .is-stale .ensures) (c .before .before .before .before .if1 .left))
-    (told (c .before .is-outdone .ensures
-    ∙ ap (λ (x : Report). outdone x (a .view))
-    (c .before .before .slot-in .ensures
-    ∙ ap (slotIn (a .marks .now) (a .views .now) (a .plans .now)) (c .before .before .before .frame-slot .ensures .0))) (c .if2 .left)))
+    (told (c .before .is-outdone .ensures ∙ ap (λ (x : Report). outdone x (a .view)) slot) (c .if2 .left)))
 
 pub keep-refusal-spec : {M : Type 1} → statement M
 keep-refusal-spec =
@@ -55,7 +52,7 @@ keep-refusal-spec =
     is-stale-requires
     returns
     frame-slot-requires
-    slot-in-requires
+    slot-of-requires
     is-outdone-requires
     returns-2
     returns-3)

@@ -1,10 +1,7 @@
 -- `keeping::own_broadcast` meets its contract: the previous vote, then the frame.
 -- Assumes nothing.
-use mathlib.Core.Path.{ap, _∙_}
-use Rattle.record.specs.declared.Record.{Record}
-use Rattle.kept.specs.Kept.{keepFrame}
-use Rattle.kept.proofs.Forms.{fits-kind}
-use Rattle.keeping.specs.Keeping.{shifted, ownBroadcast}
+use Rattle.keeping.proofs.Forms.{fitsKind}
+use Rattle.keeping.proofs.Put.{heldBroadcast}
 use borrow.Author.Needs.{needs}
 use Rattle.keeping.proofs.own_broadcast.Statement.{statement}
 use Rattle.keeping.proofs.own_broadcast.Tie as tie
@@ -14,19 +11,22 @@ plan-of-requires c κs = search needs
 
 shift-requires : tie.Need-shift-requires
 shift-requires c κs =
-    let s = c .before in
-    let h = fits-kind (s .args .f .kind) (s .args .f .body) (s .pre .0) in
-    record { low = h .0; high = h .1; row = s .pre .1 }
+    let s = c .before .before .before in
+    let h = fitsKind (s .args .f .kind) (s .args .f .body) (s .pre .0) in
+    (record { low = h .0; high = h .1; row = s .pre .1 }, s .pre .2, s .pre .3)
 
 keep-requires : tie.Need-keep-requires
 keep-requires c κs = search needs
 
+same-length : tie.Need-same-length
+same-length c = search needs
+
 returns : tie.Need-returns
-unfolding ownBroadcast
 returns c =
-    let a = c .before .before .before .args in
-    c .keep .ensures
-    ∙ ap (λ (x : Record). keepFrame x (a .r .id) (a .f)) (c .before .shift .ensures ∙ ap (shifted (a .r) (a .f .kind)) (c .before .before .plan-of .ensures))
+    let k = c .before .before .before .before .before .before in
+    let s = k .before .before .before .before in
+    heldBroadcast _ _ (s .args .f) (s .pre .2) (k .before .before .plan-of .ensures) (k .shift .ensures) (c .before .before .keep .ensures)
 
 pub own-broadcast-spec : {M : Type 1} → statement M
-own-broadcast-spec = tie.close (tie.spec plan-of-requires shift-requires keep-requires returns)
+own-broadcast-spec =
+    tie.close (tie.spec plan-of-requires shift-requires keep-requires same-length returns)

@@ -1,0 +1,61 @@
+-- Bytes that hold a record, through calls that put one slot after another.
+-- Assumes nothing.
+use Prim.Native.Nat.{ℕ}
+use mathlib.Core.Path.{_≡_, ap, sym, _∙_}
+use mathlib.Core.List.{List}
+use Rattle.frame.specs.declared.Reports.{Reports}
+use Rattle.frame.specs.declared.Body.{Body}
+use Rattle.frame.specs.declared.Body.the-variants.{Plan, Empty, Told}
+use Rattle.frame.specs.declared.Frame.{Frame}
+use Rattle.record.specs.Slots.{Record, frameSlot, reportSlot, withSlot}
+use Rattle.layout.specs.Layout.{decodeRecord, Holds}
+use Rattle.keeping.specs.Kept.{planOf, headSlot, withReports, withBody, keepFrame}
+use Rattle.keeping.specs.Keeping.{shifted, ownBroadcast}
+
+-- the same bytes hold an equal record
+pub heldAs : {o : List ℕ} {r s : Record} → Holds o r → r ≡ s → Holds o s
+heldAs h e = record { size = h .size; is = h .is ∙ e }
+
+-- three reports, one after the other
+pub heldReports : (o o₁ o₂ o₃ : List ℕ) {a b c : ℕ} (kind sender : ℕ) (t : Reports)
+    → a ≡ reportSlot kind 0 sender → b ≡ reportSlot kind 1 sender → c ≡ reportSlot kind 2 sender
+    → Holds o₁ (withSlot (decodeRecord o) a (t .highest)) → Holds o₂ (withSlot (decodeRecord o₁) b (t .previous))
+    → Holds o₃ (withSlot (decodeRecord o₂) c (t .lock))
+    → Holds o₃ (withReports (decodeRecord o) kind sender t)
+unfolding withReports
+heldReports o o₁ o₂ o₃ {a} {b} {c} kind sender t ea eb ec x y z =
+    let h = t .highest in
+    let p = t .previous in
+    let l = t .lock in
+    let ex = x .is in
+    let ey = y .is in
+    heldAs z ((λ i. withSlot (ey i) c l) ∙ (λ i. withSlot (withSlot (ex i) b p) c l)
+    ∙ (λ i. withSlot (withSlot (withSlot (decodeRecord o) (ea i) h) (eb i) p) (ec i) l))
+
+-- a frame's head, and the reports that follow it where there are some
+module _ (o o₁ : List ℕ) (sender : ℕ) (f : Frame) {at plan : ℕ} (e : at ≡ frameSlot (f .kind) sender) (p : plan ≡ planOf (f .body))
+    (h : Holds o₁ (withSlot (decodeRecord o) at (record { mark = 1; view = f .view; plan = plan }))) where
+  head : decodeRecord o₁ ≡ withSlot (decodeRecord o) (frameSlot (f .kind) sender) (headSlot f)
+  head = h .is ∙ (λ i. withSlot (decodeRecord o) (e i) (record { mark = 1; view = f .view; plan = p i }))
+
+  kept : {b : Body} → f .body ≡ b → withBody (decodeRecord o₁) (f .kind) sender b ≡ keepFrame (decodeRecord o) sender f
+  unfolding keepFrame
+  kept g = let d = sym g in λ i. withBody (head i) (f .kind) sender (d i)
+
+  pub heldPlan : {q : ℕ} → f .body ≡ Plan q → Holds o₁ (keepFrame (decodeRecord o) sender f)
+  heldPlan g = record { size = h .size; is = kept g }
+
+  pub heldBare : f .body ≡ Empty → Holds o₁ (keepFrame (decodeRecord o) sender f)
+  heldBare g = record { size = h .size; is = kept g }
+
+  pub heldTold : {o₂ : List ℕ} {t : Reports} → f .body ≡ Told t → Holds o₂ (withReports (decodeRecord o₁) (f .kind) sender t)
+      → Holds o₂ (keepFrame (decodeRecord o) sender f)
+  heldTold g x = heldAs x (kept g)
+
+pub heldBroadcast : (o o₁ : List ℕ) (f : Frame) {o₂ : List ℕ} {id plan : ℕ} → id ≡ decodeRecord o .set .id → plan ≡ planOf (f .body)
+    → Holds o₁ (shifted (decodeRecord o) (f .kind) plan) → Holds o₂ (keepFrame (decodeRecord o₁) id f)
+    → Holds o₂ (ownBroadcast (decodeRecord o) f)
+unfolding ownBroadcast
+heldBroadcast o o₁ f e p x y =
+    let ex = x .is in
+    heldAs y (λ i. keepFrame ((ex ∙ ap (shifted (decodeRecord o) (f .kind)) p) i) (e i) f)
