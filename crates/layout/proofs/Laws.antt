@@ -11,13 +11,13 @@ use native.Mathlib.Nat.{add-assoc}
 use native.Mathlib.Omega.{arith}
 use lib.Dec.{ltb, eqb}
 use borrow.Author.Tests.{ltb-true, ltb-false, lt-ltb, le-ltb, eqb-true, eqb-false}
-use lib.ListN.{length, getD, take, drop, length-append}
+use lib.ListN.{length, getD, take, drop, set, length-append}
 use lib.Seq.{sets, length-sets, length-take-le, getD-append-seam}
 use Rattle.wire.specs.Digits.{numberAt, digits}
 use Rattle.wire.specs.Fields.{Bytes}
 use Rattle.wire.specs.Placed.{placed}
 use Rattle.wire.proofs.Laws.{number-digits, length-digits, number-below}
-use Rattle.wire.proofs.Output.{length-placed, placed-sets}
+use Rattle.wire.proofs.Output.{length-placed, placed-sets, placed-more, placed-next}
 use Rattle.frame.specs.declared.Report.{Report}
 use Rattle.settings.specs.declared.Settings.{Settings}
 use Rattle.record.specs.Slots.{rows, slotCount, emptySlot, slotPut, withSlot, withView, fresh}
@@ -148,6 +148,16 @@ unfolding placed
 slotPutAt s at x room z =
     let t : List ℕ = drop (at + length (slotBytes x)) s in
     ap (slotIn (take at s ++ (slotBytes x ++ t))) (sym (length-take-le at s (omega arith))) ∙ slotSpelt x (take at s) t z
+
+-- one byte stored and two numbers put behind it
+pub slotStores : (s : List ℕ) (at : ℕ) (x : Report) → at < length s
+    → placed (placed (set s at (x .mark)) (at + 1) (digits 4 (x .view))) (at + 5) (digits 8 (x .plan)) ≡ placed s at (slotBytes x)
+slotStores s at x h =
+    let a : List ℕ = x .mark ∷ digits 4 (x .view) in
+    let b : List ℕ = digits 8 (x .plan) in
+    ap (λ (l : List ℕ). placed l (at + 5) b) (placed-next s at (x .mark) (digits 4 (x .view)) h)
+    ∙ ap (λ (n : ℕ). placed (placed s at a) (at + suc n) b) (sym (length-digits 4 (x .view)))
+    ∙ placed-more s at a b (omega arith)
 
 pub putSize : (s : List ℕ) (at : ℕ) (x : Report) → at + slotSize ≤ length s → length (placed s at (slotBytes x)) ≡ length s
 putSize s at x room = length-placed s at (slotBytes x) (rw (lengthSlot x) room)
