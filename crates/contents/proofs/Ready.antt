@@ -11,7 +11,8 @@ use Rattle.settings.specs.Settings.{settingRows, Allowed}
 use Rattle.settings.proofs.Allowed.{allowed}
 use Rattle.record.specs.Slots as slots
 use Rattle.record.specs.Slots.{rows}
-use Rattle.layout.specs.Layout.{decodeRecord, Holds}
+use Rattle.layout.specs.Layout.{encodeRecord, decodeRecord, Holds}
+use Rattle.layout.proofs.Theorems.{encodeDecode}
 use Rattle.sound.specs.declared.Lent.the-variants as lent
 use Rattle.sound.specs.Sound.{lentIs}
 use Rattle.sound.proofs.Laws.{lent-other}
@@ -73,3 +74,13 @@ pub lentReady : {rec : List ℕ} → Ready rec → lentIs rec ≡ lent.Sound
 lentReady {rec} h =
     lent-other rec (h .size) (λ (e : decodeRecord rec .set .n ≡ 0). omega (arith, readyAllowed h .own))
     ∙ ap (λ (b : Bool). cond b lent.Sound lent.Unsound) (soundContents (decodeRecord rec) (h .clean) (h .sound))
+
+-- ---- bytes that are ready are those that their contents spell
+
+module _ {s : List ℕ} (h : Ready s) (bytes : Bytes s) where
+  pub readyEncoded : encodeRecord (slotted (contentsIn s)) ≡ s
+  readyEncoded = ap encodeRecord (readySlotted h) ∙ encodeDecode s bytes (h .size)
+
+  -- The same where the contents are known as c.
+  pub readySpells : {c : Record} → contentsIn s ≡ c → s ≡ encodeRecord (slotted c)
+  readySpells e = sym readyEncoded ∙ ap (λ (c : Record). encodeRecord (slotted c)) e

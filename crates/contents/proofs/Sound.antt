@@ -24,24 +24,26 @@ use Rattle.settings.specs.declared.Settings.{Settings}
 use Rattle.record.specs.Slots as slots
 use Rattle.record.specs.Slots.{rows, kinds, frameSlot, previousSlot, decisionSlot, slotOf}
 use Rattle.layout.specs.Layout as layout
-use Rattle.layout.specs.Layout.{recordSize, decodeRecord}
+use Rattle.layout.specs.Layout.{recordSize, encodeRecord, decodeRecord}
 use Rattle.layout.proofs.Laws.{fitsDecoded}
+use Rattle.layout.proofs.Theorems.{decodeEncode, encodeSize}
 use Rattle.keeping.specs.Kept.{frameIn, keptFrame}
 use Rattle.keeping.proofs.Forms.{keptThere, keptNothing}
 use Rattle.sound.specs.declared.Lent.the-variants as lent
 use Rattle.sound.specs.Sound.{emptyAt, noPlan, ahead, frameSound, placeSound, kindSound, rowsSound, stands, previousSound, votesSound, soundIn, sound, lentIs}
-use Rattle.sound.proofs.Laws.{place-empty, place-frame}
+use Rattle.sound.proofs.Laws.{place-empty, place-frame, lent-other}
 use Rattle.protocol.specs.Record.{Record, spelt, voteOf}
 use Rattle.protocol.specs.Pass.{hasPrevious}
 use Rattle.settings.specs.Settings.{settingRows}
 use Rattle.protocol.specs.Sound.{InRow, Sound, Ranged}
 use Rattle.protocol.proofs.Tables.{whenSome}
 use Rattle.protocol.proofs.Sound.{idBelow, sizeBelow}
-use Rattle.contents.specs.Contents.{keptOf, contents, headOf, Clean}
+use Rattle.contents.specs.Contents.{keptOf, contents, headOf, slotted, Clean}
 use Rattle.contents.proofs.Kept.{previousBounds}
 use Rattle.contents.proofs.Clean.{keptAt, cleanOf, filledOf}
 use Rattle.contents.proofs.Acts.{voteSpelt, previousSpelt}
-use Rattle.contents.proofs.Widths.{rangedFits}
+use Rattle.contents.proofs.Slotted.{Placed, contentsSlotted, cleanSlotted}
+use Rattle.contents.proofs.Widths.{rangedFits, fitsSlotted}
 use Rattle.contents.proofs.Tests.{allAt, allOf, formedIs, formedOf, Held, planOnly, heldThere, heldNot, emptyOf, validIn}
 
 -- ---- a kept frame
@@ -323,3 +325,26 @@ soundRead rec bytes e =
     let given = soundOnly (eqb (length rec) recordSize) (eqb (decodeRecord rec .set .n) 0) (sound (decodeRecord rec)) e .1 in
     let fit = fitsDecoded rec bytes in
     (cleanSound (decodeRecord rec) fit given, contentsSound (decodeRecord rec) fit given, rangedFits (decodeRecord rec) fit)
+
+-- ---- what is written and lent again
+
+module _ (c : Record) (held : Sound c) (ranged : Ranged c) (two : Placed c) where
+  pub decodedBack : decodeRecord (encodeRecord (slotted c)) ≡ slotted c
+  decodedBack = decodeEncode (slotted c) (fitsSlotted c held ranged)
+
+  pub heldBack : contents (decodeRecord (encodeRecord (slotted c))) ≡ c
+  heldBack = ap contents decodedBack ∙ contentsSlotted c held two
+
+  notBlank : decodeRecord (encodeRecord (slotted c)) .set .n ≡ 0 → ⊥
+  unfolding slotted
+  notBlank e =
+      let is : c .set .n ≡ 0 = sym (ap (λ (q : slots.Record). q .set .n) decodedBack) ∙ e in
+      omega (arith, idBelow (c .set) (held .settings))
+
+  soundBack : sound (slotted c) ≡ true
+  soundBack = soundContents (slotted c) (cleanSlotted c held) (subst Sound (sym (contentsSlotted c held two)) held)
+
+  pub lentBack : lentIs (encodeRecord (slotted c)) ≡ lent.Sound
+  lentBack =
+      lent-other (encodeRecord (slotted c)) (encodeSize (slotted c)) notBlank
+      ∙ ap (λ (b : Bool). cond b lent.Sound lent.Unsound) (ap sound decodedBack ∙ soundBack)
