@@ -1,7 +1,7 @@
 -- `layout::put_at` meets its contract: a byte stored and two numbers put behind it are the slot.
 -- Assumes nothing.
 use Prim.Native.Nat.{ℕ, _+_}
-use mathlib.Core.Path.{ap, _∙_}
+use mathlib.Core.Path.{_≡_, ap, _∙_}
 use mathlib.Core.List.{List}
 use native.Mathlib.Omega.{arith}
 use lib.ListN.{set, length-set}
@@ -40,9 +40,10 @@ returns c =
     let at = s .args .at in
     let x = s .args .slot in
     let first = c .before .before .before .before .before .before in
+    let view : first .put .last .0 ≡ placed (set o at (x .mark)) (at + 1) (digits 4 (first .before .wider .result)) = first .put .ensures in
     c .before .before .put2 .ensures
     ∙ ap (λ (l : List ℕ). placed l (at + 5) (digits 8 (x .plan)))
-    (first .put .ensures ∙ ap (λ (v : ℕ). placed (set o at (x .mark)) (at + 1) (digits 4 v)) (first .before .wider .ensures))
+    (view ∙ ap (λ (v : ℕ). placed (set o at (x .mark)) (at + 1) (digits 4 v)) (first .before .wider .ensures))
     ∙ slotStores o at x (omega arith)
 
 pub put-at-spec : {M : Type 1} → statement M
