@@ -18,19 +18,18 @@ use Rattle.frame.specs.declared.Frame.{Frame}
 use Rattle.frame.specs.Format.{within}
 use Rattle.frame.specs.Refusal.{present}
 use Rattle.frame.proofs.Laws.{inside}
-use Rattle.record.specs.declared.Record as slots
-use Rattle.record.specs.Slots.{frameSlot, previousSlot, slotOf, withSlot, withView, Sized}
-use Rattle.record.proofs.Slots.{sized-slot}
-use Rattle.kept.specs.Kept.{frameIn, keptIn, asOption, keepFrame}
+use Rattle.record.specs.Slots as slots
+use Rattle.record.specs.Slots.{rows, frameSlot, previousSlot, slotOf, withSlot, withView}
+use Rattle.keeping.specs.Kept.{frameIn, keptIn, keepFrame}
 use Rattle.keeping.specs.Keeping.{moves, shifted, ownBroadcast}
-use Rattle.kept.proofs.Forms.{body-plan, kept-there, kept-nothing}
+use Rattle.keeping.proofs.Forms.{bodyPlan, keptThere, keptNothing}
 use Rattle.protocol.specs.Record.{Record, changed, put, each, reported, spelt, voteBy, leads, voteOf, tells, changeFrame, voteFrame, reportFrame}
 use Rattle.protocol.specs.Pass.{ask, enter, cast, decide, shift, hasPrevious, does}
 use Rattle.protocol.specs.Pass as protocol
 use Rattle.protocol.specs.Calls.{keep}
 use Rattle.protocol.proofs.Tables.{putOwn}
 use Rattle.contents.specs.Contents.{contents, headOf, Clean}
-use Rattle.contents.proofs.Kept.{sizedKeep, contentsKeep, previousBounds}
+use Rattle.contents.proofs.Kept.{contentsKeep, previousBounds}
 use Rattle.contents.proofs.Clean.{keptAt, previousAt, filledOf, cleanKeep}
 use Rattle.contents.proofs.Parts.{contentsView, cleanView, cleanBeside, contentsPrevious, contentsDecide, decided}
 
@@ -60,18 +59,18 @@ module _ (s : ℕ → Report) (k j : ℕ) where
   reads : {b : Bool} → eqb (there .mark) 1 ≡ b → framed k j (cond b (some (record { view = there .view; plan = there .plan })) none) ≡ framed k j (reported there)
   reads e = ap (λ (b : Bool). framed k j (cond b (some (record { view = there .view; plan = there .plan })) none)) (sym e)
 
-  keptVote : k ≤ 4 → asOption (keptIn s (suc k) j) ≡ framed k j (reported there)
+  keptVote : k ≤ 4 → keptIn s (suc k) j ≡ framed k j (reported there)
   unfolding frameIn
   keptVote low = go (which (eqb (there .mark) 1))
     where
-      go : (eqb (there .mark) 1 ≡ true) ⊎ (eqb (there .mark) 1 ≡ false) → asOption (keptIn s (suc k) j) ≡ framed k j (reported there)
+      go : (eqb (there .mark) 1 ≡ true) ⊎ (eqb (there .mark) 1 ≡ false) → keptIn s (suc k) j ≡ framed k j (reported there)
       go (inl e) =
-          let b = body-plan s (suc k) j (omega arith) (omega arith) in
-          ap asOption (kept-there s (suc k) j (eqb-true (there .mark) 1 e))
+          let b = bodyPlan s (suc k) j (omega arith) (omega arith) in
+          keptThere s (suc k) j (eqb-true (there .mark) 1 e)
           ∙ (λ i. some (record { kind = suc k; sender = j; view = there .view; body = b i })) ∙ reads e
-      go (inr e) = ap asOption (kept-nothing s (suc k) j (eqb-false (there .mark) 1 e)) ∙ reads e
+      go (inr e) = keptNothing s (suc k) j (eqb-false (there .mark) 1 e) ∙ reads e
 
-module _ (r : slots.Record) (k j : ℕ) (low : k ≤ 4) (row : j < 64) where
+module _ (r : slots.Record) (k j : ℕ) (low : k ≤ 4) (row : j < rows) where
   -- The kept vote-k (k = 0: the proposal) is what its slot reports.
   pub voteAt : voteOf (contents r) k j ≡ reported (slotOf r (frameSlot (suc k) j))
   voteAt =
@@ -105,7 +104,7 @@ ofKind (suc (suc (suc k))) =
 
 module _ (r : slots.Record) (k p : ℕ) where
   abbrev own : Report
-  own = slotOf r (frameSlot (suc k) (r .id))
+  own = slotOf r (frameSlot (suc k) (r .set .id))
 
   -- The record with the own kept vote-k moved to the previous one, if it is to move.
   abbrev moved : Bool → slots.Record
@@ -120,87 +119,79 @@ module _ (r : slots.Record) (k p : ℕ) where
   vote : {m : Bool} → eqb (own .mark) 1 ≡ m → cond m (some (record { view = own .view; plan = own .plan })) none ≡ reported own
   vote e = ap (λ (b : Bool). cond b (some (record { view = own .view; plan = own .plan })) none) (sym e)
 
-  contentsMoved : Sized r → (h m e : Bool) → hasPrevious k ≡ h → eqb (own .mark) 1 ≡ m → eqb (own .plan) p ≡ e
+  contentsMoved : (h m e : Bool) → hasPrevious k ≡ h → eqb (own .mark) 1 ≡ m → eqb (own .plan) p ≡ e
       → contents (moved (h && (m && not e))) ≡ previously (shiftedBy h (cond m (some (record { view = own .view; plan = own .plan })) none))
-  contentsMoved z false m e has there same = refl
-  contentsMoved z true false e has there same = ap previously (sym (putOwn k (contents r .previous)))
-  contentsMoved z true true true has there same =
+  contentsMoved false m e has there same = refl
+  contentsMoved true false e has there same = ap previously (sym (putOwn k (contents r .previous)))
+  contentsMoved true true true has there same =
       ap previously (sym (putOwn k (contents r .previous)))
       ∙ ap (λ (b : Bool). previously (put k (cond b (contents r .previous k) (some (record { view = own .view; plan = own .plan }))) (contents r .previous))) (sym same)
-  contentsMoved z true true false has there same =
-      contentsPrevious r k own z has ∙ ap (λ (o : Option Vote). previously (put k o (contents r .previous))) (sym (vote there))
+  contentsMoved true true false has there same =
+      contentsPrevious r k own has ∙ ap (λ (o : Option Vote). previously (put k o (contents r .previous))) (sym (vote there))
       ∙ ap (λ (b : Bool). previously (put k (cond b (contents r .previous k) (some (record { view = own .view; plan = own .plan }))) (contents r .previous))) (sym same)
 
   -- 'a new vote for the same plan leaves previous alone'.
-  pub contentsShifted : Sized r → k ≤ 4 → r .id < 64 → contents (shifted r (suc k) p) ≡ previously (protocol.shifted (contents r) k p)
+  pub contentsShifted : k ≤ 4 → r .set .id < rows → contents (shifted r (suc k) p) ≡ previously (protocol.shifted (contents r) k p)
   unfolding shifted moves contents
-  contentsShifted z low row =
+  contentsShifted low row =
       ap (λ (b : Bool). contents (moved (b && (present own && not (eqb (own .plan) p))))) (ofKind k)
-      ∙ contentsMoved z (hasPrevious k) (eqb (own .mark) 1) (eqb (own .plan) p) refl refl refl
-      ∙ ap (λ (o : Option Vote). previously (shiftedBy (hasPrevious k) o)) (sym (voteAt r k (r .id) low row))
+      ∙ contentsMoved (hasPrevious k) (eqb (own .mark) 1) (eqb (own .plan) p) refl refl refl
+      ∙ ap (λ (o : Option Vote). previously (shiftedBy (hasPrevious k) o)) (sym (voteAt r k (r .set .id) low row))
 
-  pub sizedShifted : Sized r → Sized (shifted r (suc k) p)
-  unfolding shifted
-  sizedShifted z = go (moves own (suc k) p)
-    where
-      go : (b : Bool) → Sized (moved b)
-      go true = sized-slot r (previousSlot (suc k)) own z
-      go false = z
-
-  pub cleanShifted : Clean r → k ≤ 4 → r .id < 64 → Clean (shifted r (suc k) p)
+  pub cleanShifted : Clean r → k ≤ 4 → r .set .id < rows → Clean (shifted r (suc k) p)
   unfolding shifted moves
   cleanShifted h low row = rw (ofKind k) (go (hasPrevious k) (present own && not (eqb (own .plan) p)) refl)
     where
       go : (b c : Bool) → hasPrevious k ≡ b → Clean (moved (b && c))
       go true true has =
           let (l, m) = previousBounds k has in
-          cleanBeside r (previousSlot (suc k)) own (omega arith) h (omega arith) (slotVote r k (r .id) low row h)
+          cleanBeside r (previousSlot (suc k)) own (omega arith) h (omega arith) (slotVote r k (r .set .id) low row h)
       go true false has = h
       go false c has = h
 
 -- ---- the acts
 
 -- To vote, and to propose (k = 0).
-module _ (r : slots.Record) (k p : ℕ) (low : k ≤ 4) (row : r .id < 64) where
+module _ (r : slots.Record) (k p : ℕ) (low : k ≤ 4) (row : r .set .id < rows) where
   abbrev after : slots.Record
   after = shifted r (suc k) p
 
   fitsVote : within 1 5 (suc k) ≡ true
   fitsVote = inside 1 5 (suc k) (omega arith) (omega arith)
 
-  pub contentsCast : Sized r → contents (ownBroadcast r (voteFrame (contents r) k p)) ≡ does (contents r) (cast k p)
+  pub contentsCast : contents (ownBroadcast r (voteFrame (contents r) k p)) ≡ does (contents r) (cast k p)
   unfolding ownBroadcast contents does keep
-  contentsCast z =
-      contentsKeep after (voteFrame (contents r) k p) refl (sizedShifted r k p z) row fitsVote
-      ∙ ap (keep (voteFrame (contents r) k p)) (contentsShifted r k p z low row)
+  contentsCast =
+      contentsKeep after (voteFrame (contents r) k p) refl row fitsVote
+      ∙ ap (keep (voteFrame (contents r) k p)) (contentsShifted r k p low row)
 
   pub cleanCast : Clean r → Clean (ownBroadcast r (voteFrame (contents r) k p))
   unfolding ownBroadcast contents
   cleanCast h = cleanKeep after (voteFrame (contents r) k p) refl (cleanShifted r k p h low row) row fitsVote
 
 -- To ask for a view.
-module _ (r : slots.Record) (w : ℕ) (row : r .id < 64) where
-  pub contentsAsk : Sized r → contents (keepFrame r (r .id) (changeFrame (contents r) w)) ≡ does (contents r) (ask w)
+module _ (r : slots.Record) (w : ℕ) (row : r .set .id < rows) where
+  pub contentsAsk : contents (keepFrame r (r .set .id) (changeFrame (contents r) w)) ≡ does (contents r) (ask w)
   unfolding contents does keep
-  contentsAsk z = contentsKeep r (changeFrame (contents r) w) refl z row refl
+  contentsAsk = contentsKeep r (changeFrame (contents r) w) refl row refl
 
-  pub cleanAsk : Clean r → Clean (keepFrame r (r .id) (changeFrame (contents r) w))
+  pub cleanAsk : Clean r → Clean (keepFrame r (r .set .id) (changeFrame (contents r) w))
   unfolding contents
   cleanAsk h = cleanKeep r (changeFrame (contents r) w) refl h row refl
 
 -- The reports of the own votes are the slots that hold them.
-pub tellsAt : (r : slots.Record) (rule : Rule) → Clean r → r .id < 64
+pub tellsAt : (r : slots.Record) (rule : Rule) → Clean r → r .set .id < rows
     → tells (contents r) rule
     ≡ record {
-      highest = slotOf r (frameSlot (suc (claimVote rule)) (r .id));
+      highest = slotOf r (frameSlot (suc (claimVote rule)) (r .set .id));
       previous = slotOf r (previousSlot (suc (claimVote rule)));
-      lock = slotOf r (frameSlot (suc (lockVote rule)) (r .id));
+      lock = slotOf r (frameSlot (suc (lockVote rule)) (r .set .id));
     }
 unfolding contents
 tellsAt r rule h row = λ i. record {
-  highest = voteSpelt r (claimVote rule) (r .id) (claimLow rule) row h i;
+  highest = voteSpelt r (claimVote rule) (r .set .id) (claimLow rule) row h i;
   previous = previousSpelt r (claimVote rule) (claimPrevious rule) h i;
-  lock = voteSpelt r (lockVote rule) (r .id) (lockLow rule) row h i;
+  lock = voteSpelt r (lockVote rule) (r .set .id) (lockLow rule) row h i;
 }
   where
     claimLow : (rule : Rule) → claimVote rule ≤ 4
@@ -218,31 +209,27 @@ tellsAt r rule h row = λ i. record {
 -- To enter a view: its proof is kept, and its suggest where the vault leads it.
 module _ (r : slots.Record) (w : ℕ) where
   abbrev pub proved : slots.Record
-  proved = keepFrame (withView r w) (r .id) (reportFrame (contents r) rule3 w)
+  proved = keepFrame (withView r w) (r .set .id) (reportFrame (contents r) rule3 w)
 
   abbrev pub enteredBy : Bool → slots.Record
-  enteredBy true = keepFrame proved (r .id) (reportFrame (contents r) rule1 w)
+  enteredBy true = keepFrame proved (r .set .id) (reportFrame (contents r) rule1 w)
   enteredBy false = proved
 
-  sizedProved : Sized r → Sized proved
-  unfolding contents
-  sizedProved z = sizedKeep (withView r w) (reportFrame (contents r) rule3 w) refl z
-
-  contentsProved : Sized r → r .id < 64 → contents proved ≡ keep (reportFrame (contents r) rule3 w) (contents (withView r w))
+  contentsProved : r .set .id < rows → contents proved ≡ keep (reportFrame (contents r) rule3 w) (contents (withView r w))
   unfolding contents within
-  contentsProved z row = contentsKeep (withView r w) (reportFrame (contents r) rule3 w) refl z row refl
+  contentsProved row = contentsKeep (withView r w) (reportFrame (contents r) rule3 w) refl row refl
 
-  pub contentsEnter : Sized r → r .id < 64 → contents (enteredBy (leads (contents r) w)) ≡ does (contents r) (enter w)
+  pub contentsEnter : r .set .id < rows → contents (enteredBy (leads (contents r) w)) ≡ does (contents r) (enter w)
   unfolding contents does keep within
-  contentsEnter z row = go (leads (contents r) w)
+  contentsEnter row = go (leads (contents r) w)
     where
       go : (b : Bool) → contents (enteredBy b) ≡ changed (contents r) w (protocol.entered (contents r) w b) (contents r .previous) (contents r .decision)
       go true =
-          contentsKeep proved (reportFrame (contents r) rule1 w) refl (sizedProved z) row refl
-          ∙ ap (keep (reportFrame (contents r) rule1 w)) (contentsProved z row ∙ ap (keep (reportFrame (contents r) rule3 w)) (contentsView r w))
-      go false = contentsProved z row ∙ ap (keep (reportFrame (contents r) rule3 w)) (contentsView r w)
+          contentsKeep proved (reportFrame (contents r) rule1 w) refl row refl
+          ∙ ap (keep (reportFrame (contents r) rule1 w)) (contentsProved row ∙ ap (keep (reportFrame (contents r) rule3 w)) (contentsView r w))
+      go false = contentsProved row ∙ ap (keep (reportFrame (contents r) rule3 w)) (contentsView r w)
 
-  pub cleanEnter : Clean r → r .id < 64 → (b : Bool) → Clean (enteredBy b)
+  pub cleanEnter : Clean r → r .set .id < rows → (b : Bool) → Clean (enteredBy b)
   unfolding contents within
   cleanEnter h row = go
     where
@@ -254,6 +241,6 @@ module _ (r : slots.Record) (w : ℕ) where
       go false = first
 
 -- To decide.
-pub contentsDecided : (r : slots.Record) (p : ℕ) → Sized r → contents (decided r (r .view) p) ≡ does (contents r) (decide p)
+pub contentsDecided : (r : slots.Record) (p : ℕ) → contents (decided r (r .view) p) ≡ does (contents r) (decide p)
 unfolding contents does
-contentsDecided r p z = contentsDecide r (r .view) p z
+contentsDecided r p = contentsDecide r (r .view) p

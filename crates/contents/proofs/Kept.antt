@@ -18,30 +18,30 @@ use Rattle.frame.specs.declared.Body.the-variants.{Plan, Empty, Told}
 use Rattle.frame.specs.declared.Frame.{Frame}
 use Rattle.frame.specs.Format.{within, fits}
 use Rattle.frame.proofs.Laws.{Form, plan, bare, reports, form, inside, bounds}
-use Rattle.record.specs.declared.Record as slots
-use Rattle.record.specs.Slots.{frameSlot, reportSlot, previousSlot, decisionSlot, slotOf, withSlot, Sized}
-use Rattle.record.proofs.Slots.{slot-same, slot-other, sized-slot}
-use Rattle.kept.specs.Kept.{bodyIn, frameIn, keptIn, asOption, planOf, headSlot, withReports, withBody, keepFrame}
-use Rattle.kept.proofs.Forms.{body-plan, body-bare, body-reports, kept-there, fits-kind}
+use Rattle.record.specs.Slots as slots
+use Rattle.record.specs.Slots.{rows, kinds, firstPrevious, frameSlot, reportSlot, previousSlot, decisionSlot, slotOf, withSlot}
+use Rattle.record.proofs.Slots.{slotSame, slotOther}
+use Rattle.keeping.specs.Kept.{bodyIn, frameIn, keptIn, planOf, headSlot, withReports, withBody, keepFrame}
+use Rattle.keeping.proofs.Forms.{bodyPlan, bodyBare, bodyReports, keptThere, fitsKind}
 use Rattle.protocol.specs.Record.{when, reported, keeping}
 use Rattle.protocol.specs.Pass.{hasPrevious}
 use Rattle.protocol.specs.Calls.{keep}
-use Rattle.contents.specs.Contents.{settingsOf, keptOf, previousOf, contents, nth, toldBy}
+use Rattle.contents.specs.Contents.{keptOf, previousOf, contents, nth, toldBy}
 
 -- ---- what slots hold
 
 -- Slots that agree at the places of a kind and a sender hold the same there.
 module _ (s t : ℕ → Report) (k j : ℕ) (head : s (frameSlot k j) ≡ t (frameSlot k j)) (told : (w : ℕ) → w < 3 → 7 ≤ k → s (reportSlot k w j) ≡ t (reportSlot k w j)) where
   bodySame : Form k → bodyIn s k j ≡ bodyIn t k j
-  bodySame (plan low high) = body-plan s k j low high ∙ ap (λ (x : Report). Plan (x .plan)) head ∙ sym (body-plan t k j low high)
-  bodySame (bare e) = body-bare s k j e ∙ sym (body-bare t k j e)
+  bodySame (plan low high) = bodyPlan s k j low high ∙ ap (λ (x : Report). Plan (x .plan)) head ∙ sym (bodyPlan t k j low high)
+  bodySame (bare e) = bodyBare s k j e ∙ sym (bodyBare t k j e)
   bodySame (reports low high) =
       let e₀ = told 0 (omega arith) low in
       let e₁ = told 1 (omega arith) low in
       let e₂ = told 2 (omega arith) low in
-      body-reports s k j low ∙ (λ i. Told (record { highest = e₀ i; previous = e₁ i; lock = e₂ i })) ∙ sym (body-reports t k j low)
+      bodyReports s k j low ∙ (λ i. Told (record { highest = e₀ i; previous = e₁ i; lock = e₂ i })) ∙ sym (bodyReports t k j low)
 
-  pub keptSame : 1 ≤ k → k ≤ 8 → keptIn s k j ≡ keptIn t k j
+  pub keptSame : 1 ≤ k → k ≤ kinds → keptIn s k j ≡ keptIn t k j
   unfolding keptIn frameIn
   keptSame low high = rw (head, bodySame (form k low high))
 
@@ -54,21 +54,21 @@ module _ (s : ℕ → Report) (f : Frame) (fit : fits (f .kind) (f .body) ≡ tr
       go : (b : Body) → fits (f .kind) b ≡ true → s (frameSlot (f .kind) (f .sender)) .plan ≡ planOf b
           → ((w : ℕ) → w < 3 → 7 ≤ f .kind → s (reportSlot (f .kind) w (f .sender)) ≡ toldBy w b)
           → bodyIn s (f .kind) (f .sender) ≡ b
-      go (Plan p) fit head told = let (low, high) = bounds 1 5 (f .kind) fit in body-plan s (f .kind) (f .sender) low high ∙ ap Plan head
-      go Empty fit head told = body-bare s (f .kind) (f .sender) (eqb-true (f .kind) 6 fit)
+      go (Plan p) fit head told = let (low, high) = bounds 1 5 (f .kind) fit in bodyPlan s (f .kind) (f .sender) low high ∙ ap Plan head
+      go Empty fit head told = bodyBare s (f .kind) (f .sender) (eqb-true (f .kind) 6 fit)
       go (Told t) fit head told =
           let (low, high) = bounds 7 8 (f .kind) fit in
           let e₀ = told 0 (omega arith) low in
           let e₁ = told 1 (omega arith) low in
           let e₂ = told 2 (omega arith) low in
-          body-reports s (f .kind) (f .sender) low ∙ (λ i. Told (record { highest = e₀ i; previous = e₁ i; lock = e₂ i }))
+          bodyReports s (f .kind) (f .sender) low ∙ (λ i. Told (record { highest = e₀ i; previous = e₁ i; lock = e₂ i }))
 
-  pub keptIs : asOption (keptIn s (f .kind) (f .sender)) ≡ some f
+  pub keptIs : keptIn s (f .kind) (f .sender) ≡ some f
   unfolding frameIn
   keptIs =
       let v : s (frameSlot (f .kind) (f .sender)) .view ≡ f .view = ap (λ (x : Report). x .view) head in
       let b = bodyIs in
-      ap asOption (kept-there s (f .kind) (f .sender) (ap (λ (x : Report). x .mark) head))
+      keptThere s (f .kind) (f .sender) (ap (λ (x : Report). x .mark) head)
       ∙ (λ i. some (record { kind = f .kind; sender = f .sender; view = v i; body = b i }))
 
 -- ---- the slots of a record with a frame put into its sender's row
@@ -80,29 +80,25 @@ module _ (r : slots.Record) (k j : ℕ) (t : Reports) where
   abbrev two : slots.Record
   two = withSlot one (reportSlot k 1 j) (t .previous)
 
-  sizedReports : Sized r → Sized (withReports r k j t)
-  unfolding withReports
-  sizedReports z = sized-slot two (reportSlot k 2 j) (t .lock) (sized-slot one (reportSlot k 1 j) (t .previous) (sized-slot r (reportSlot k 0 j) (t .highest) z))
-
   reportsOther : (i : ℕ) → ((w : ℕ) → w < 3 → i ≢ reportSlot k w j) → slotOf (withReports r k j t) i ≡ slotOf r i
   unfolding withReports
   reportsOther i ne =
-      slot-other two (reportSlot k 2 j) (t .lock) i (ne 2 (omega arith))
-      ∙ slot-other one (reportSlot k 1 j) (t .previous) i (ne 1 (omega arith))
-      ∙ slot-other r (reportSlot k 0 j) (t .highest) i (ne 0 (omega arith))
+      slotOther two (reportSlot k 2 j) (t .lock) i (ne 2 (omega arith))
+      ∙ slotOther one (reportSlot k 1 j) (t .previous) i (ne 1 (omega arith))
+      ∙ slotOther r (reportSlot k 0 j) (t .highest) i (ne 0 (omega arith))
 
-  reportsThere : Sized r → 7 ≤ k → k ≤ 8 → j < 64 → (w : ℕ) → w < 3 → slotOf (withReports r k j t) (reportSlot k w j) ≡ nth w t
+  reportsThere : 7 ≤ k → k ≤ kinds → j < rows → (w : ℕ) → w < 3 → slotOf (withReports r k j t) (reportSlot k w j) ≡ nth w t
   unfolding withReports
-  reportsThere z low high row zero lw =
-      slot-other two (reportSlot k 2 j) (t .lock) (reportSlot k 0 j) (λ (e : reportSlot k 0 j ≡ reportSlot k 2 j). omega arith)
-      ∙ slot-other one (reportSlot k 1 j) (t .previous) (reportSlot k 0 j) (λ (e : reportSlot k 0 j ≡ reportSlot k 1 j). omega arith)
-      ∙ slot-same r (reportSlot k 0 j) (t .highest) z (omega arith)
-  reportsThere z low high row (suc zero) lw =
-      slot-other two (reportSlot k 2 j) (t .lock) (reportSlot k 1 j) (λ (e : reportSlot k 1 j ≡ reportSlot k 2 j). omega arith)
-      ∙ slot-same one (reportSlot k 1 j) (t .previous) (sized-slot r (reportSlot k 0 j) (t .highest) z) (omega arith)
-  reportsThere z low high row (suc (suc zero)) lw =
-      slot-same two (reportSlot k 2 j) (t .lock) (sized-slot one (reportSlot k 1 j) (t .previous) (sized-slot r (reportSlot k 0 j) (t .highest) z)) (omega arith)
-  reportsThere z low high row (suc (suc (suc w))) lw = absurd (omega arith)
+  reportsThere low high row zero lw =
+      slotOther two (reportSlot k 2 j) (t .lock) (reportSlot k 0 j) (λ (e : reportSlot k 0 j ≡ reportSlot k 2 j). omega arith)
+      ∙ slotOther one (reportSlot k 1 j) (t .previous) (reportSlot k 0 j) (λ (e : reportSlot k 0 j ≡ reportSlot k 1 j). omega arith)
+      ∙ slotSame r (reportSlot k 0 j) (t .highest)
+  reportsThere low high row (suc zero) lw =
+      slotOther two (reportSlot k 2 j) (t .lock) (reportSlot k 1 j) (λ (e : reportSlot k 1 j ≡ reportSlot k 2 j). omega arith)
+      ∙ slotSame one (reportSlot k 1 j) (t .previous)
+  reportsThere low high row (suc (suc zero)) lw =
+      slotSame two (reportSlot k 2 j) (t .lock)
+  reportsThere low high row (suc (suc (suc w))) lw = absurd (omega arith)
 
 -- Slots t are s with a head and a body put into the places of a kind and a sender.
 pub record Puts (k j : ℕ) (x : Report) (b : Body) (s t : ℕ → Report) : Type 0 where
@@ -114,18 +110,6 @@ module _ (r : slots.Record) (f : Frame) where
   abbrev headed : slots.Record
   headed = withSlot r (frameSlot (f .kind) (f .sender)) (headSlot f)
 
-  sizedHead : Sized r → Sized headed
-  sizedHead z = sized-slot r (frameSlot (f .kind) (f .sender)) (headSlot f) z
-
-  sizedRow : Sized r → Sized (keepFrame r (f .sender) f)
-  unfolding keepFrame
-  sizedRow z = go (f .body)
-    where
-      go : (b : Body) → Sized (withBody headed (f .kind) (f .sender) b)
-      go (Plan p) = sizedHead z
-      go Empty = sizedHead z
-      go (Told t) = sizedReports headed (f .kind) (f .sender) t (sizedHead z)
-
   -- What is not in slots stays.
   pub restKeep : {A : Type 0} (rest : slots.Record → A) → ((at : ℕ) (x : Report) (q : slots.Record) → rest (withSlot q at x) ≡ rest q) → rest (keepFrame r (f .sender) f) ≡ rest r
   unfolding keepFrame withReports
@@ -136,19 +120,19 @@ module _ (r : slots.Record) (f : Frame) where
       go Empty = same _ _ r
       go (Told t) = same _ _ (two headed (f .kind) (f .sender) t) ∙ same _ _ (one headed (f .kind) (f .sender) t) ∙ same _ _ headed ∙ same _ _ r
 
-  pub putsKeep : Sized r → f .sender < 64 → fits (f .kind) (f .body) ≡ true
+  pub putsKeep : f .sender < rows → fits (f .kind) (f .body) ≡ true
       → Puts (f .kind) (f .sender) (headSlot f) (f .body) (slotOf r) (slotOf (keepFrame r (f .sender) f))
   unfolding keepFrame
-  putsKeep z row fit = go (f .body) fit
+  putsKeep row fit = go (f .body) fit
     where
       here : slotOf headed (frameSlot (f .kind) (f .sender)) ≡ headSlot f
-      here = let (low, high) = fits-kind (f .kind) (f .body) fit in slot-same r (frameSlot (f .kind) (f .sender)) (headSlot f) z (omega arith)
+      here = slotSame r (frameSlot (f .kind) (f .sender)) (headSlot f)
 
       short : (b : Body) → f .kind < 7 → Puts (f .kind) (f .sender) (headSlot f) b (slotOf r) (slotOf headed)
       short b low = record {
         head = here;
         told = λ w lw high. absurd (omega arith);
-        other = λ i ne more. slot-other r (frameSlot (f .kind) (f .sender)) (headSlot f) i ne;
+        other = λ i ne more. slotOther r (frameSlot (f .kind) (f .sender)) (headSlot f) i ne;
       }
 
       go : (b : Body) → fits (f .kind) b ≡ true → Puts (f .kind) (f .sender) (headSlot f) b (slotOf r) (slotOf (withBody headed (f .kind) (f .sender) b))
@@ -158,9 +142,9 @@ module _ (r : slots.Record) (f : Frame) where
         head =
             reportsOther headed (f .kind) (f .sender) t (frameSlot (f .kind) (f .sender)) (λ w lw (e : frameSlot (f .kind) (f .sender) ≡ reportSlot (f .kind) w (f .sender)). omega arith)
             ∙ here;
-        told = λ w lw seven. reportsThere headed (f .kind) (f .sender) t (sizedHead z) low high row w lw;
+        told = λ w lw seven. reportsThere headed (f .kind) (f .sender) t low high row w lw;
         other = λ i ne more.
-            reportsOther headed (f .kind) (f .sender) t i (λ w lw. more w lw low) ∙ slot-other r (frameSlot (f .kind) (f .sender)) (headSlot f) i ne;
+            reportsOther headed (f .kind) (f .sender) t i (λ w lw. more w lw low) ∙ slotOther r (frameSlot (f .kind) (f .sender)) (headSlot f) i ne;
       }
 
 -- ---- the contents
@@ -181,29 +165,29 @@ previousBounds k h = go (either (eqb k 1) (eqb k 2) h)
     go (inl e) = let is : k ≡ 1 = eqb-true k 1 e in (omega arith, omega arith)
     go (inr e) = let is : k ≡ 2 = eqb-true k 2 e in (omega arith, omega arith)
 
-module _ (r : slots.Record) (f : Frame) (z : Sized r) (row : f .sender < 64) (fit : fits (f .kind) (f .body) ≡ true) where
+module _ (r : slots.Record) (f : Frame) (row : f .sender < rows) (fit : fits (f .kind) (f .body) ≡ true) where
   abbrev after : slots.Record
   after = keepFrame r (f .sender) f
 
   abbrev puts : Puts (f .kind) (f .sender) (headSlot f) (f .body) (slotOf r) (slotOf after)
-  puts = putsKeep r f z row fit
+  puts = putsKeep r f row fit
 
   -- The kind and the sender hold the frame.
-  pub keptThere : asOption (keptIn (slotOf after) (f .kind) (f .sender)) ≡ some f
-  keptThere = keptIs (slotOf after) f fit (puts .head) (puts .told)
+  pub keptPut : keptIn (slotOf after) (f .kind) (f .sender) ≡ some f
+  keptPut = keptIs (slotOf after) f fit (puts .head) (puts .told)
 
   -- The slots of another kind or sender are as they were, and so is what they hold.
-  module _ (k j : ℕ) (low : 1 ≤ k) (high : k ≤ 8) (below : j < 64) (ne : ¬ ((f .kind ≡ k) × (f .sender ≡ j))) where
+  module _ (k j : ℕ) (low : 1 ≤ k) (high : k ≤ kinds) (below : j < rows) (ne : ¬ ((f .kind ≡ k) × (f .sender ≡ j))) where
     pub headStays : slotOf after (frameSlot k j) ≡ slotOf r (frameSlot k j)
     headStays =
-        let (l, h) = fits-kind (f .kind) (f .body) fit in
+        let (l, h) = fitsKind (f .kind) (f .body) fit in
         puts .other (frameSlot k j)
         (λ (e : frameSlot k j ≡ frameSlot (f .kind) (f .sender)). ne (omega arith, omega arith))
         (λ w lw seven (e : frameSlot k j ≡ reportSlot (f .kind) w (f .sender)). omega arith)
 
     pub toldStays : (w : ℕ) → w < 3 → 7 ≤ k → slotOf after (reportSlot k w j) ≡ slotOf r (reportSlot k w j)
     toldStays w lw seven =
-        let (l, h) = fits-kind (f .kind) (f .body) fit in
+        let (l, h) = fitsKind (f .kind) (f .body) fit in
         puts .other (reportSlot k w j)
         (λ (e : reportSlot k w j ≡ frameSlot (f .kind) (f .sender)). omega arith)
         (λ w′ lw′ seven′ (e : reportSlot k w j ≡ reportSlot (f .kind) w′ (f .sender)). ne (omega arith, omega arith))
@@ -212,9 +196,9 @@ module _ (r : slots.Record) (f : Frame) (z : Sized r) (row : f .sender < 64) (fi
     keptStays = keptSame (slotOf after) (slotOf r) k j headStays toldStays low high
 
   -- Slots beyond those of kinds and senders are as they were.
-  pub farStays : (i : ℕ) → 896 ≤ i → slotOf after i ≡ slotOf r i
+  pub farStays : (i : ℕ) → firstPrevious ≤ i → slotOf after i ≡ slotOf r i
   farStays i far =
-      let (l, h) = fits-kind (f .kind) (f .body) fit in
+      let (l, h) = fitsKind (f .kind) (f .body) fit in
       puts .other i (λ (e : i ≡ frameSlot (f .kind) (f .sender)). omega arith) (λ w lw seven (e : i ≡ reportSlot (f .kind) w (f .sender)). omega arith)
 
   -- A kind and a sender that the record has slots for are the frame's own, or others.
@@ -229,11 +213,11 @@ module _ (r : slots.Record) (f : Frame) (z : Sized r) (row : f .sender < 64) (fi
   keptKeep : (k j : ℕ) → keptOf after k j ≡ keeping f (keptOf r) k j
   unfolding keptOf
   keptKeep k j = byPlace k j
-      (λ e ek ej. rw (e, ← ek, ← ej, inside 1 8 (f .kind) (fits-kind (f .kind) (f .body) fit .0) (fits-kind (f .kind) (f .body) fit .1), lt-ltb (f .sender) 64 row) keptThere)
-      (λ e ne. rw e (guarded (within 1 8 k && ltb j 64) (λ g.
-      let (gk, gj) = bothSplit (within 1 8 k) (ltb j 64) g in
-      let (low, high) = bounds 1 8 k gk in
-      ap asOption (keptStays k j low high (ltb-true j 64 gj) ne))))
+      (λ e ek ej. rw (e, ← ek, ← ej, inside 1 kinds (f .kind) (fitsKind (f .kind) (f .body) fit .0) (fitsKind (f .kind) (f .body) fit .1), lt-ltb (f .sender) rows row) keptPut)
+      (λ e ne. rw e (guarded (within 1 kinds k && ltb j rows) (λ g.
+      let (gk, gj) = bothSplit (within 1 kinds k) (ltb j rows) g in
+      let (low, high) = bounds 1 kinds k gk in
+      keptStays k j low high (ltb-true j rows gj) ne)))
 
   previousKeep : (k : ℕ) → previousOf after k ≡ previousOf r k
   unfolding previousOf
@@ -242,7 +226,7 @@ module _ (r : slots.Record) (f : Frame) (z : Sized r) (row : f .sender < 64) (fi
   contentsRow : contents after ≡ keep f (contents r)
   unfolding contents keep
   contentsRow =
-      let set = restKeep r f settingsOf (λ at x q. refl) in
+      let set = restKeep r f (λ (q : slots.Record). q .set) (λ at x q. refl) in
       let start = restKeep r f (λ (q : slots.Record). q .plan) (λ at x q. refl) in
       let view = restKeep r f (λ (q : slots.Record). q .view) (λ at x q. refl) in
       let decision = ap reported (farStays decisionSlot (omega arith)) in
@@ -257,8 +241,5 @@ module _ (r : slots.Record) (f : Frame) (z : Sized r) (row : f .sender < 64) (fi
 
 -- To put a frame into its sender's row is to keep it.
 module _ (r : slots.Record) (f : Frame) {j : ℕ} (is : f .sender ≡ j) where
-  pub sizedKeep : Sized r → Sized (keepFrame r j f)
-  sizedKeep z = subst (λ (j : ℕ). Sized (keepFrame r j f)) is (sizedRow r f z)
-
-  pub contentsKeep : Sized r → j < 64 → fits (f .kind) (f .body) ≡ true → contents (keepFrame r j f) ≡ keep f (contents r)
-  contentsKeep z row fit = subst (λ (j : ℕ). contents (keepFrame r j f) ≡ keep f (contents r)) is (contentsRow r f z (rw is row) fit)
+  pub contentsKeep : j < rows → fits (f .kind) (f .body) ≡ true → contents (keepFrame r j f) ≡ keep f (contents r)
+  contentsKeep row fit = subst (λ (j : ℕ). contents (keepFrame r j f) ≡ keep f (contents r)) is (contentsRow r f (rw is row) fit)

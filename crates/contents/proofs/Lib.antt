@@ -4,6 +4,3 @@ pub mod Clean
 pub mod Parts
 pub mod Acts
 pub mod Slotted
-pub mod Widths
-pub mod Tests
-pub mod Sound

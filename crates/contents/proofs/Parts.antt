@@ -8,25 +8,25 @@ use mathlib.Core.Logic.{_⊎_, inl, inr}
 use mathlib.Core.Bool.{Bool, true, false, cond, _&&_}
 use mathlib.Core.Option.{none, some}
 use native.Mathlib.Omega.{arith}
-use native.Mathlib.Decide.{ℕ-discrete, decLt}
+use native.Mathlib.Decide.{ℕ-discrete}
 use lib.Dec.{ltb, eqb}
-use lib.ListN.{getD, replicate, length-replicate, getD-replicate, List·getD-eq-default}
 use borrow.Author.Tests.{eqb-true, eqb-false, ltb-true}
 use Rattle.quorum.proofs.Bools.{which, bothSplit}
 use Rattle.frame.specs.declared.Report.{Report}
 use Rattle.frame.specs.Format.{within}
 use Rattle.frame.proofs.Laws.{bounds}
-use Rattle.record.specs.declared.Record as slots
-use Rattle.record.specs.Slots.{frameSlot, reportSlot, previousSlot, decisionSlot, slotOf, withSlot, withView, fresh, Sized}
-use Rattle.record.proofs.Slots.{slot-same, slot-other, sized-slot}
-use Rattle.kept.specs.Kept.{keptIn, asOption}
-use Rattle.kept.proofs.Forms.{kept-nothing}
+use Rattle.record.specs.Slots as slots
+use Rattle.settings.specs.declared.Settings.{Settings}
+use Rattle.record.specs.Slots.{rows, kinds, firstPrevious, slotCount, frameSlot, reportSlot, previousSlot, decisionSlot, emptySlot, slotOf, withSlot, withView, fresh}
+use Rattle.record.proofs.Slots.{slotSame, slotOther}
+use Rattle.keeping.specs.Kept.{keptIn}
+use Rattle.keeping.proofs.Forms.{keptNothing}
 use Rattle.protocol.specs.Record.{changed, put, when, reported, spelt}
 use Rattle.protocol.specs.Pass.{hasPrevious}
 use Rattle.protocol.specs.Calls as protocol
-use Rattle.contents.specs.Contents.{settingsOf, keptOf, previousOf, contents, emptySlot, headOf, toldOf, Clean}
+use Rattle.contents.specs.Contents.{keptOf, previousOf, contents, headOf, toldOf, Clean}
 use Rattle.contents.proofs.Kept.{keptSame, guarded, guardedNone, previousBounds}
-use Rattle.contents.proofs.Clean.{Filled, asWas, cleanOf, filledOf}
+use Rattle.contents.proofs.Clean.{Filled, asWas, cleanOf, beyondOf, filledOf}
 
 -- ---- the view
 
@@ -36,33 +36,33 @@ module _ (r : slots.Record) (w : ℕ) where
   contentsView = refl
 
   pub cleanView : Clean r → Clean (withView r w)
-  cleanView h = cleanOf (withView r w) (h .sized) (filledOf r h)
+  cleanView h = cleanOf (withView r w) (beyondOf r h) (filledOf r h)
 
 -- ---- a slot beyond those of kinds and senders
 
-module _ (r : slots.Record) (at : ℕ) (x : Report) (far : 896 ≤ at) where
-  frameStays : (k j : ℕ) → 1 ≤ k → k ≤ 8 → j < 64 → slotOf (withSlot r at x) (frameSlot k j) ≡ slotOf r (frameSlot k j)
-  frameStays k j low high row = slot-other r at x (frameSlot k j) (λ (e : frameSlot k j ≡ at). omega arith)
+module _ (r : slots.Record) (at : ℕ) (x : Report) (far : firstPrevious ≤ at) where
+  frameStays : (k j : ℕ) → 1 ≤ k → k ≤ kinds → j < rows → slotOf (withSlot r at x) (frameSlot k j) ≡ slotOf r (frameSlot k j)
+  frameStays k j low high row = slotOther r at x (frameSlot k j) (λ (e : frameSlot k j ≡ at). omega arith)
 
-  reportStays : (k w j : ℕ) → k ≤ 8 → w < 3 → j < 64 → slotOf (withSlot r at x) (reportSlot k w j) ≡ slotOf r (reportSlot k w j)
-  reportStays k w j high lw row = slot-other r at x (reportSlot k w j) (λ (e : reportSlot k w j ≡ at). omega arith)
+  reportStays : (k w j : ℕ) → k ≤ kinds → w < 3 → j < rows → slotOf (withSlot r at x) (reportSlot k w j) ≡ slotOf r (reportSlot k w j)
+  reportStays k w j high lw row = slotOther r at x (reportSlot k w j) (λ (e : reportSlot k w j ≡ at). omega arith)
 
-  frameKept : (k j : ℕ) → 1 ≤ k → k ≤ 8 → j < 64 → keptIn (slotOf (withSlot r at x)) k j ≡ keptIn (slotOf r) k j
+  frameKept : (k j : ℕ) → 1 ≤ k → k ≤ kinds → j < rows → keptIn (slotOf (withSlot r at x)) k j ≡ keptIn (slotOf r) k j
   frameKept k j low high row =
       keptSame (slotOf (withSlot r at x)) (slotOf r) k j (frameStays k j low high row) (λ w lw seven. reportStays k w j high lw row) low high
 
   keptBeside : (k j : ℕ) → keptOf (withSlot r at x) k j ≡ keptOf r k j
   unfolding keptOf
-  keptBeside k j = guarded (within 1 8 k && ltb j 64) (λ g.
-      let (gk, gj) = bothSplit (within 1 8 k) (ltb j 64) g in
-      let (low, high) = bounds 1 8 k gk in
-      ap asOption (frameKept k j low high (ltb-true j 64 gj)))
+  keptBeside k j = guarded (within 1 kinds k && ltb j rows) (λ g.
+      let (gk, gj) = bothSplit (within 1 kinds k) (ltb j rows) g in
+      let (low, high) = bounds 1 kinds k gk in
+      frameKept k j low high (ltb-true j rows gj))
 
   -- A vote put there is the vote that is read there.
-  pub cleanBeside : Clean r → at < 899 → x ≡ spelt (reported x) → Clean (withSlot r at x)
-  cleanBeside h low vote = cleanOf (withSlot r at x) (sized-slot r at x (h .sized)) (record {
-    head = λ k j low high row. frameStays k j low high row ∙ was .head k j low high row ∙ ap (λ y. headOf (asOption y)) (sym (frameKept k j low high row));
-    told = λ k w j low high lw row. reportStays k w j high lw row ∙ was .told k w j low high lw row ∙ ap (λ y. toldOf w (asOption y)) (sym (frameKept k j (omega arith) high row));
+  pub cleanBeside : Clean r → at < slotCount → x ≡ spelt (reported x) → Clean (withSlot r at x)
+  cleanBeside h low vote = cleanOf (withSlot r at x) far′ (record {
+    head = λ k j low high row. frameStays k j low high row ∙ was .head k j low high row ∙ ap headOf (sym (frameKept k j low high row));
+    told = λ k w j low high lw row. reportStays k w j high lw row ∙ was .told k w j low high lw row ∙ ap (toldOf w) (sym (frameKept k j (omega arith) high row));
     previous = λ k has. votes (previousSlot (suc k)) (was .previous k has);
     decision = votes decisionSlot (was .decision);
   })
@@ -70,16 +70,19 @@ module _ (r : slots.Record) (at : ℕ) (x : Report) (far : 896 ≤ at) where
       was : Filled (slotOf r)
       was = filledOf r h
 
+      far′ : (i : ℕ) → slotCount ≤ i → slotOf (withSlot r at x) i ≡ emptySlot
+      far′ i over = slotOther r at x i (λ (e : i ≡ at). omega arith) ∙ beyondOf r h i over
+
       votes : (i : ℕ) → slotOf r i ≡ spelt (reported (slotOf r i)) → slotOf (withSlot r at x) i ≡ spelt (reported (slotOf (withSlot r at x) i))
       votes i old = go (ℕ-discrete i at)
         where
           go : Dec (i ≡ at) → slotOf (withSlot r at x) i ≡ spelt (reported (slotOf (withSlot r at x) i))
-          go (yes e) = rw e (asWas (slot-same r at x (h .sized) low) vote)
-          go (no ne) = asWas (slot-other r at x i ne) old
+          go (yes e) = rw e (asWas (slotSame r at x) vote)
+          go (no ne) = asWas (slotOther r at x i ne) old
 
 -- ---- a previous vote
 
-module _ (r : slots.Record) (k : ℕ) (x : Report) (z : Sized r) (has : hasPrevious k ≡ true) where
+module _ (r : slots.Record) (k : ℕ) (x : Report) (has : hasPrevious k ≡ true) where
   previousPut : (j : ℕ) → previousOf (withSlot r (previousSlot (suc k)) x) j ≡ put k (reported x) (previousOf r) j
   unfolding previousOf
   previousPut j = go (which (eqb k j))
@@ -87,12 +90,16 @@ module _ (r : slots.Record) (k : ℕ) (x : Report) (z : Sized r) (has : hasPrevi
       go : (eqb k j ≡ true) ⊎ (eqb k j ≡ false) → previousOf (withSlot r (previousSlot (suc k)) x) j ≡ put k (reported x) (previousOf r) j
       go (inl e) =
           let (low, high) = previousBounds k has in
-          let there = ap reported (slot-same r (previousSlot (suc k)) x z (omega arith)) in
+          let there = ap reported (slotSame r (previousSlot (suc k)) x) in
           let was : when (hasPrevious k) (reported (slotOf (withSlot r (previousSlot (suc k)) x) (previousSlot (suc k)))) ≡ reported x =
           ap (λ (b : Bool). when b (reported (slotOf (withSlot r (previousSlot (suc k)) x) (previousSlot (suc k))))) has ∙ there in
           ap (λ (j : ℕ). previousOf (withSlot r (previousSlot (suc k)) x) j) (sym (eqb-true k j e)) ∙ was ∙ ap (λ (b : Bool). cond b (reported x) (previousOf r j)) (sym e)
       go (inr e) =
-          guarded (hasPrevious j) (λ g. ap reported (slot-other r (previousSlot (suc k)) x (previousSlot (suc j)) (λ (s : previousSlot (suc j) ≡ previousSlot (suc k)). eqb-false k j e (omega arith))))
+          guarded (hasPrevious j) (λ g.
+          let (low, high) = previousBounds k has in
+          let (l, h) = previousBounds j g in
+          ap reported (slotOther r (previousSlot (suc k)) x (previousSlot (suc j))
+          (λ (s : previousSlot (suc j) ≡ previousSlot (suc k)). eqb-false k j e (omega arith))))
           ∙ ap (λ (b : Bool). cond b (reported x) (previousOf r j)) (sym e)
 
   pub contentsPrevious : contents (withSlot r (previousSlot (suc k)) x)
@@ -101,9 +108,9 @@ module _ (r : slots.Record) (k : ℕ) (x : Report) (z : Sized r) (has : hasPrevi
   contentsPrevious =
       let (low, high) = previousBounds k has in
       let kept = keptBeside r (previousSlot (suc k)) x (omega arith) in
-      let decision = ap reported (slot-other r (previousSlot (suc k)) x decisionSlot (λ (e : decisionSlot ≡ previousSlot (suc k)). omega arith)) in
+      let decision = ap reported (slotOther r (previousSlot (suc k)) x decisionSlot (λ (e : decisionSlot ≡ previousSlot (suc k)). omega arith)) in
       λ i. record {
-        set = settingsOf r;
+        set = r .set;
         start = r .plan;
         view = r .view;
         kept = λ k j. kept k j i;
@@ -121,16 +128,15 @@ module _ (r : slots.Record) (v p : ℕ) where
   unfolding previousOf
   previousDecide k = guarded (hasPrevious k) (λ g.
       let (low, high) = previousBounds k g in
-      ap reported (slot-other r decisionSlot (record { mark = 1; view = v; plan = p }) (previousSlot (suc k)) (λ (e : previousSlot (suc k) ≡ decisionSlot). omega arith)))
+      ap reported (slotOther r decisionSlot (record { mark = 1; view = v; plan = p }) (previousSlot (suc k)) (λ (e : previousSlot (suc k) ≡ decisionSlot). omega arith)))
 
-  pub contentsDecide : Sized r
-      → contents decided ≡ changed (contents r) (contents r .view) (contents r .kept) (contents r .previous) (some (record { view = v; plan = p }))
+  pub contentsDecide : contents decided ≡ changed (contents r) (contents r .view) (contents r .kept) (contents r .previous) (some (record { view = v; plan = p }))
   unfolding contents
-  contentsDecide z =
+  contentsDecide =
       let kept = keptBeside r decisionSlot (record { mark = 1; view = v; plan = p }) (omega arith) in
-      let decision = ap reported (slot-same r decisionSlot (record { mark = 1; view = v; plan = p }) z (omega arith)) in
+      let decision = ap reported (slotSame r decisionSlot (record { mark = 1; view = v; plan = p })) in
       λ i. record {
-        set = settingsOf r;
+        set = r .set;
         start = r .plan;
         view = r .view;
         kept = λ k j. kept k j i;
@@ -143,40 +149,29 @@ module _ (r : slots.Record) (v p : ℕ) where
 
 -- ---- a fresh record
 
-zeros : (n i : ℕ) → getD {A = ℕ} (replicate n 0) i 0 ≡ 0
-zeros n i = go (decLt i n)
-  where
-    go : Dec (i < n) → getD {A = ℕ} (replicate n 0) i 0 ≡ 0
-    go (yes low) = getD-replicate n i 0 0 low
-    go (no far) = List·getD-eq-default (replicate n 0) 0 {n = i} (rw length-replicate (omega arith))
-
-module _ (n f id class plan : ℕ) where
-  pub sizedFresh : Sized (fresh n f id class plan)
+module _ (set : Settings) (plan : ℕ) where
+  slotFresh : (i : ℕ) → slotOf (fresh set plan) i ≡ emptySlot
   unfolding fresh
-  sizedFresh = let e = length-replicate {A = ℕ} 899 0 in record { marks = e; views = e; plans = e }
+  slotFresh i = refl
 
-  slotFresh : (i : ℕ) → slotOf (fresh n f id class plan) i ≡ emptySlot
-  unfolding fresh
-  slotFresh i = let e = zeros 899 i in λ z. record { mark = e z; view = e z; plan = e z }
-
-  keptFresh : (k j : ℕ) → asOption (keptIn (slotOf (fresh n f id class plan)) k j) ≡ none
-  keptFresh k j = ap asOption (kept-nothing (slotOf (fresh n f id class plan)) k j (λ e.
+  keptFresh : (k j : ℕ) → keptIn (slotOf (fresh set plan)) k j ≡ none
+  keptFresh k j = keptNothing (slotOf (fresh set plan)) k j (λ e.
       let z : _≡_ {A = ℕ} 0 1 = sym (ap (λ (x : Report). x .mark) (slotFresh (frameSlot k j))) ∙ e in
-      omega arith))
+      omega arith)
 
-  pub contentsFresh : contents (fresh n f id class plan) ≡ protocol.fresh (record { n = n; f = f; id = id; class = class }) plan
+  pub contentsFresh : contents (fresh set plan) ≡ protocol.fresh set plan
   unfolding contents keptOf previousOf fresh
   contentsFresh = λ i. record {
-    set = record { n = n; f = f; id = id; class = class };
+    set = set;
     start = plan;
     view = 0;
-    kept = λ k j. guardedNone (within 1 8 k && ltb j 64) (λ g. keptFresh k j) i;
+    kept = λ k j. guardedNone (within 1 kinds k && ltb j rows) (λ g. keptFresh k j) i;
     previous = λ k. guardedNone (hasPrevious k) (λ g. ap reported (slotFresh (previousSlot (suc k)))) i;
     decision = ap reported (slotFresh decisionSlot) i;
   }
 
-  pub cleanFresh : Clean (fresh n f id class plan)
-  cleanFresh = cleanOf (fresh n f id class plan) sizedFresh (record {
+  pub cleanFresh : Clean (fresh set plan)
+  cleanFresh = cleanOf (fresh set plan) (λ i far. slotFresh i) (record {
     head = λ k j low high row. slotFresh (frameSlot k j) ∙ ap headOf (sym (keptFresh k j));
     told = λ k w j low high lw row. slotFresh (reportSlot k w j) ∙ ap (toldOf w) (sym (keptFresh k j));
     previous = λ k has. asWas (slotFresh (previousSlot (suc k))) refl;

@@ -10,6 +10,7 @@ use lib.ListN.{length}
 use Rattle.wire.specs.Placed.{placed}
 use Rattle.frame.specs.Refusal.{readFrame}
 use Rattle.entry.specs.Layout.{layout}
+use Rattle.settings.specs.declared.Settings.{Settings}
 use Rattle.layout.specs.Layout.{encodeRecord, decodeRecord}
 use Rattle.sound.specs.declared.Lent.{Lent}
 use Rattle.sound.specs.declared.Lent.the-variants.{Blank, Unsound, Sound}
@@ -41,13 +42,13 @@ called k rec out a =
     cond (ltb (length out) 256) (gave 1 rec out) (after rec out (onLent (lentIs rec) k (contents (decodeRecord rec)) a))
 
 -- Start: settings and a starting plan.
-unfoldable pub startLeft : List ℕ → ℕ → ℕ → ℕ → ℕ → ℕ → List ℕ → Left
-startLeft rec n f id class plan out = called 4 rec out (start (record { n = n; f = f; id = id; class = class }) plan)
+unfoldable pub startLeft : List ℕ → Settings → ℕ → List ℕ → Left
+startLeft rec set plan out = called 4 rec out (start set plan)
 
 -- Frame: bytes that came over the link from a sender. The vault's n and number are those of its record.
 unfoldable pub frameLeft : List ℕ → ℕ → List ℕ → List ℕ → Left
 frameLeft rec link bytes out =
-    called 3 rec out (frame (readFrame bytes link (decodeRecord rec .n) (decodeRecord rec .id)))
+    called 3 rec out (frame (readFrame bytes link (decodeRecord rec .set .n) (decodeRecord rec .set .id)))
 
 -- Timer: the view that the host names.
 unfoldable pub timerLeft : List ℕ → ℕ → List ℕ → Left

@@ -9,23 +9,25 @@ use mathlib.Core.Option.{some}
 use native.Mathlib.Omega.{arith}
 use lib.Dec.{eqb}
 use borrow.Author.Tests.{eqb-true}
-use Rattle.quorum.specs.Sets.{equals, Mostly, Quorum}
+use Rattle.quorum.specs.Sets.{Mostly, Quorum}
 use Rattle.quorum.proofs.Laws.{groupMap, quorumsMeet, quorumBlocks, blockingKeeper, countQuorum, mostlyEquals, totalEquals}
 use Rattle.rules.specs.Options.{holds}
 use Rattle.rules.proofs.Laws.{holdsWhere}
+use Rattle.settings.specs.declared.Settings.{Settings}
+use Rattle.settings.specs.Settings.{vaultsOf}
 use Rattle.protocol.specs.Record.{Record, vaults, planNow}
 use Rattle.protocol.specs.Pass.{hasQuorum, agreed}
 use Rattle.protocol.proofs.Tables.{highestHas, highestMost}
 
 -- Where 3f is below n, sets of vaults meet as if all kept the rules.
-everyone : (n f : ℕ) → 3 * f < n → Mostly (equals n f) (λ i. true)
-everyone n f third = mostlyEquals n f (λ i. true) third (omega (arith, totalEquals n f))
+everyone : (s : Settings) → 3 * s .f < s .n → Mostly (vaultsOf s) (λ i. true)
+everyone s third = mostlyEquals (s .n) (s .f) (λ i. true) third (omega (arith, totalEquals (s .n) (s .f)))
 
 module _ (r : Record) (third : 3 * r .set .f < r .set .n) where
   -- A quorum has a member.
   pub quorumMember : {P : ℕ → Type 0} → Quorum (vaults r) P → (j : ℕ) × (j < r .set .n) × P j
   quorumMember q =
-      let most = everyone (r .set .n) (r .set .f) third in
+      let most = everyone (r .set) third in
       let (j, low, all, here) = blockingKeeper most (groupMap (λ i low h keeps. h) (quorumBlocks most q)) in
       (j, low, here)
 
@@ -43,6 +45,6 @@ module _ (r : Record) (third : 3 * r .set .f < r .set .n) where
           let (j, low, at) = quorumMember (voters k p h) in
           let (w, is, le) = highestMost (hasQuorum r k) (planNow r k) (r .set .n) j p low at h in
           let other = voters k w (highestHas (hasQuorum r k) (planNow r k) (r .set .n) is .0) in
-          let (i, below, all, a, b) = quorumsMeet (everyone (r .set .n) (r .set .f) third) (groupMap (λ i low x keeps. x) (voters k p h)) (groupMap (λ i low x keeps. x) other) in
+          let (i, below, all, a, b) = quorumsMeet (everyone (r .set) third) (groupMap (λ i low x keeps. x) (voters k p h)) (groupMap (λ i low x keeps. x) other) in
           let same : w ≡ p = cc in
           is ∙ ap some same

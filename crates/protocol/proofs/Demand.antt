@@ -3,7 +3,7 @@
 -- run's condition on frames used; loss, repetition and order never appear again. Then the votes written are a lawful history
 -- (crate agreement), and a decision has a quorum of vote-4.
 -- Assumes nothing.
-use Prim.Native.Nat.{ℕ, _*_, _<_}
+use Prim.Native.Nat.{ℕ, zero, suc, _*_, _<_}
 use mathlib.Core.Path.{_≡_, refl, sym, _∙_, ap, subst, fun-ext}
 use mathlib.Core.Logic.{_≢_, _⊎_, inl, inr}
 use mathlib.Core.Bool.{Bool, true, false, cond}
@@ -13,9 +13,9 @@ use native.Mathlib.Omega.{arith}
 use native.Mathlib.Nat.{mod-lt}
 use lib.Dec.{leb, eqb}
 use borrow.Author.Tests.{eqb-true, eqb-false}
-use Rattle.quorum.specs.Sets.{equals, Mostly}
+use Rattle.quorum.specs.Sets.{Vaults, weigh, total, Mostly}
 use Rattle.quorum.proofs.Bools.{which}
-use Rattle.quorum.proofs.Laws.{mostlyEquals}
+use Rattle.quorum.proofs.Laws.{weighNone, weighRest}
 use Rattle.rules.specs.Rules.{rule1}
 use Rattle.agreement.specs.Law.{Exact, Reason, own, found, Lawful, Led, Locked}
 use Rattle.agreement.proofs.Agree.{locksAgree}
@@ -38,7 +38,7 @@ use Rattle.protocol.proofs.Tables.{putOther, putOwn}
 use Rattle.protocol.proofs.Past.{Past, Voted, ExactNow, Fine, Ground}
 use Rattle.protocol.proofs.Past as Past′
 use Rattle.protocol.proofs.Good.{onto, Good, Seed, chosenSeed, waits, anySeed}
-use Rattle.protocol.proofs.Went.{noneGiven, unlessAccepted, thirdOf, Went, startWent, heardWent, rungWent}
+use Rattle.protocol.proofs.Went.{noneGiven, unlessAccepted, thirdWeight, Went, startWent, heardWent, rungWent}
 
 -- The view of a record, 0 where it is blank.
 abbrev pub viewIn : Option Record → ℕ
@@ -76,20 +76,32 @@ pastAccepted l x o e z = record { wrote = wrote z; at = at z }
     at : _≡_ {A = ℕ → ℕ} (λ j. viewIn (recordAt (x ∷ l) j)) (put (x .at) (o .left .view) (λ j. viewIn (recordAt l j)))
     at = fun-ext (λ j. ap (λ (t : ℕ → Option Record). viewIn (t j)) (recordAccepted l x o e) ∙ view (eqb (x .at) j) j)
 
+-- Vaults that weigh something are some.
+someVault : (vs : Vaults) → 0 < total vs → 0 < vs .n
+someVault vs more = go (vs .n) more
+  where
+    go : (n : ℕ) → 0 < weigh (vs .weight) (λ i. true) n → 0 < n
+    go zero more = absurd (omega (arith, weighNone (vs .weight) (λ i. true)))
+    go (suc n) more = omega arith
+
 module _ (c : Setting) (Began : ℕ → Type 0) where
+  -- Less than a third of the weight may break the rules: so say the settings of every accepted start.
+  abbrev Third : Type 0
+  Third = 3 * c .vaults .f < total (c .vaults)
+
   -- Every record is its vault's own and good; a blank vault has written nothing; and only rule-keepers are called.
   pub record Inv (l : List Item) : Type 0 where
-    pub good : (i : ℕ) (r : Record) → recordAt l i ≡ some r → (r .set .id ≡ i) × (3 * c .f < c .n) × Good c Began (past l) r
+    pub good : (i : ℕ) (r : Record) → recordAt l i ≡ some r → (r .set .id ≡ i) × Third × Good c Began (past l) r
     pub blank : (i : ℕ) → recordAt l i ≡ none → written l i ≡ []
     pub kept : (i : ℕ) (e : Entry) → e ∈ written l i → c .keeps i ≡ true
 
   -- ---- what is written
 
   module _ {l : List Item} (v : Inv l) where
-    author : (i : ℕ) (e : Entry) → e ∈ written l i → (r : Record) × (r .set .id ≡ i) × (3 * c .f < c .n) × Good c Began (past l) r
+    author : (i : ℕ) (e : Entry) → e ∈ written l i → (r : Record) × (r .set .id ≡ i) × Third × Good c Began (past l) r
     author i e at = go (recordAt l i) refl
       where
-        go : (b : Option Record) → recordAt l i ≡ b → (r : Record) × (r .set .id ≡ i) × (3 * c .f < c .n) × Good c Began (past l) r
+        go : (b : Option Record) → recordAt l i ≡ b → (r : Record) × (r .set .id ≡ i) × Third × Good c Began (past l) r
         go none is = elim (subst (λ (es : List Entry). e ∈ es) (v .blank i is) at) [ ]
         go (some r) is = let (id, third, g) = v .good i r is in (r, id, third, g)
 
@@ -111,34 +123,34 @@ module _ (c : Setting) (Began : ℕ → Type 0) where
   -- ---- one more call
 
   -- An accepted frame does not come from the vault itself.
-  othersFrame : (i : ℕ) (x : Frame) → Readable (c .n) i x → x .sender ≢ i
+  othersFrame : (i : ℕ) (x : Frame) → Readable (c .vaults .n) i x → x .sender ≢ i
   othersFrame i x read =
-      eqb-false (x .sender) i (neither (leb (c .n) (x .sender)) (eqb (x .sender) i) (noneGiven (linkRows (x .sender) (x .sender) (c .n) i) (read .link) .0) .1)
+      eqb-false (x .sender) i (neither (leb (c .vaults .n) (x .sender)) (eqb (x .sender) i) (noneGiven (linkRows (x .sender) (x .sender) (c .vaults .n) i) (read .link) .0) .1)
 
   never : {A : Type 0} {k : ℕ} {o : Out} → refused k ≡ accepted o → A
   never e = let z : _≡_ {A = ℕ} 0 1 = cc in absurd (omega arith)
 
   callWent : Seed c Began → {l : List Item} (v : Inv l) (i : ℕ) (a : Call) → ((s : Settings) (p : ℕ) → a ≡ start s p → Began p) → Fair c l i a → (o : Out) → answer (recordAt l i) a ≡ accepted o
-      → (3 * c .f < c .n) × Went c Began (past l) i o
+      → Third × Went c Began (past l) i o
   unfolding answer
   callWent seed {l} v i a began fair o is = go a (recordAt l i) refl began fair is
     where
       go : (a : Call) (b : Option Record) → recordAt l i ≡ b → ((s : Settings) (p : ℕ) → a ≡ start s p → Began p) → Fair c l i a → answer b a ≡ accepted o
-          → (3 * c .f < c .n) × Went c Began (past l) i o
+          → Third × Went c Began (past l) i o
       go short b e began fair is = never is
       go (start s p) (some r) e began fair is = never is
       go (frame x) none e began fair is = never is
       go (timer w) none e began fair is = never is
       go (frame (Refused k)) (some r) e began fair is = never is
       go (start s p) none e began fair is =
-          let (en, ef, id) = fair o (ap (λ (b : Option Record). answer b (start s p)) e ∙ is) in
+          let (same-vaults, id) = fair o (ap (λ (b : Option Record). answer b (start s p)) e ∙ is) in
           let (given, same) = unlessAccepted (first (settingRows s)) (started s p) is in
-          let third : 3 * c .f < c .n = subst (λ (x : ℕ). 3 * x < c .n) ef (subst (λ (x : ℕ). 3 * s .f < x) en (thirdOf s given)) in
+          let third : Third = subst (λ (vs : Vaults). 3 * vs .f < total vs) same-vaults (thirdWeight s given) in
           let blank : written l (s .id) ≡ [] = ap (written l) id ∙ v .blank i e in
           let zero-view : viewIn (recordAt l (s .id)) ≡ 0 = ap (λ (j : ℕ). viewIn (recordAt l j)) id ∙ ap viewIn e in (
             third,
             subst (λ (u : Out). Went c Began (past l) i u) same
-                (subst (λ (j : ℕ). Went c Began (past l) j (started s p)) id (startWent c Began seed (past l) s p en ef (began s p refl) blank zero-view)),
+                (subst (λ (j : ℕ). Went c Began (past l) j (started s p)) id (startWent c Began seed (past l) s p same-vaults (began s p refl) blank zero-view)),
           )
       go (frame (Accepted x)) (some r) e began fair is =
           let (read, sent) = fair in
@@ -164,13 +176,13 @@ module _ (c : Setting) (Began : ℕ → Type 0) where
       let (records, entries) = pastRefused l x k is in
       let same : past l ≡ past (x ∷ l) = λ z. record { wrote = sym entries z; at = λ i. viewIn (sym records z i) } in
       record {
-        good = λ i r e. subst (λ (h : Past). (r .set .id ≡ i) × (3 * c .f < c .n) × Good c Began h r) same (v .good i r (ap (λ (t : ℕ → Option Record). t i) (sym records) ∙ e));
+        good = λ i r e. subst (λ (h : Past). (r .set .id ≡ i) × Third × Good c Began h r) same (v .good i r (ap (λ (t : ℕ → Option Record). t i) (sym records) ∙ e));
         blank = λ i e. ap (λ (t : ℕ → List Entry). t i) entries ∙ v .blank i (ap (λ (t : ℕ → Option Record). t i) (sym records) ∙ e);
         kept = λ i e at. v .kept i e (subst (λ (t : ℕ → List Entry). e ∈ t i) entries at);
       }
 
   invAccepted : {l : List Item} (x : Item) (o : Out) → c .keeps (x .at) ≡ true → answer (recordAt l (x .at)) (x .call) ≡ accepted o
-      → 3 * c .f < c .n → Went c Began (past l) (x .at) o → Inv l → Inv (x ∷ l)
+      → Third → Went c Began (past l) (x .at) o → Inv l → Inv (x ∷ l)
   invAccepted {l} x o keeps is third w v = record {
     good = λ i r e. goodAt i r (which (eqb (x .at) i)) (ap (λ (t : ℕ → Option Record). t i) (sym (recordAccepted l x o is)) ∙ e);
     blank = λ i e. blankAt i (which (eqb (x .at) i)) (ap (λ (t : ℕ → Option Record). t i) (sym (recordAccepted l x o is)) ∙ e);
@@ -178,7 +190,7 @@ module _ (c : Setting) (Began : ℕ → Type 0) where
   }
     where
       goodAt : (i : ℕ) (r : Record) → (eqb (x .at) i ≡ true) ⊎ (eqb (x .at) i ≡ false) → put (x .at) (some (o .left)) (recordAt l) i ≡ some r
-          → (r .set .id ≡ i) × (3 * c .f < c .n) × Good c Began (past (x ∷ l)) r
+          → (r .set .id ≡ i) × Third × Good c Began (past (x ∷ l)) r
       goodAt i r (inl same) e =
           let its : o .left ≡ r = own-left (rw same at e) in (
             ap (λ (z : Record). z .set .id) (sym its) ∙ w .id ∙ eqb-true (x .at) i same,
@@ -221,30 +233,30 @@ module _ (c : Setting) (Began : ℕ → Type 0) where
     groundAt : {i k w p : ℕ} → Voted (past l) i k w p → Ground c Began (past l) k w p
     groundAt {i} {k} {w} {p} at = toldAt v i _ at .1 k p refl refl
 
-    lawful : Lawful (equals (c .n) (c .f)) (c .keeps) (Voted (past l))
+    lawful : Lawful (c .vaults) (c .keeps) (Voted (past l))
     lawful = record {
       once = λ {i} {v = w} {p} {q} keeps x y. onceAt v i 1 w p q x y;
       vouched = λ keeps x. let why = groundAt x .0 in record { proofs = why .proofs; from = λ j r h e. why .from j r h e .1; safe = why .safe };
       chain = λ k keeps x. groundAt x;
     }
 
-    led : 3 * c .f < c .n → Led (equals (c .n) (c .f)) (c .keeps) (Voted (past l)) Began
+    led : Third → Led (c .vaults) (c .keeps) (Voted (past l)) Began
     led third = record {
-      leader = λ w. leaderOf w (c .n);
-      number = λ w. mod-lt w (omega arith);
+      leader = λ w. leaderOf w (c .vaults .n);
+      number = λ w. mod-lt w (someVault (c .vaults) (omega arith));
       reason = λ keeps x leads. exactly (groundAt (groundAt x .1 leads));
     }
       where
-        exactly : {w p : ℕ} → Reason (equals (c .n) (c .f)) (c .keeps) (ExactNow (past l) rule1 w) Began w p
-            → Reason (equals (c .n) (c .f)) (c .keeps) (λ j. Exact (Voted (past l) j) rule1 w) Began w p
+        exactly : {w p : ℕ} → Reason (c .vaults) (c .keeps) (ExactNow (past l) rule1 w) Began w p
+            → Reason (c .vaults) (c .keeps) (λ j. Exact (Voted (past l) j) rule1 w) Began w p
         exactly (own b) = own b
         exactly (found s rs from unsafe safe) = found s rs (λ j r h e. from j r h e .1) unsafe safe
 
-    decided : (i : ℕ) {p : ℕ} → Decides l i p → (w : ℕ) × (3 * c .f < c .n) × Locked (equals (c .n) (c .f)) (c .keeps) (Voted (past l)) w p
+    decided : (i : ℕ) {p : ℕ} → Decides l i p → (w : ℕ) × Third × Locked (c .vaults) (c .keeps) (Voted (past l)) w p
     decided i (w, at) = let (r, id, third, g) = author v i _ at in (w, third, toldAt v i _ at)
 
-    mostly : 3 * c .f < c .n → Mostly (equals (c .n) (c .f)) (c .keeps)
-    mostly third = mostlyEquals (c .n) (c .f) (c .keeps) third (omega (arith, c .most))
+    mostly : Third → Mostly (c .vaults) (c .keeps)
+    mostly third = record { third = third; others = omega (arith, c .most, weighRest (c .vaults .weight) (c .keeps) (c .vaults .n)) }
 
 -- ---- demand 3
 
@@ -259,7 +271,7 @@ runsAgree c l run i j p q a b =
     v = invariant c (λ p. Unit {0}) (anySeed c) run (λ p s. tt)
 
 -- If all vaults keep the rules, each decision's plan is that of an accepted start.
-pub runsValid : (c : Setting) (l : List Item) → Run c l → ((i : ℕ) → i < c .n → c .keeps i ≡ true) → (i p : ℕ) → Decides l i p → Started p l
+pub runsValid : (c : Setting) (l : List Item) → Run c l → ((i : ℕ) → i < c .vaults .n → c .keeps i ≡ true) → (i p : ℕ) → Decides l i p → Started p l
 runsValid c l run all i p a =
     let (u, third, x) = decided c (λ p. Started p l) v i a in
     lockBegan (mostly c (λ p. Started p l) v third) all (lawful c (λ p. Started p l) v) (led c (λ p. Started p l) v third) x

@@ -12,7 +12,7 @@ use native.Mathlib.Omega.{arith}
 use native.Mathlib.Decide.{ℕ-discrete}
 use lib.Dec.{eqb}
 use borrow.Author.Tests.{eqb-true, eq-eqb}
-use Rattle.quorum.specs.Sets.{Vaults, equals, Quorum}
+use Rattle.quorum.specs.Sets.{Vaults, Quorum}
 use Rattle.quorum.proofs.Bools.{which, clash, either}
 use Rattle.quorum.proofs.Laws.{groupMap}
 use Rattle.rules.specs.Rules.{Vote, Report, Rule, rule1, rule3, claimVote, lockVote, Safe, Chosen}
@@ -27,11 +27,12 @@ use Rattle.entry.specs.declared.Entry.{Entry}
 use Rattle.entry.specs.declared.Entry.the-variants.{ForAll}
 use Rattle.protocol.specs.Record.{Record, put, each, reported, spelt, voteBy, reportBy, kindOf, keeping, vaults, leader, leads, voteOf, reportsOf, sentNow, tells, changeFrame, voteFrame, reportFrame}
 use Rattle.settings.specs.declared.Settings.{Settings}
+use Rattle.settings.specs.Settings.{vaultsOf}
 use Rattle.protocol.specs.Pass.{Act, ask, enter, cast, decide, shift, hasPrevious, timerEntry, entered, does, suggestEntry, writes, actC, Out, taken}
 use Rattle.protocol.specs.Calls.{keep}
 use Rattle.protocol.specs.Runs.{_∈_, Setting}
 use Rattle.protocol.proofs.Tables.{putSame, putOther, keepSame, keepOtherKind, keepOtherSender, keepWas, eachSome, whenSome}
-use Rattle.protocol.proofs.Past.{Past, Voted, Later, ExactNow, Fine, fineOn, vaultsOf, Ground, groundOn, toldOn}
+use Rattle.protocol.proofs.Past.{Past, Voted, Later, ExactNow, Fine, fineOn, Ground, groundOn, toldOn}
 use Rattle.protocol.proofs.Past as Past′
 use Rattle.protocol.proofs.Tops.{Tops, topsOn, newTops, shiftTops, claimBelow, lockBelow, exactReport}
 use Rattle.protocol.proofs.May.{Held, Reached, May, proposedChosen}
@@ -162,8 +163,7 @@ onto h i o = record { wrote = put i (h .wrote i ++ o .wrote) (h .wrote); at = pu
 
 module _ (c : Setting) (Began : ℕ → Type 0) where
   pub record Good (h : Past) (r : Record) : Type 0 where
-    pub n : r .set .n ≡ c .n
-    pub f : r .set .f ≡ c .f
+    pub vaults : vaultsOf (r .set) ≡ c .vaults
     pub plan : Began (r .start)
     pub now : h .at (r .set .id) ≡ r .view
     pub below : (k u p : ℕ) → Voted h (r .set .id) k u p → u ≤ r .view
@@ -177,14 +177,11 @@ module _ (c : Setting) (Began : ℕ → Type 0) where
   -- C's choice otherwise (`chosenSeed`).
   abbrev pub Seed : Type 0
   Seed =
-      (h : Past) (r : Record) → Good h r → (p : ℕ) → actC r ≡ some (cast 0 p) → Reason (vaultsOf c Began) (c .keeps) (ExactNow h rule1 (r .view)) Began (r .view) p
+      (h : Past) (r : Record) → Good h r → (p : ℕ) → actC r ≡ some (cast 0 p) → Reason (c .vaults) (c .keeps) (ExactNow h rule1 (r .view)) Began (r .view) p
 
   -- ---- what a good record shows of others
 
   module _ {h : Past} {r : Record} (g : Good h r) where
-    vaultsAre : vaults r ≡ vaultsOf c Began
-    vaultsAre z = equals (g .n z) (g .f z)
-
     -- A kept vote of a rule-keeper was sent by it.
     keptWasSent : (k j p : ℕ) → c .keeps j ≡ true → Held r k p j → Voted h j k (r .view) p
     keptWasSent k j p keeps e =
@@ -201,23 +198,23 @@ module _ (c : Setting) (Began : ℕ → Type 0) where
         let (kind, fine) = g .kept (kindOf rule) j y is keeps in
         subst (λ (u : ℕ). ExactNow h rule u j x) (eqb-true (y .view) (r .view) t) (fine .told rule x kind body)
 
-    quorumSent : (k p : ℕ) → Quorum (vaults r) (Held r k p) → Quorum (vaultsOf c Began) (λ j. c .keeps j ≡ true → Voted h j k (r .view) p)
-    quorumSent k p q = subst (λ (vs : Vaults). Quorum vs (λ j. c .keeps j ≡ true → Voted h j k (r .view) p)) vaultsAre (groupMap (λ j low e keeps. keptWasSent k j p keeps e) q)
+    quorumSent : (k p : ℕ) → Quorum (vaults r) (Held r k p) → Quorum (c .vaults) (λ j. c .keeps j ≡ true → Voted h j k (r .view) p)
+    quorumSent k p q = subst (λ (vs : Vaults). Quorum vs (λ j. c .keeps j ≡ true → Voted h j k (r .view) p)) (g .vaults) (groupMap (λ j low e keeps. keptWasSent k j p keeps e) q)
 
     chosenReason : (p : ℕ) {o : Option ℕ} → Chosen (vaults r) (reportsOf r rule1) (r .view) (r .start) o → o ≡ some p
-        → Reason (vaultsOf c Began) (c .keeps) (ExactNow h rule1 (r .view)) Began (r .view) p
+        → Reason (c .vaults) (c .keeps) (ExactNow h rule1 (r .view)) Began (r .view) p
     chosenReason p (Rules.own safe) e = let is : r .start ≡ p = cc in own (rw is at (g .plan))
     chosenReason p (Rules.other {o = none} never least) e = absurd (none≢some e)
     chosenReason p (Rules.other {o = some q} never least) e =
         let is : q ≡ p = cc in
-        found (r .start) (reportsOf r rule1) (keptIsExact rule1) (subst (λ (vs : Vaults). ¬ Safe rule1 vs (reportsOf r rule1) (r .view) (r .start)) vaultsAre never)
-        (subst (λ (vs : Vaults). Safe rule1 vs (reportsOf r rule1) (r .view) p) vaultsAre (subst (λ (x : ℕ). Safe rule1 (vaults r) (reportsOf r rule1) (r .view) x) is (least .0)))
+        found (r .start) (reportsOf r rule1) (keptIsExact rule1) (subst (λ (vs : Vaults). ¬ Safe rule1 vs (reportsOf r rule1) (r .view) (r .start)) (g .vaults) never)
+        (subst (λ (vs : Vaults). Safe rule1 vs (reportsOf r rule1) (r .view) p) (g .vaults) (subst (λ (x : ℕ). Safe rule1 (vaults r) (reportsOf r rule1) (r .view) x) is (least .0)))
 
     ground : Seed → (k p : ℕ) → Reached r k p → Ground c Began h k (r .view) p
     ground seed zero p (lead, e) = seed h r g p e
     ground seed (suc zero) p (safe, e) = (
-      record { proofs = reportsOf r rule3; from = keptIsExact rule3; safe = subst (λ (vs : Vaults). Safe rule3 vs (reportsOf r rule3) (r .view) p) vaultsAre safe },
-      subst (λ (n : ℕ). c .keeps (leaderOf (r .view) n) ≡ true → Voted h (leaderOf (r .view) n) 0 (r .view) p) (g .n) (λ keeps. keptWasSent 0 (leader r (r .view)) p keeps e),
+      record { proofs = reportsOf r rule3; from = keptIsExact rule3; safe = subst (λ (vs : Vaults). Safe rule3 vs (reportsOf r rule3) (r .view) p) (g .vaults) safe },
+      subst (λ (n : ℕ). c .keeps (leaderOf (r .view) n) ≡ true → Voted h (leaderOf (r .view) n) 0 (r .view) p) (ap (λ (vs : Vaults). vs .n) (g .vaults)) (λ keeps. keptWasSent 0 (leader r (r .view)) p keeps e),
     )
     ground seed (suc (suc k)) p q = quorumSent (suc k) p q
 
@@ -449,8 +446,7 @@ module _ (c : Setting) (Began : ℕ → Type 0) where
 
     pub actGood : Seed → Good h′ (does r a)
     actGood seed = record {
-      n = ap (λ (s : Settings). s .n) (doesSet r a) ∙ g .n;
-      f = ap (λ (s : Settings). s .f) (doesSet r a) ∙ g .f;
+      vaults = ap vaultsOf (doesSet r a) ∙ g .vaults;
       plan = subst Began (sym (doesStart r a)) (g .plan);
       now = at-own (λ (j : ℕ). h′ .at j ≡ (does r a) .view) (putSame i ((does r a) .view) (h .at));
       below = at-own (λ (j : ℕ). (k u p : ℕ) → Voted h′ j k u p → u ≤ (does r a) .view)
@@ -471,8 +467,7 @@ module _ (c : Setting) (Began : ℕ → Type 0) where
   -- Vault i has done nothing, and others went on.
   pub waits : {h h′ : Past} {r : Record} → Later h h′ → h′ .wrote (r .set .id) ≡ h .wrote (r .set .id) → h′ .at (r .set .id) ≡ h .at (r .set .id) → Good h r → Good h′ r
   waits {h} {h′} {r} on same view g = record {
-    n = g .n;
-    f = g .f;
+    vaults = g .vaults;
     plan = g .plan;
     now = view ∙ g .now;
     below = λ k u p at. g .below k u p (back k u p at);
@@ -493,8 +488,7 @@ module _ (c : Setting) (Began : ℕ → Type 0) where
   pub heardGood : {h : Past} {r : Record} (x : Frame) → x .sender ≢ r .set .id → (c .keeps (x .sender) ≡ true → Fine h (x .sender) x) → Good h r → Good h (keep x r)
   unfolding keep
   heardGood {h} {r} x other fine g = record {
-    n = g .n;
-    f = g .f;
+    vaults = g .vaults;
     plan = g .plan;
     now = g .now;
     below = g .below;

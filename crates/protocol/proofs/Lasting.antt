@@ -8,6 +8,7 @@ use mathlib.Core.Bool.{true, false}
 use mathlib.Core.List.{List, [], _∷_, _++_}
 use mathlib.Core.Option.{Option, none, some}
 use lib.Dec.{eqb}
+use Rattle.quorum.specs.Sets.{Vaults}
 use Rattle.quorum.proofs.Bools.{which}
 use Rattle.agreement.proofs.Reports.{none≢some}
 use Rattle.frame.specs.declared.Reading.the-variants.{Accepted, Refused}
@@ -49,7 +50,7 @@ module _ (c : Setting) where
       go (frame (Refused k)) (some r) e brings fair = tt
       go (frame (Accepted x)) (some r) e brings fair =
           let (id, third, g) = v .good i r e in
-          subst (λ (n : ℕ). Readable n (r .set .id) x) (sym (g .n)) (subst (λ (j : ℕ). Readable (c .n) j x) (sym id) (fair .0))
+          subst (λ (n : ℕ). Readable n (r .set .id) x) (sym (ap (λ (vs : Vaults). vs .n) (g .vaults))) (subst (λ (j : ℕ). Readable (c .vaults .n) j x) (sym id) (fair .0))
       go (timer w) b e brings fair = tt
       go short b e brings fair = tt
 

@@ -8,7 +8,7 @@ use mathlib.Core.Bool.{true}
 use mathlib.Core.List.{List}
 use mathlib.Core.Option.{Option, some}
 use native.Mathlib.Omega.{arith}
-use Rattle.quorum.specs.Sets.{Vaults, equals, Quorum}
+use Rattle.quorum.specs.Sets.{Quorum}
 use Rattle.quorum.proofs.Laws.{groupMap}
 use Rattle.rules.specs.Rules.{Vote, Report, Rule, rule1, rule3, claimVote, lockVote}
 use Rattle.agreement.specs.Law.{History, Highest, Exact, Vouched, Reason, own, found, Locked}
@@ -87,18 +87,15 @@ fineOn on {j} {x} t = record {
 -- ---- reasons
 
 module _ (c : Setting) (Began : ℕ → Type 0) where
-  abbrev pub vaultsOf : Vaults
-  vaultsOf = equals (c .n) (c .f)
-
   -- What stood behind vote-k for p in view v. The proposal (k = 0): Rule 1; vote-1: Rule 3 and the leader's proposal; the others:
   -- a quorum of the vote before.
   abbrev pub Ground : Past → ℕ → ℕ → ℕ → Type 0
-  Ground h zero v p = Reason vaultsOf (c .keeps) (ExactNow h rule1 v) Began v p
+  Ground h zero v p = Reason (c .vaults) (c .keeps) (ExactNow h rule1 v) Began v p
   Ground h (suc zero) v p =
-      Vouched vaultsOf (c .keeps) (ExactNow h rule3 v) v p × (c .keeps (leaderOf v (c .n)) ≡ true → Voted h (leaderOf v (c .n)) 0 v p)
-  Ground h (suc (suc k)) v p = Quorum vaultsOf (λ j. c .keeps j ≡ true → Voted h j (suc k) v p)
+      Vouched (c .vaults) (c .keeps) (ExactNow h rule3 v) v p × (c .keeps (leaderOf v (c .vaults .n)) ≡ true → Voted h (leaderOf v (c .vaults .n)) 0 v p)
+  Ground h (suc (suc k)) v p = Quorum (c .vaults) (λ j. c .keeps j ≡ true → Voted h j (suc k) v p)
 
-  reasonOn : {h g : Past} → Later h g → {v p : ℕ} → Reason vaultsOf (c .keeps) (ExactNow h rule1 v) Began v p → Reason vaultsOf (c .keeps) (ExactNow g rule1 v) Began v p
+  reasonOn : {h g : Past} → Later h g → {v p : ℕ} → Reason (c .vaults) (c .keeps) (ExactNow h rule1 v) Began v p → Reason (c .vaults) (c .keeps) (ExactNow g rule1 v) Began v p
   reasonOn on (own b) = own b
   reasonOn on {v} (found s rs from unsafe safe) = found s rs (λ j x keeps e. exactOn on rule1 v j x (from j x keeps e)) unsafe safe
 
@@ -106,7 +103,7 @@ module _ (c : Setting) (Began : ℕ → Type 0) where
   groundOn on zero v p t = reasonOn on t
   groundOn on (suc zero) v p (t, proposal) = (
     record { proofs = t .proofs; from = λ j x keeps e. exactOn on rule3 v j x (t .from j x keeps e); safe = t .safe },
-    λ keeps. on .more (leaderOf v (c .n)) _ (proposal keeps),
+    λ keeps. on .more (leaderOf v (c .vaults .n)) _ (proposal keeps),
   )
   groundOn on (suc (suc k)) v p t = groupMap (λ j low at keeps. on .more j _ (at keeps)) t
 
@@ -115,7 +112,7 @@ module _ (c : Setting) (Began : ℕ → Type 0) where
   Told h j (ForAll x) = Fine h j x × ((k p : ℕ) → x .kind ≡ suc k → x .body ≡ Plan p → Ground h k (x .view) p)
   Told h j (ForOne i x) = Fine h j x
   Told h j (Timer v ms) = Unit {0}
-  Told h j (Decision v p) = Locked vaultsOf (c .keeps) (Voted h) v p
+  Told h j (Decision v p) = Locked (c .vaults) (c .keeps) (Voted h) v p
 
   pub toldOn : {h g : Past} → Later h g → (j : ℕ) (e : Entry) → Told h j e → Told g j e
   toldOn on j (ForAll x) (t, why) = (fineOn on t, λ k p kind body. groundOn on k (x .view) p (why k p kind body))

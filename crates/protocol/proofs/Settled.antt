@@ -12,7 +12,7 @@ use native.Mathlib.Omega.{arith}
 use native.Mathlib.Decide.{ℕ-discrete}
 use lib.Dec.{leb, ltb, eqb}
 use borrow.Author.Tests.{eqb-true, eq-eqb, le-leb, lt-ltb, le-ltb, ltb-true, ltb-false}
-use Rattle.quorum.specs.Sets.{equals, isQuorum, isBlocking}
+use Rattle.quorum.specs.Sets.{isQuorum, isBlocking}
 use Rattle.quorum.proofs.Bools.{which, bothSplit, bothJoin}
 use Rattle.quorum.proofs.Laws.{enoughMono, blockingByWeight}
 use Rattle.rules.specs.Options.{isNone, holds}
@@ -21,7 +21,7 @@ use Rattle.rules.proofs.Laws.{holdsWhere}
 use Rattle.frame.specs.declared.Frame.{Frame}
 use Rattle.frame.specs.declared.Reading.the-variants.{Accepted, Refused}
 use Rattle.frame.specs.Refusal.{first}
-use Rattle.protocol.specs.Record.{Record, when, each, highest, keeping, changeOf, planNow, sentNow, changeFrame, voteFrame, reportFrame, leader, leads}
+use Rattle.protocol.specs.Record.{Record, when, each, highest, keeping, changeOf, planNow, sentNow, changeFrame, voteFrame, reportFrame, vaults, leader, leads}
 use Rattle.settings.specs.declared.Settings.{Settings}
 use Rattle.protocol.specs.Pass.{Act, ask, enter, cast, decide, entered, does, asked, isNews, actA, canEnter, actB, mayPropose, chosen, actC, approves, actD, agreed, actVote, actH, Out, Step, taken, onward, pass, stepA, stepB, stepC, stepD, stepVote, stepH, fromC, fromA}
 use Rattle.protocol.specs.Calls.{recordRows, timerRows, fresh, started, keep, heard, wanted, rung, start, frame, timer, short, answer}
@@ -144,7 +144,7 @@ ownA r w top = eachNone (highest (asked t isBlocking) (changeOf t) (r .set .n)) 
             let (enough, found) = highestHas (asked t isBlocking) (changeOf t) (r .set .n) is in
             let (j, low, at) = found in
             let before : asked r isBlocking x ≡ true =
-            enoughMono (equals (r .set .n) (r .set .f)) (isBlocking (equals (r .set .n) (r .set .f))) (blockingByWeight (equals (r .set .n) (r .set .f)))
+            enoughMono (vaults r) (isBlocking (vaults r)) (blockingByWeight (vaults r))
             (λ j. holds (eqb x) (changeOf t j)) (λ j. holds (eqb x) (changeOf r j)) (within x above) enough in
             let (z, is-top, le) = highestMost (asked r isBlocking) (changeOf r) (r .set .n) j x low (old x j above at) before in
             let same : z ≡ w = cc in

@@ -10,7 +10,9 @@ use mathlib.Core.Option.{Option, none, some}
 use native.Mathlib.Omega.{arith}
 use lib.Dec.{leb, ltb, eqb}
 use borrow.Author.Tests.{eqb-true, leb-false, ltb-true}
+use Rattle.quorum.specs.Sets.{total}
 use Rattle.quorum.proofs.Bools.{which}
+use Rattle.quorum.proofs.Laws.{totalEquals}
 use Rattle.agreement.proofs.Reports.{none≢some}
 use Rattle.frame.specs.declared.Frame.{Frame}
 use Rattle.frame.specs.Refusal.{Row, row, first}
@@ -20,7 +22,7 @@ use Rattle.protocol.specs.Record.{Record, put, changeOf}
 use Rattle.settings.specs.declared.Settings.{Settings}
 use Rattle.protocol.specs.Pass.{Act, ask, timerEntry, does, Out, Step, taken, onward, pass, fromC, fromA}
 use Rattle.protocol.specs.Calls.{fresh, started, keep, heard, wantedFrom, wanted, rung, accepted, unless}
-use Rattle.settings.specs.Settings.{settingRows}
+use Rattle.settings.specs.Settings.{vaultsOf, settingRows}
 use Rattle.protocol.specs.Runs.{_∈_, Setting}
 use Rattle.protocol.proofs.Tables.{putSame, putAgain, putOwn}
 use Rattle.protocol.proofs.Past.{Past, Voted, Later, laterTrans, Fine}
@@ -50,6 +52,10 @@ unlessAccepted (suc k) o e = let z : _≡_ {A = ℕ} 0 1 = cc in absurd (omega a
 -- Row 6 leaves 3f below n.
 pub thirdOf : (s : Settings) → first (settingRows s) ≡ 0 → 3 * s .f < s .n
 thirdOf s e = leb-false (s .n) (3 * s .f) (neither (eqb (s .f) 0) (leb (s .n) (3 * s .f)) (noneGiven (settingRows s) e .1 .0) .1)
+
+-- Settings that pass are of vaults of which less than a third of the weight may break the rules.
+pub thirdWeight : (s : Settings) → first (settingRows s) ≡ 0 → 3 * vaultsOf s .f < total (vaultsOf s)
+thirdWeight s e = omega (arith, thirdOf s e, totalEquals (s .n) (s .f))
 
 -- A timer's view-change is for a view above the current one.
 pub wantedMay : (r : Record) → r .view ≢ 4294967295 → May r (ask (wanted r))
@@ -121,9 +127,9 @@ module _ (c : Setting) (Began : ℕ → Type 0) (seed : Seed c Began) where
 
   -- ---- the calls
 
-  pub startWent : (h : Past) (s : Settings) (p : ℕ) → s .n ≡ c .n → s .f ≡ c .f → Began p → h .wrote (s .id) ≡ [] → h .at (s .id) ≡ 0 → Went c Began h (s .id) (started s p)
+  pub startWent : (h : Past) (s : Settings) (p : ℕ) → vaultsOf s ≡ c .vaults → Began p → h .wrote (s .id) ≡ [] → h .at (s .id) ≡ 0 → Went c Began h (s .id) (started s p)
   unfolding started
-  startWent h s p en ef began blank zero-view = further c Began first-out (pass fromC (fresh s p)) later (passWent sureC h₁ (fresh s p) good)
+  startWent h s p same began blank zero-view = further c Began first-out (pass fromC (fresh s p)) later (passWent sureC h₁ (fresh s p) good)
     where
       first-out : Out
       first-out = record { left = fresh s p; wrote = timerEntry (fresh s p) 0 ∷ [] }
@@ -139,8 +145,7 @@ module _ (c : Setting) (Began : ℕ → Type 0) (seed : Seed c Began) where
 
       good : Good c Began h₁ (fresh s p)
       good = record {
-        n = en;
-        f = ef;
+        vaults = same;
         plan = began;
         now = putSame (s .id) 0 (h .at);
         below = λ k u q at. absurd (silent k u q at);

@@ -6,13 +6,14 @@ use mathlib.Core.Logic.{_⊎_}
 use mathlib.Core.Bool.{true}
 use mathlib.Core.List.{List, [], _∷_, _++_, List·Memᴰ}
 use mathlib.Core.Option.{Option, none, some}
-use Rattle.quorum.specs.Sets.{Set, equals, size}
+use Rattle.quorum.specs.Sets.{Vaults, Set, size, total}
 use Rattle.frame.specs.declared.Frame.{Frame}
 use Rattle.frame.specs.declared.Reading.the-variants.{Accepted, Refused}
 use Rattle.entry.specs.declared.Entry.{Entry}
 use Rattle.entry.specs.declared.Entry.the-variants.{ForAll, ForOne, Decision}
 use Rattle.protocol.specs.Record.{Record, put}
 use Rattle.settings.specs.declared.Settings.{Settings}
+use Rattle.settings.specs.Settings.{vaultsOf}
 use Rattle.protocol.specs.Pass.{Out}
 use Rattle.protocol.specs.Calls.{Readable, Call, start, frame, timer, short, Answer, refused, accepted, answer}
 
@@ -20,12 +21,11 @@ infix 50 _∈_
 abbrev pub _∈_ : Entry → List Entry → Type 0
 _∈_ e es = List·Memᴰ e es
 
--- 'A run has an n, an f, a set of at least n - f numbers below n': the set's vaults keep the rules.
+-- 'A run has an n, an f, a set of at least n - f numbers below n': the set's vaults keep the rules, and weigh what all do, less f.
 pub record Setting : Type 0 where
-  pub n : ℕ
-  pub f : ℕ
+  pub vaults : Vaults
   pub keeps : Set
-  pub most : n - f ≤ size (equals n f) keeps
+  pub most : total vaults - vaults .f ≤ size vaults keeps
 
 -- 'Each item is one start, frame or timer call at one of them, accepted or refused'.
 pub record Item : Type 0 where
@@ -59,8 +59,8 @@ module _ (c : Setting) where
   -- What the run says of a call at vault i, after the calls l. A start: 'an accepted one brings this n, this f and the vault's
   -- own number. Class and plan are free.' A frame: 'Where the sender is any other number, the bytes are anything.'
   abbrev pub Fair : List Item → ℕ → Call → Type 0
-  Fair l i (start s p) = (o : Out) → answer (recordAt l i) (start s p) ≡ accepted o → (s .n ≡ c .n) × (s .f ≡ c .f) × (s .id ≡ i)
-  Fair l i (frame (Accepted x)) = Readable (c .n) i x × (c .keeps (x .sender) ≡ true → Sent l i x)
+  Fair l i (start s p) = (o : Out) → answer (recordAt l i) (start s p) ≡ accepted o → (vaultsOf s ≡ c .vaults) × (s .id ≡ i)
+  Fair l i (frame (Accepted x)) = Readable (c .vaults .n) i x × (c .keeps (x .sender) ≡ true → Sent l i x)
   Fair l i (frame (Refused k)) = Unit {0}
   Fair l i (timer v) = Unit {0}
   Fair l i short = Unit {0}
