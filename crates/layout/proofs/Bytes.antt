@@ -1,0 +1,69 @@
+-- Laws of bytes put at a place: which bytes stay, which numbers stay, and what is read where something was put. And of a lent part:
+-- a number in it is a number of the whole.
+-- Assumes nothing.
+use Prim.Native.Nat.{ℕ, zero, suc, _+_, _*_, _^_, _≤_, _<_}
+use mathlib.Core.Path.{_≡_, refl, ap, sym, _∙_}
+use mathlib.Core.List.{List, [], _∷_, _++_}
+use native.Mathlib.Nat.{add-assoc}
+use native.Mathlib.Omega.{arith}
+use lib.ListN.{length, getD, take, drop, set, replicate, getD-replicate}
+use lib.Seq.{sets, getD-set-other, getD-take, getD-drop, length-take-le}
+use Rattle.wire.specs.Digits.{numberAt, digits}
+use Rattle.wire.specs.Placed.{placed}
+use Rattle.wire.proofs.Laws.{number-digits}
+use Rattle.wire.proofs.Output.{placed-sets}
+
+-- ---- bytes that stay
+
+pub setsOther : (vs l : List ℕ) (i k : ℕ) → (i ≤ k → i + length vs ≤ k) → getD (sets l i vs) k 0 ≡ getD l k 0
+setsOther [] l i k h = refl
+setsOther (v ∷ vs) l i k h =
+    setsOther vs (set l i v) (suc i) k (λ (g : suc i ≤ k). let x : i + suc (length vs) ≤ k = h (omega arith) in omega arith)
+    ∙ getD-set-other l i k v 0 (λ (e : k ≡ i). let x : i + suc (length vs) ≤ k = h (omega arith) in omega arith)
+
+-- a byte before or behind what is put
+pub placedOther : (o : List ℕ) (at : ℕ) (a : List ℕ) (k : ℕ) → at + length a ≤ length o → (at ≤ k → at + length a ≤ k)
+    → getD (placed o at a) k 0 ≡ getD o k 0
+placedOther o at a k room h = rw (← placed-sets o at a room) (setsOther a o at k h)
+
+-- ---- numbers
+
+-- a number is made of its bytes
+pub numberSame : (w : ℕ) (s t : List ℕ) (at : ℕ) → ((j : ℕ) → j < w → getD s (at + j) 0 ≡ getD t (at + j) 0)
+    → numberAt w s at ≡ numberAt w t at
+unfolding numberAt
+numberSame zero s t at h = refl
+numberSame (suc w) s t at h =
+    let e = numberSame w s t at (λ j k. h j (omega arith)) in
+    let g = h w (omega arith) in
+    λ i. e i * 256 + g i
+
+-- a number that is put is read
+pub numberPut : (w : ℕ) (o : List ℕ) (at v : ℕ) → at + w ≤ length o → v < 256 ^ w → numberAt w (placed o at (digits w v)) at ≡ v
+unfolding placed
+numberPut w o at v room small =
+    let t : List ℕ = drop (at + length (digits w v)) o in
+    ap (numberAt w (take at o ++ (digits w v ++ t))) (sym (length-take-le at o (omega arith))) ∙ number-digits w v (take at o) t small
+
+-- a number whose bytes are all 0
+pub numberZero : (w : ℕ) (s : List ℕ) (at : ℕ) → ((j : ℕ) → j < w → getD s (at + j) 0 ≡ 0) → numberAt w s at ≡ 0
+unfolding numberAt
+numberZero zero s at h = refl
+numberZero (suc w) s at h =
+    let e = numberZero w s at (λ j k. h j (omega arith)) in
+    let g = h w (omega arith) in
+    λ i. e i * 256 + g i
+
+-- ---- a lent part, `&s[a..a + k]`
+
+pub bytePart : (a k : ℕ) (s : List ℕ) (j : ℕ) → j < k → getD (take k (drop a s)) j 0 ≡ getD s (a + j) 0
+bytePart a k s j h = getD-take k (drop a s) j 0 h ∙ getD-drop a s j 0
+
+pub numberPart : (w a k : ℕ) (s : List ℕ) (j : ℕ) → j + w ≤ k → numberAt w (take k (drop a s)) j ≡ numberAt w s (a + j)
+unfolding numberAt
+numberPart zero a k s j h = refl
+numberPart (suc w) a k s j h =
+    let e = numberPart w a k s j (omega arith) in
+    let g : getD (take k (drop a s)) (j + w) 0 ≡ getD s (a + j + w) 0 =
+    bytePart a k s (j + w) (omega arith) ∙ ap (λ (x : ℕ). getD s x 0) (sym (add-assoc a j w)) in
+    λ i. e i * 256 + g i
