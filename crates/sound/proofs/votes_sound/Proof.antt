@@ -1,48 +1,39 @@
--- `sound::votes_sound` meets its contract: the two previous votes, and the decision.
--- Assumes nothing.
-use mathlib.Core.Path.{ap, sym, _∙_}
-use mathlib.Core.Bool.{not}
-use Rattle.frame.specs.declared.Report.{Report}
-use Rattle.frame.specs.Refusal.{badForm}
-use Rattle.record.specs.Slots.{slotIn}
-use Rattle.sound.proofs.Laws.{off, on, votes-first, votes-second, votes-decision}
 use borrow.Author.Needs.{needs}
 use Rattle.sound.proofs.votes_sound.Statement.{statement}
 use Rattle.sound.proofs.votes_sound.Tie as tie
+use Rattle.sound.proofs.votes_sound.Reads as reads
+use Rattle.sound.proofs.votes_sound.Lts as lts
+use Rattle.layout.proofs.slot_of.Reads as slot-of-reads
+use Rattle.sound.proofs.previous_sound.Reads as previous-sound-reads
+use Rattle.sound.proofs.well_formed.Reads as well-formed-reads
 
+-- src/lib.rt:406:9
 previous-sound-requires : tie.Need-previous-sound-requires
 previous-sound-requires c κs = search needs
 
+-- src/lib.rt:407:9
 returns : tie.Need-returns
-returns c =
-    let s = c .before .before .before .before .before in
-    let slots = slotIn (s .args .marks .now) (s .args .views .now) (s .args .plans .now) in
-    sym (votes-first slots (s .args .id) (off (c .before .previous-sound .ensures) (c .if1 .taken)))
+returns c = ?
 
+-- src/lib.rt:409:9
 previous-sound-requires-2 : tie.Need-previous-sound-requires-2
 previous-sound-requires-2 c κs = search needs
 
+-- src/lib.rt:410:9
 returns-2 : tie.Need-returns-2
-returns-2 c =
-    let s = c .before .before .before .before .before .before .before in
-    let slots = slotIn (s .args .marks .now) (s .args .views .now) (s .args .plans .now) in
-    sym (votes-second slots (s .args .id) (on (c .before .before .before .previous-sound .ensures) (c .before .before .if1 .left))
-    (off (c .before .previous-sound2 .ensures) (c .if2 .taken)))
+returns-2 c = ?
 
-slot-in-requires : tie.Need-slot-in-requires
-slot-in-requires c κs = search needs
+-- src/lib.rt:412:17
+slot-of-requires : tie.Need-slot-of-requires
+slot-of-requires c κs = search needs
 
+-- src/lib.rt:412:5
 well-formed-requires : tie.Need-well-formed-requires
 well-formed-requires c κs = search needs
 
+-- src/lib.rt:402:1
 returns-3 : tie.Need-returns-3
-returns-3 c =
-    let s = c .before .before .before .before .before .before .before .before .before in
-    let slots = slotIn (s .args .marks .now) (s .args .views .now) (s .args .plans .now) in
-    c .well-formed .ensures ∙ ap (λ (x : Report). not (badForm x)) (c .before .slot-in .ensures)
-    ∙ sym (votes-decision slots (s .args .id)
-    (on (c .before .before .before .before .before .previous-sound .ensures) (c .before .before .before .before .if1 .left))
-    (on (c .before .before .before .previous-sound2 .ensures) (c .before .before .if2 .left)))
+returns-3 c = ?
 
 pub votes-sound-spec : {M : Type 1} → statement M
 votes-sound-spec =
@@ -52,6 +43,6 @@ votes-sound-spec =
     returns
     previous-sound-requires-2
     returns-2
-    slot-in-requires
+    slot-of-requires
     well-formed-requires
     returns-3)
