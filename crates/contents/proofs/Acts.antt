@@ -56,7 +56,8 @@ module _ (s : ℕ → Report) (k j : ℕ) where
   abbrev there : Report
   there = s (frameSlot (suc k) j)
 
-  reads : {b : Bool} → eqb (there .mark) 1 ≡ b → framed k j (cond b (some (record { view = there .view; plan = there .plan })) none) ≡ framed k j (reported there)
+  reads : {b : Bool} → eqb (there .mark) 1 ≡ b → framed k j (cond b (some (record { view = there .view; plan = there .plan })) none)
+      ≡ framed k j (reported there)
   reads e = ap (λ (b : Bool). framed k j (cond b (some (record { view = there .view; plan = there .plan })) none)) (sym e)
 
   keptVote : k ≤ 4 → keptIn s (suc k) j ≡ framed k j (reported there)
@@ -125,10 +126,12 @@ module _ (r : slots.Record) (k p : ℕ) where
   contentsMoved true false e has there same = ap previously (sym (putOwn k (contents r .previous)))
   contentsMoved true true true has there same =
       ap previously (sym (putOwn k (contents r .previous)))
-      ∙ ap (λ (b : Bool). previously (put k (cond b (contents r .previous k) (some (record { view = own .view; plan = own .plan }))) (contents r .previous))) (sym same)
+      ∙ ap (λ (b : Bool). previously (put k (cond b (contents r .previous k) (some (record { view = own .view; plan = own .plan })))
+      (contents r .previous))) (sym same)
   contentsMoved true true false has there same =
       contentsPrevious r k own has ∙ ap (λ (o : Option Vote). previously (put k o (contents r .previous))) (sym (vote there))
-      ∙ ap (λ (b : Bool). previously (put k (cond b (contents r .previous k) (some (record { view = own .view; plan = own .plan }))) (contents r .previous))) (sym same)
+      ∙ ap (λ (b : Bool). previously (put k (cond b (contents r .previous k) (some (record { view = own .view; plan = own .plan })))
+      (contents r .previous))) (sym same)
 
   -- 'a new vote for the same plan leaves previous alone'.
   pub contentsShifted : k ≤ 4 → r .set .id < rows → contents (shifted r (suc k) p) ≡ previously (protocol.shifted (contents r) k p)

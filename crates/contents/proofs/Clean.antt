@@ -54,7 +54,8 @@ module _ (r : slots.Record) where
       there : (i : ℕ) → i < slotCount → slotOf r i ≡ slotAt (contents r) i
       there = everywhere (λ (i : ℕ). slotOf r i ≡ slotAt (contents r) i)
           (λ k j low high row. h .head k j low high row ∙ ap headOf (sym (keptAt r k j low high row)) ∙ sym (slotHead (contents r) k j low high row))
-          (λ k w j low high lw row. h .told k w j low high lw row ∙ ap (toldOf w) (sym (keptAt r k j (omega arith) high row)) ∙ sym (slotTold (contents r) k w j low high lw row))
+          (λ k w j low high lw row. h .told k w j low high lw row ∙ ap (toldOf w) (sym (keptAt r k j (omega arith) high row))
+          ∙ sym (slotTold (contents r) k w j low high lw row))
           (λ k has. h .previous k has ∙ ap spelt (sym (previousAt r k has)) ∙ sym (slotPrevious (contents r) k has))
           (h .decision ∙ ap spelt (sym (decisionAt r)) ∙ sym (slotDecision (contents r)))
 
@@ -72,8 +73,10 @@ module _ (r : slots.Record) where
   pub filledOf : Clean r → Filled (slotOf r)
   filledOf h = record {
     head = λ k j low high row. filledAt h (frameSlot k j) (omega arith) ∙ slotHead (contents r) k j low high row ∙ ap headOf (keptAt r k j low high row);
-    told = λ k w j low high lw row. filledAt h (reportSlot k w j) (omega arith) ∙ slotTold (contents r) k w j low high lw row ∙ ap (toldOf w) (keptAt r k j (omega arith) high row);
-    previous = λ k has. let (low, high) = previousBounds k has in filledAt h (previousSlot (suc k)) (omega arith) ∙ slotPrevious (contents r) k has ∙ ap spelt (previousAt r k has);
+    told = λ k w j low high lw row. filledAt h (reportSlot k w j) (omega arith) ∙ slotTold (contents r) k w j low high lw row
+        ∙ ap (toldOf w) (keptAt r k j (omega arith) high row);
+    previous = λ k has. let (low, high) = previousBounds k has in filledAt h (previousSlot (suc k)) (omega arith) ∙ slotPrevious (contents r) k has
+        ∙ ap spelt (previousAt r k has);
     decision = filledAt h decisionSlot (omega arith) ∙ slotDecision (contents r) ∙ ap spelt (decisionAt r);
   }
 
@@ -93,13 +96,15 @@ module _ (r : slots.Record) (f : Frame) (h : Clean r) (row : f .sender < rows) (
   filledKeep : Filled s
   filledKeep = record {
     head = λ k j low high below. byPlace r f row fit k j
-        (λ e ek ej. subst (λ (k : ℕ). s (frameSlot k j) ≡ headOf (keptIn s k j)) ek (subst (λ (j : ℕ). s (frameSlot (f .kind) j) ≡ headOf (keptIn s (f .kind) j)) ej
+        (λ e ek ej. subst (λ (k : ℕ). s (frameSlot k j) ≡ headOf (keptIn s k j)) ek
+        (subst (λ (j : ℕ). s (frameSlot (f .kind) j) ≡ headOf (keptIn s (f .kind) j)) ej
         (puts .head ∙ ap headOf (sym there))))
         (λ e ne.
         headStays r f row fit k j low high below ne ∙ was .head k j low high below
         ∙ ap headOf (sym (keptStays r f row fit k j low high below ne)));
     told = λ k w j low high lw below. byPlace r f row fit k j
-        (λ e ek ej. subst (λ (k : ℕ). s (reportSlot k w j) ≡ toldOf w (keptIn s k j)) ek (subst (λ (j : ℕ). s (reportSlot (f .kind) w j) ≡ toldOf w (keptIn s (f .kind) j)) ej
+        (λ e ek ej. subst (λ (k : ℕ). s (reportSlot k w j) ≡ toldOf w (keptIn s k j)) ek
+        (subst (λ (j : ℕ). s (reportSlot (f .kind) w j) ≡ toldOf w (keptIn s (f .kind) j)) ej
         (puts .told w lw (omega arith) ∙ ap (toldOf w) (sym there))))
         (λ e ne.
         toldStays r f row fit k j (omega arith) high below ne w lw low ∙ was .told k w j low high lw below

@@ -31,7 +31,8 @@ use Rattle.contents.specs.Contents.{keptOf, previousOf, contents, nth, t
 -- ---- what slots hold
 
 -- Slots that agree at the places of a kind and a sender hold the same there.
-module _ (s t : ℕ → Report) (k j : ℕ) (head : s (frameSlot k j) ≡ t (frameSlot k j)) (told : (w : ℕ) → w < 3 → 7 ≤ k → s (reportSlot k w j) ≡ t (reportSlot k w j)) where
+module _ (s t : ℕ → Report) (k j : ℕ) (head : s (frameSlot k j) ≡ t (frameSlot k j))
+    (told : (w : ℕ) → w < 3 → 7 ≤ k → s (reportSlot k w j) ≡ t (reportSlot k w j)) where
   bodySame : Form k → bodyIn s k j ≡ bodyIn t k j
   bodySame (plan low high) = bodyPlan s k j low high ∙ ap (λ (x : Report). Plan (x .plan)) head ∙ sym (bodyPlan t k j low high)
   bodySame (bare e) = bodyBare s k j e ∙ sym (bodyBare t k j e)
@@ -111,7 +112,8 @@ module _ (r : slots.Record) (f : Frame) where
   headed = withSlot r (frameSlot (f .kind) (f .sender)) (headSlot f)
 
   -- What is not in slots stays.
-  pub restKeep : {A : Type 0} (rest : slots.Record → A) → ((at : ℕ) (x : Report) (q : slots.Record) → rest (withSlot q at x) ≡ rest q) → rest (keepFrame r (f .sender) f) ≡ rest r
+  pub restKeep : {A : Type 0} (rest : slots.Record → A) → ((at : ℕ) (x : Report) (q : slots.Record) → rest (withSlot q at x) ≡ rest q)
+      → rest (keepFrame r (f .sender) f) ≡ rest r
   unfolding keepFrame withReports
   restKeep {A} rest same = go (f .body)
     where
@@ -140,7 +142,8 @@ module _ (r : slots.Record) (f : Frame) where
       go Empty is = let e : f .kind ≡ 6 = eqb-true (f .kind) 6 is in short Empty (omega arith)
       go (Told t) is = let (low, high) = bounds 7 8 (f .kind) is in record {
         head =
-            reportsOther headed (f .kind) (f .sender) t (frameSlot (f .kind) (f .sender)) (λ w lw (e : frameSlot (f .kind) (f .sender) ≡ reportSlot (f .kind) w (f .sender)). omega arith)
+            reportsOther headed (f .kind) (f .sender) t (frameSlot (f .kind) (f .sender))
+            (λ w lw (e : frameSlot (f .kind) (f .sender) ≡ reportSlot (f .kind) w (f .sender)). omega arith)
             ∙ here;
         told = λ w lw seven. reportsThere headed (f .kind) (f .sender) t low high row w lw;
         other = λ i ne more.
@@ -213,7 +216,13 @@ module _ (r : slots.Record) (f : Frame) (row : f .sender < rows) (fit : fits (f 
   keptKeep : (k j : ℕ) → keptOf after k j ≡ keeping f (keptOf r) k j
   unfolding keptOf
   keptKeep k j = byPlace k j
-      (λ e ek ej. rw (e, ← ek, ← ej, inside 1 kinds (f .kind) (fitsKind (f .kind) (f .body) fit .0) (fitsKind (f .kind) (f .body) fit .1), lt-ltb (f .sender) rows row) keptPut)
+      (λ e ek ej. rw (
+        e,
+        ← ek,
+        ← ej,
+        inside 1 kinds (f .kind) (fitsKind (f .kind) (f .body) fit .0) (fitsKind (f .kind) (f .body) fit .1),
+        lt-ltb (f .sender) rows row,
+      ) keptPut)
       (λ e ne. rw e (guarded (within 1 kinds k && ltb j rows) (λ g.
       let (gk, gj) = bothSplit (within 1 kinds k) (ltb j rows) g in
       let (low, high) = bounds 1 kinds k gk in

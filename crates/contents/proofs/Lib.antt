@@ -4,3 +4,7 @@ pub mod Clean
 pub mod Parts
 pub mod Acts
 pub mod Slotted
+pub mod Widths
+pub mod Tests
+pub mod Sound
+pub mod Ready

@@ -17,7 +17,8 @@ use Rattle.frame.specs.Format.{within}
 use Rattle.frame.proofs.Laws.{bounds}
 use Rattle.record.specs.Slots as slots
 use Rattle.settings.specs.declared.Settings.{Settings}
-use Rattle.record.specs.Slots.{rows, kinds, firstPrevious, slotCount, frameSlot, reportSlot, previousSlot, decisionSlot, emptySlot, slotOf, withSlot, withView, fresh}
+use Rattle.record.specs.Slots.{rows, kinds, firstPrevious, slotCount, frameSlot, reportSlot, previousSlot, decisionSlot}
+use Rattle.record.specs.Slots.{emptySlot, slotOf, withSlot, withView, fresh}
 use Rattle.record.proofs.Slots.{slotSame, slotOther}
 use Rattle.keeping.specs.Kept.{keptIn}
 use Rattle.keeping.proofs.Forms.{keptNothing}
@@ -62,7 +63,8 @@ module _ (r : slots.Record) (at : ℕ) (x : Report) (far : firstPrevious ≤ at)
   pub cleanBeside : Clean r → at < slotCount → x ≡ spelt (reported x) → Clean (withSlot r at x)
   cleanBeside h low vote = cleanOf (withSlot r at x) far′ (record {
     head = λ k j low high row. frameStays k j low high row ∙ was .head k j low high row ∙ ap headOf (sym (frameKept k j low high row));
-    told = λ k w j low high lw row. reportStays k w j high lw row ∙ was .told k w j low high lw row ∙ ap (toldOf w) (sym (frameKept k j (omega arith) high row));
+    told = λ k w j low high lw row. reportStays k w j high lw row ∙ was .told k w j low high lw row
+        ∙ ap (toldOf w) (sym (frameKept k j (omega arith) high row));
     previous = λ k has. votes (previousSlot (suc k)) (was .previous k has);
     decision = votes decisionSlot (was .decision);
   })
@@ -93,7 +95,8 @@ module _ (r : slots.Record) (k : ℕ) (x : Report) (has : hasPrevious k ≡ true
           let there = ap reported (slotSame r (previousSlot (suc k)) x) in
           let was : when (hasPrevious k) (reported (slotOf (withSlot r (previousSlot (suc k)) x) (previousSlot (suc k)))) ≡ reported x =
           ap (λ (b : Bool). when b (reported (slotOf (withSlot r (previousSlot (suc k)) x) (previousSlot (suc k))))) has ∙ there in
-          ap (λ (j : ℕ). previousOf (withSlot r (previousSlot (suc k)) x) j) (sym (eqb-true k j e)) ∙ was ∙ ap (λ (b : Bool). cond b (reported x) (previousOf r j)) (sym e)
+          ap (λ (j : ℕ). previousOf (withSlot r (previousSlot (suc k)) x) j) (sym (eqb-true k j e)) ∙ was
+          ∙ ap (λ (b : Bool). cond b (reported x) (previousOf r j)) (sym e)
       go (inr e) =
           guarded (hasPrevious j) (λ g.
           let (low, high) = previousBounds k has in
@@ -128,9 +131,11 @@ module _ (r : slots.Record) (v p : ℕ) where
   unfolding previousOf
   previousDecide k = guarded (hasPrevious k) (λ g.
       let (low, high) = previousBounds k g in
-      ap reported (slotOther r decisionSlot (record { mark = 1; view = v; plan = p }) (previousSlot (suc k)) (λ (e : previousSlot (suc k) ≡ decisionSlot). omega arith)))
+      ap reported (slotOther r decisionSlot (record { mark = 1; view = v; plan = p }) (previousSlot (suc k))
+      (λ (e : previousSlot (suc k) ≡ decisionSlot). omega arith)))
 
-  pub contentsDecide : contents decided ≡ changed (contents r) (contents r .view) (contents r .kept) (contents r .previous) (some (record { view = v; plan = p }))
+  pub contentsDecide : contents decided ≡ changed (contents r) (contents r .view) (contents r .kept) (contents r .previous)
+      (some (record { view = v; plan = p }))
   unfolding contents
   contentsDecide =
       let kept = keptBeside r decisionSlot (record { mark = 1; view = v; plan = p }) (omega arith) in

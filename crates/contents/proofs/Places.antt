@@ -36,7 +36,12 @@ module _ (c : Record) where
   slotPrevious k has =
       let (low, high) = previousBounds k has in
       let vote : suc (previousSlot (suc k) - firstPrevious) ≡ k = omega arith in
-      rw (le-ltb (previousSlot (suc k)) firstReport (omega arith), le-ltb (previousSlot (suc k)) firstPrevious (omega arith), lt-ltb (previousSlot (suc k)) decisionSlot (omega arith), vote)
+      rw (
+        le-ltb (previousSlot (suc k)) firstReport (omega arith),
+        le-ltb (previousSlot (suc k)) firstPrevious (omega arith),
+        lt-ltb (previousSlot (suc k)) decisionSlot (omega arith),
+        vote,
+      )
 
   pub slotDecision : slotAt c decisionSlot ≡ spelt (c .decision)
   unfolding slotAt

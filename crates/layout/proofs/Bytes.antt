@@ -3,11 +3,27 @@
 -- Assumes nothing.
 use Prim.Native.Nat.{ℕ, zero, suc, _+_, _*_, _^_, _≤_, _<_}
 use mathlib.Core.Path.{_≡_, refl, ap, sym, _∙_}
-use mathlib.Core.List.{List, [], _∷_, _++_}
+use mathlib.Core.Bool.{Bool, true, false}
+use mathlib.Core.List.{List, [], _∷_, _++_, append-nil}
 use native.Mathlib.Nat.{add-assoc}
+use native.Mathlib.Numerals.{add-one}
 use native.Mathlib.Omega.{arith}
-use lib.ListN.{length, getD, take, drop, set, replicate, getD-replicate}
-use lib.Seq.{sets, getD-set-other, getD-take, getD-drop, length-take-le}
+use lib.Dec.{ltb}
+use borrow.Author.Tests.{ltb-true, ltb-false}
+use lib.ListN.{
+  length,
+  getD,
+  take,
+  drop,
+  set,
+  replicate,
+  length-replicate,
+  getD-replicate,
+  replicate-append-replicate,
+  drop-of-length-le,
+  List·getD-eq-default,
+}
+use lib.Seq.{sets, getD-set-other, getD-take, getD-drop, length-take-le, drop-cons, set-at, append-snoc}
 use Rattle.wire.specs.Digits.{numberAt, digits}
 use Rattle.wire.specs.Placed.{placed}
 use Rattle.wire.proofs.Laws.{number-digits}
@@ -67,3 +83,29 @@ numberPart (suc w) a k s j h =
     let g : getD (take k (drop a s)) (j + w) 0 ≡ getD s (a + j + w) 0 =
     bytePart a k s (j + w) (omega arith) ∙ ap (λ (x : ℕ). getD s x 0) (sym (add-assoc a j w)) in
     λ i. e i * 256 + g i
+
+-- ---- bytes set to 0 one after the other
+
+abbrev pub cleared : List ℕ → ℕ → List ℕ
+cleared s i = replicate i 0 ++ drop i s
+
+pub clearStep : (s : List ℕ) (i : ℕ) → i < length s → set (cleared s i) i 0 ≡ cleared s (i + 1)
+clearStep s i h =
+    rw (drop-cons s i 0 h, set-at (replicate i 0) (getD s i 0) (drop (suc i) s) 0 i (length-replicate i 0), add-one)
+    (sym (append-snoc (replicate i 0) 0 (drop (suc i) s)) ∙ ap (λ (l : List ℕ). l ++ drop (suc i) s) more)
+  where
+    more : _≡_ {A = List ℕ} (replicate i 0 ++ (0 ∷ [])) (replicate (suc i) 0)
+    more = replicate-append-replicate i 1 0 ∙ ap (λ (k : ℕ). replicate k 0) (add-one i)
+
+pub clearDone : (s : List ℕ) (i : ℕ) → i ≡ length s → cleared s i ≡ replicate (length s) 0
+clearDone s i e = rw (e, drop-of-length-le s {i = length s} (omega arith), append-nil)
+
+-- zeros, also behind the last
+pub zerosAt : (n k : ℕ) → _≡_ {A = ℕ} (getD (replicate n 0) k 0) 0
+zerosAt n k = go (ltb k n) refl
+  where
+    go : (t : Bool) → ltb k n ≡ t → _≡_ {A = ℕ} (getD (replicate n 0) k 0) 0
+    go true e = getD-replicate n k 0 0 (ltb-true k n e)
+    go false e =
+        let h : length {A = ℕ} (replicate n 0) ≤ k = rw (length-replicate n) (ltb-false k n e) in
+        List·getD-eq-default (replicate n 0) 0 {n = k} h

@@ -2,7 +2,7 @@
 -- (`slotPart`); thirteen bytes put at a slot's place are the record with that slot (`putThere`), for every other slot and the heads
 -- are made of bytes that stay; and what bytes spell has its widths (`smallSlots`, `fitsDecoded`).
 -- Assumes nothing.
-use Prim.Native.Nat.{ℕ, zero, suc, _+_, _-_, _*_, _^_, _≤_, _<_}
+use Prim.Native.Nat.{ℕ, suc, _+_, _-_, _*_, _^_, _≤_, _<_}
 use mathlib.Core.Path.{_≡_, refl, ap, sym, _∙_}
 use mathlib.Core.Logic.{_≢_}
 use mathlib.Core.Bool.{Bool, true, false, cond}
@@ -11,17 +11,18 @@ use native.Mathlib.Nat.{add-assoc}
 use native.Mathlib.Omega.{arith}
 use lib.Dec.{ltb, eqb}
 use borrow.Author.Tests.{ltb-true, ltb-false, lt-ltb, le-ltb, eqb-true, eqb-false}
-use lib.ListN.{length, getD, take, drop, length-append}
+use lib.ListN.{length, getD, take, drop, set, length-append}
 use lib.Seq.{sets, length-sets, length-take-le, getD-append-seam}
 use Rattle.wire.specs.Digits.{numberAt, digits}
 use Rattle.wire.specs.Fields.{Bytes}
 use Rattle.wire.specs.Placed.{placed}
 use Rattle.wire.proofs.Laws.{number-digits, length-digits, number-below}
-use Rattle.wire.proofs.Output.{length-placed, placed-sets}
+use Rattle.wire.proofs.Output.{length-placed, placed-sets, placed-more, placed-next}
 use Rattle.frame.specs.declared.Report.{Report}
 use Rattle.settings.specs.declared.Settings.{Settings}
 use Rattle.record.specs.Slots.{rows, slotCount, emptySlot, slotPut, withSlot, withView, fresh}
 use Rattle.layout.specs.Layout.{
+  headSize,
   slotSize,
   sharedSize,
   recordSize,
@@ -32,7 +33,6 @@ use Rattle.layout.specs.Layout.{
   slotBytes,
   decodeRecord,
   Small,
-  Narrow,
   Fits,
   Holds,
 }
@@ -49,14 +49,14 @@ unfolding place
 placeBlock i h = rw (le-ltb i rows h)
 
 -- either way, as one sum
-pub placeCases : (i : ℕ) (P : ℕ → Type 0) → (i < rows → P (8 + 13 * i)) → (rows ≤ i → P (16 + 13 * i)) → P (place i)
+pub placeCases : (i : ℕ) (P : ℕ → Type 0) → (i < rows → P (partPlace i)) → (rows ≤ i → P (headSize + partPlace i)) → P (place i)
 placeCases i P low high = go (ltb i rows) refl
   where
     go : (t : Bool) → ltb i rows ≡ t → P (place i)
     go true e = let h : i < rows = ltb-true i rows e in rw (placeShared i h) (low h)
     go false e =
         let h : rows ≤ i = ltb-false i rows e in
-        let q : place i ≡ 16 + 13 * i = placeBlock i h ∙ omega arith in
+        let q : place i ≡ headSize + partPlace i = placeBlock i h ∙ omega arith in
         rw q (high h)
 
 pub placeFits : (i : ℕ) → i < slotCount → place i + slotSize ≤ recordSize
@@ -66,30 +66,30 @@ placeFits i h = placeCases i (λ p. p + slotSize ≤ recordSize) (λ (g : i < ro
 pub placeApart : (i j : ℕ) → i ≢ j → (k : ℕ) → place j ≤ k → k < place j + slotSize → place i ≤ k → place i + slotSize ≤ k
 placeApart i j ne k =
     placeCases i (λ p. place j ≤ k → k < place j + slotSize → p ≤ k → p + slotSize ≤ k)
-    (λ (g : i < rows). placeCases j (λ q. q ≤ k → k < q + slotSize → 8 + 13 * i ≤ k → 8 + 13 * i + slotSize ≤ k)
-    (λ (h : j < rows) (a : 8 + 13 * j ≤ k) (b : k < 8 + 13 * j + slotSize) (c : 8 + 13 * i ≤ k). omega (arith, ne))
-    (λ (h : rows ≤ j) (a : 16 + 13 * j ≤ k) (b : k < 16 + 13 * j + slotSize) (c : 8 + 13 * i ≤ k). omega arith))
-    (λ (g : rows ≤ i). placeCases j (λ q. q ≤ k → k < q + slotSize → 16 + 13 * i ≤ k → 16 + 13 * i + slotSize ≤ k)
-    (λ (h : j < rows) (a : 8 + 13 * j ≤ k) (b : k < 8 + 13 * j + slotSize) (c : 16 + 13 * i ≤ k). omega arith)
-    (λ (h : rows ≤ j) (a : 16 + 13 * j ≤ k) (b : k < 16 + 13 * j + slotSize) (c : 16 + 13 * i ≤ k). omega (arith, ne)))
+    (λ (g : i < rows). placeCases j (λ q. q ≤ k → k < q + slotSize → partPlace i ≤ k → partPlace i + slotSize ≤ k)
+    (λ (h : j < rows) (a : partPlace j ≤ k) (b : k < partPlace j + slotSize) (c : partPlace i ≤ k). omega (arith, ne))
+    (λ (h : rows ≤ j) (a : headSize + partPlace j ≤ k) (b : k < headSize + partPlace j + slotSize) (c : partPlace i ≤ k). omega arith))
+    (λ (g : rows ≤ i). placeCases j (λ q. q ≤ k → k < q + slotSize → headSize + partPlace i ≤ k → headSize + partPlace i + slotSize ≤ k)
+    (λ (h : j < rows) (a : partPlace j ≤ k) (b : k < partPlace j + slotSize) (c : headSize + partPlace i ≤ k). omega arith)
+    (λ (h : rows ≤ j) (a : headSize + partPlace j ≤ k) (b : k < headSize + partPlace j + slotSize) (c : headSize + partPlace i ≤ k). omega (arith, ne)))
 
 -- a byte of a head is before or behind every slot
-pub headApart : (i k : ℕ) → k < 8 → place i ≤ k → place i + slotSize ≤ k
+pub headApart : (i k : ℕ) → k < headSize → place i ≤ k → place i + slotSize ≤ k
 headApart i k b =
     placeCases i (λ p. p ≤ k → p + slotSize ≤ k)
-    (λ (g : i < rows) (a : 8 + 13 * i ≤ k). omega arith) (λ (g : rows ≤ i) (a : 16 + 13 * i ≤ k). omega arith)
+    (λ (g : i < rows) (a : partPlace i ≤ k). omega arith) (λ (g : rows ≤ i) (a : headSize + partPlace i ≤ k). omega arith)
 
-pub blockApart : (i k : ℕ) → sharedSize ≤ k → k < sharedSize + 8 → place i ≤ k → place i + slotSize ≤ k
+pub blockApart : (i k : ℕ) → sharedSize ≤ k → k < sharedSize + headSize → place i ≤ k → place i + slotSize ≤ k
 blockApart i k b c =
     placeCases i (λ p. p ≤ k → p + slotSize ≤ k)
-    (λ (g : i < rows) (a : 8 + 13 * i ≤ k). omega arith) (λ (g : rows ≤ i) (a : 16 + 13 * i ≤ k). omega arith)
+    (λ (g : i < rows) (a : partPlace i ≤ k). omega arith) (λ (g : rows ≤ i) (a : headSize + partPlace i ≤ k). omega arith)
 
 -- the block's head is before or behind every slot
-pub placeBehind : (i k : ℕ) → place i ≤ k → k < place i + slotSize → sharedSize ≤ k → sharedSize + 8 ≤ k
+pub placeBehind : (i k : ℕ) → place i ≤ k → k < place i + slotSize → sharedSize ≤ k → sharedSize + headSize ≤ k
 placeBehind i k =
-    placeCases i (λ p. p ≤ k → k < p + slotSize → sharedSize ≤ k → sharedSize + 8 ≤ k)
-    (λ (g : i < rows) (a : 8 + 13 * i ≤ k) (b : k < 8 + 13 * i + slotSize) (c : sharedSize ≤ k). omega arith)
-    (λ (g : rows ≤ i) (a : 16 + 13 * i ≤ k) (b : k < 16 + 13 * i + slotSize) (c : sharedSize ≤ k). omega arith)
+    placeCases i (λ p. p ≤ k → k < p + slotSize → sharedSize ≤ k → sharedSize + headSize ≤ k)
+    (λ (g : i < rows) (a : partPlace i ≤ k) (b : k < partPlace i + slotSize) (c : sharedSize ≤ k). omega arith)
+    (λ (g : rows ≤ i) (a : headSize + partPlace i ≤ k) (b : k < headSize + partPlace i + slotSize) (c : sharedSize ≤ k). omega arith)
 
 -- ---- slots
 
@@ -149,6 +149,16 @@ slotPutAt s at x room z =
     let t : List ℕ = drop (at + length (slotBytes x)) s in
     ap (slotIn (take at s ++ (slotBytes x ++ t))) (sym (length-take-le at s (omega arith))) ∙ slotSpelt x (take at s) t z
 
+-- one byte stored and two numbers put behind it
+pub slotStores : (s : List ℕ) (at : ℕ) (x : Report) → at < length s
+    → placed (placed (set s at (x .mark)) (at + 1) (digits 4 (x .view))) (at + 5) (digits 8 (x .plan)) ≡ placed s at (slotBytes x)
+slotStores s at x h =
+    let a : List ℕ = x .mark ∷ digits 4 (x .view) in
+    let b : List ℕ = digits 8 (x .plan) in
+    ap (λ (l : List ℕ). placed l (at + 5) b) (placed-next s at (x .mark) (digits 4 (x .view)) h)
+    ∙ ap (λ (n : ℕ). placed (placed s at a) (at + suc n) b) (sym (length-digits 4 (x .view)))
+    ∙ placed-more s at a b (omega arith)
+
 pub putSize : (s : List ℕ) (at : ℕ) (x : Report) → at + slotSize ≤ length s → length (placed s at (slotBytes x)) ≡ length s
 putSize s at x room = length-placed s at (slotBytes x) (rw (lengthSlot x) room)
 
@@ -191,7 +201,7 @@ module _ (s : List ℕ) (i : ℕ) (x : Report) (l : length s ≡ recordSize) (h 
           ∙ slotThere (placed s (place i) (slotBytes x)) i h ∙ slotPutAt s (place i) x room z
       go false e = other (ltb j slotCount) refl (eqb-false i j e)
 
-  head : (k : ℕ) → k < 8 → getD (placed s (place i) (slotBytes x)) k 0 ≡ getD s k 0
+  head : (k : ℕ) → k < headSize → getD (placed s (place i) (slotBytes x)) k 0 ≡ getD s k 0
   head k b = byte k (headApart i k b)
 
   -- thirteen bytes put at a slot's place are the record with that slot
@@ -220,14 +230,14 @@ module _ (s : List ℕ) (i : ℕ) (x : Report) (l : length s ≡ recordSize) (h 
 -- ---- another current view
 
 -- a slot stands behind the shared part's head
-pub placeLow : (i : ℕ) → 8 ≤ place i
-placeLow i = placeCases i (λ p. 8 ≤ p) (λ (g : i < rows). omega arith) (λ (g : rows ≤ i). omega arith)
+pub placeLow : (i : ℕ) → headSize ≤ place i
+placeLow i = placeCases i (λ p. headSize ≤ p) (λ (g : i < rows). omega arith) (λ (g : rows ≤ i). omega arith)
 
 module _ (s : List ℕ) (v : ℕ) (l : length s ≡ recordSize) where
   viewRoom : viewPlace + length (digits 4 v) ≤ length s
   viewRoom = rw (length-digits, l) (omega arith)
 
-  viewByte : (k : ℕ) → (viewPlace ≤ k → 8 ≤ k) → getD (placed s viewPlace (digits 4 v)) k 0 ≡ getD s k 0
+  viewByte : (k : ℕ) → (viewPlace ≤ k → headSize ≤ k) → getD (placed s viewPlace (digits 4 v)) k 0 ≡ getD s k 0
   viewByte k h = placedOther s viewPlace (digits 4 v) k viewRoom (rw length-digits h)
 
   viewSlot : (i : ℕ) → slotIn (placed s viewPlace (digits 4 v)) (place i) ≡ slotIn s (place i)
@@ -267,12 +277,12 @@ module _ (z : List ℕ) (set : Settings) (plan : ℕ) (l : length z ≡ recordSi
   planRoom : sharedSize + length (digits 8 plan) ≤ length (settingBytes z set)
   planRoom = rw (length-digits, length-sets z 0 (set .n ∷ set .f ∷ set .id ∷ set .class ∷ []), l) (omega arith)
 
-  freshByte : (k : ℕ) → (sharedSize ≤ k → sharedSize + 8 ≤ k)
+  freshByte : (k : ℕ) → (sharedSize ≤ k → sharedSize + headSize ≤ k)
       → getD (placed (settingBytes z set) sharedSize (digits 8 plan)) k 0 ≡ getD (settingBytes z set) k 0
   freshByte k h = placedOther (settingBytes z set) sharedSize (digits 8 plan) k planRoom (rw length-digits h)
 
   -- behind the settings, all but the plan is 0
-  freshZero : (k : ℕ) → 4 ≤ k → (sharedSize ≤ k → sharedSize + 8 ≤ k)
+  freshZero : (k : ℕ) → 4 ≤ k → (sharedSize ≤ k → sharedSize + headSize ≤ k)
       → getD (placed (settingBytes z set) sharedSize (digits 8 plan)) k 0 ≡ 0
   freshZero k a h =
       freshByte k h ∙ setsOther (set .n ∷ set .f ∷ set .id ∷ set .class ∷ []) z 0 k (λ (g : 0 ≤ k). omega arith) ∙ zeros k
@@ -309,7 +319,7 @@ module _ (z : List ℕ) (set : Settings) (plan : ℕ) (l : length z ≡ recordSi
       let o : List ℕ = placed (settingBytes z set) sharedSize (digits 8 plan) in
       let view = numberZero 4 o viewPlace (λ (j : ℕ) (b : j < 4).
       freshZero (viewPlace + j) (omega arith) (λ (g : sharedSize ≤ viewPlace + j). omega arith)) in
-      let room : sharedSize + 8 ≤ length (settingBytes z set) = rw (length-digits) at planRoom in
+      let room : sharedSize + headSize ≤ length (settingBytes z set) = rw (length-digits) at planRoom in
       let last = numberPut 8 (settingBytes z set) sharedSize plan room small in
       λ k. record {
         set = record { n = n k; f = f k; id = id k; class = class k };

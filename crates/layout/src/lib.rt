@@ -7,7 +7,19 @@ ghost use mathlib.Core.Path.{_≡_};
 ghost use Prim.Native.Nat.{_+_, _*_, _≤_, _<_};
 ghost use lib.ListN.{length, replicate};
 ghost use Rattle.wire.specs.Placed.{placed};
-ghost use Rattle.record.specs.Slots.{slotCount, frameSlot, reportSlot, previousSlot, Place, withSlot, withView, fresh};
+ghost use Rattle.record.specs.Slots.{
+  firstReport,
+  firstPrevious,
+  decisionSlot,
+  slotCount,
+  frameSlot,
+  reportSlot,
+  previousSlot,
+  Place,
+  withSlot,
+  withView,
+  fresh,
+};
 ghost use Rattle.layout.specs.Layout.{slotSize, recordSize, place, slotIn, slotBytes, decodeRecord, Holds};
 
 // The senders that have a row.
@@ -46,7 +58,7 @@ fn wide(x: u8) -> usize
 // The slot of the kept frame of a kind and a sender: kinds 6, 7, 8, 1, 2, 3, 4, 5, of 64 rows each.
 pub fn frame_slot(kind: u8, sender: u8) -> usize
     requires { ⌜ Place kind sender ⌝ }
-    ensures { λ r. ⌜ (r ≡ frameSlot kind sender) × (r < 512) ⌝ }
+    ensures { λ r. ⌜ (r ≡ frameSlot kind sender) × (r < firstReport) ⌝ }
 {
     (wide(kind) + 2) % 8 * ROWS + wide(sender)
 }
@@ -54,7 +66,7 @@ pub fn frame_slot(kind: u8, sender: u8) -> usize
 // The slot of report j (0 highest, 1 previous, 2 lock) in the kept suggest or proof of a sender.
 pub fn report_slot(kind: u8, which: u8, sender: u8) -> usize
     requires { ⌜ (7 ≤ kind) × (which < 3) × Place kind sender ⌝ }
-    ensures { λ r. ⌜ (r ≡ reportSlot kind which sender) × (512 ≤ r) × (r < 896) ⌝ }
+    ensures { λ r. ⌜ (r ≡ reportSlot kind which sender) × (firstReport ≤ r) × (r < firstPrevious) ⌝ }
 {
     REPORTS + (wide(kind) - 7) * (3 * ROWS) + wide(which) * ROWS + wide(sender)
 }
@@ -62,7 +74,7 @@ pub fn report_slot(kind: u8, which: u8, sender: u8) -> usize
 // The slot of the own previous vote of a kind: 2 is vote-1, 3 is vote-2.
 pub fn previous_slot(kind: u8) -> usize
     requires { ⌜ (2 ≤ kind) × (kind ≤ 3) ⌝ }
-    ensures { λ r. ⌜ (r ≡ previousSlot kind) × (896 ≤ r) × (r < 898) ⌝ }
+    ensures { λ r. ⌜ (r ≡ previousSlot kind) × (firstPrevious ≤ r) × (r < decisionSlot) ⌝ }
 {
     PREVIOUS + (wide(kind) - 2)
 }

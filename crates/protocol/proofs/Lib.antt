@@ -12,6 +12,7 @@ pub mod Slots
 pub mod Sound
 pub mod Size
 pub mod Proper
+pub mod ReadsBack
 pub mod Settled
 pub mod Lasting
 pub mod Tested

@@ -104,7 +104,7 @@ module _ {r : Record} (w : Whole r) where
   voteWidth : (k j : ℕ) (x : Vote) → voteOf r k j ≡ some x → Fits x
   voteWidth k j x e = let (y, is, v) = eachSome (r .kept (suc k) j) _ e in voteFits y (w .sound .kept (suc k) j y is .valid) x v
 
-  wishWidth : (v : ℕ) → Wished r v → v < 2 ^ 32
+  pub wishWidth : (v : ℕ) → Wished r v → v < 2 ^ 32
   wishWidth v (j, e) =
       let (y, is, q) = eachSome (r .kept 6 j) _ e in
       let same : y .view ≡ v = cc in
@@ -146,14 +146,14 @@ module _ {r : Record} (w : Whole r) where
 
   -- ---- the frames
 
-  leadsFirst : (k p : ℕ) → Reached r k p → k ≡ 0 → leaderOf (r .view) (r .set .n) ≡ r .set .id
+  pub leadsFirst : (k p : ℕ) → Reached r k p → k ≡ 0 → leaderOf (r .view) (r .set .n) ≡ r .set .id
   leadsFirst zero p (lead, chosen) e = lead
   leadsFirst (suc k) p why e = absurd (omega arith)
 
-  voteGoes : (k p : ℕ) → May r (cast k p) → Sendable (r .set .n) (r .set .id) (voteFrame r k p)
+  pub voteGoes : (k p : ℕ) → May r (cast k p) → Sendable (r .set .n) (r .set .id) (voteFrame r k p)
   voteGoes k p may = voteSendable (r .set .n) (r .set .id) small k (r .view) p (may .0) (leadsFirst k p (may .2)) (w .ranged .view) (planWidth k p (may .2))
 
-  reportGoes : (v : ℕ) → r .view < v → v < 2 ^ 32 → (rule : Rule) → Sendable (r .set .n) (r .set .id) (reportFrame r rule v)
+  pub reportGoes : (v : ℕ) → r .view < v → v < 2 ^ 32 → (rule : Rule) → Sendable (r .set .n) (r .set .id) (reportFrame r rule v)
   reportGoes v later low rule =
       reportSendable (r .set .n) (r .set .id) small rule v (voteOf r (claimVote rule) (r .set .id)) (r .previous (claimVote rule)) (voteOf r (lockVote rule) (r .set .id))
       (omega arith) low
@@ -203,11 +203,14 @@ module _ {r : Record} (w : Whole r) where
   askWidth : (v : ℕ) → May r (ask v) → v < 2 ^ 32
   askWidth v (above, from) = ⊎-elim (wishWidth v) (λ (is, room). omega (arith, w .ranged .view, is, room)) from
 
+  pub changeGoes : (v : ℕ) → May r (ask v) → Sendable (r .set .n) (r .set .id) (changeFrame r v)
+  changeGoes v may = changeSendable (r .set .n) (r .set .id) small v (omega (arith, may .0)) (askWidth v may)
+
   actSound : (a : Act) → May r a → Sound (does r a)
   unfolding does
   actSound (ask v) may = record {
     settings = w .sound .settings;
-    kept = rowsBy (changeFrame r v) (r .kept) (ownRow (changeFrame r v) refl (changeSendable (r .set .n) (r .set .id) small v (omega (arith, may .0)) (askWidth v may)) (λ (e : 6 ≡ 7). absurd (omega arith))) (w .sound .kept);
+    kept = rowsBy (changeFrame r v) (r .kept) (ownRow (changeFrame r v) refl (changeGoes v may) (λ (e : 6 ≡ 7). absurd (omega arith))) (w .sound .kept);
     own = ownBy (r .view) (changeFrame r v) (r .kept) (λ six. absurd (six refl)) (w .sound .own);
     previous = λ k has. standsTo (voteOf (does r (ask v)) k (r .set .id)) (r .previous k) (previousNow (ask v) may k has);
   }
@@ -284,7 +287,7 @@ module _ {r : Record} (w : Whole r) where
 
   pub actValid : (a : Act) → May r a → AllValid (writes r a)
   unfolding writes
-  actValid (ask v) may = (changeSendable (r .set .n) (r .set .id) small v (omega (arith, may .0)) (askWidth v may) .valid, tt)
+  actValid (ask v) may = (changeGoes v may .valid, tt)
   actValid (enter v) may =
       ((wishWidth v (may .1), omega (arith, delayLow (r .set .class))), (goes rule3 .valid, rest (leads r v)))
     where

@@ -5,4 +5,5 @@ pub mod Example
 pub mod Sound
 pub mod Settled
 pub mod Runs
+pub mod ReadsBack
 pub mod Claim

@@ -1,9 +1,6 @@
-// Exports of the record for the tests outside: what lent bytes are, and decoding followed by encoding.
+// Export of the record for the tests outside: what lent bytes are.
 use sound::Lent;
 ghost use mathlib.Core.Path.{_≡_};
-ghost use mathlib.Core.Bool.{cond};
-ghost use lib.ListN.{length};
-ghost use lib.Dec.{eqb};
 ghost use Rattle.sound.specs.Sound.{lentIs};
 ghost use Rattle.record_c.specs.Class.{classNumber};
 
@@ -18,17 +15,4 @@ pub extern "C" fn record_class(bytes: &[u8]) -> u32
         Lent::Sound => 1,
         Lent::Unsound => 2,
     }
-}
-
-// Decodes a record and encodes it again: no byte changes. 1, or 0 for another length.
-#[no_mangle]
-pub extern "C" fn record_again(bytes: &mut [u8]) -> u32
-    ensures { λ r. ⌜ (r ≡ cond (eqb (length (now (bytes .entry))) 11703) 1 0) × (now (bytes .exit) ≡ now (bytes .entry)) ⌝ }
-{
-    if bytes.len() != layout::SIZE {
-        return 0;
-    }
-    let r = layout::decode(bytes);
-    layout::encode(r, bytes);
-    1
 }

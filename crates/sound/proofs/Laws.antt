@@ -19,7 +19,8 @@ use Rattle.settings.specs.Settings.{settingRows}
 use Rattle.record.specs.Slots.{frameSlot, reportSlot, decisionSlot}
 use Rattle.layout.specs.Layout.{recordSize, decodeRecord}
 use Rattle.keeping.specs.Kept.{frameIn}
-use Rattle.sound.specs.Sound.{all, reportsAbsent, emptyAt, noPlan, ahead, frameSound, placeSound, stands, previousSound, votesSound, rowsSound, soundIn, sound, lentIs}
+use Rattle.sound.specs.Sound.{all, reportsAbsent, emptyAt, noPlan, ahead, frameSound, placeSound}
+use Rattle.sound.specs.Sound.{stands, previousSound, votesSound, rowsSound, soundIn, sound, lentIs}
 use Rattle.sound.specs.declared.Lent.the-variants.{Blank, Unsound, Sound}
 
 -- ---- flags

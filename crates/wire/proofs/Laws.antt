@@ -95,13 +95,13 @@ pub sized-fields : (ws s : List ℕ) (at : ℕ) → Bytes s → Sized (fieldsAt 
 sized-fields [] s at b = tt
 sized-fields (w ∷ ws) s at b = (number-below w s at b, sized-fields ws s (at + w) b)
 
-bytes-append : (a b : List ℕ) → Bytes a → Bytes b → Bytes (a ++ b)
+pub bytes-append : (a b : List ℕ) → Bytes a → Bytes b → Bytes (a ++ b)
 bytes-append [] b p q i = q i
 bytes-append (x ∷ a) b p q zero = p zero
 bytes-append (x ∷ a) b p q (suc i) = bytes-append a b (λ j. p (suc j)) q i
 
 -- what is spelt is bytes, whether or not it fits
-bytes-digits : (w n : ℕ) → Bytes (digits w n)
+pub bytes-digits : (w n : ℕ) → Bytes (digits w n)
 unfolding digits
 bytes-digits zero n i = omega arith
 bytes-digits (suc w) n i = bytes-append (digits w (n / 256)) (n % 256 ∷ []) (bytes-digits w (n / 256)) last i

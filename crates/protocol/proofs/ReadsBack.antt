@@ -1,0 +1,176 @@
+-- Each frame that an accepted call writes is accepted, as itself, by every vault that it is for (document 01, 'Refusals, place by
+-- place', 9 to 15). Each act is looked at once: what it writes has bytes, is the vault's own, passes 13 and 14 (`Sendable`), and
+-- passes 15 at whom it is for, since a proposal is from its view's leader and a suggest goes only to its view's leader. The link is
+-- the own number, which is below n and not the reader's, so 11 and 12 pass too.
+-- Assumes nothing.
+use Prim.Native.Nat.{ℕ, suc, _<_}
+use mathlib.Core.Path.{_≡_, refl, sym, _∙_, subst}
+use mathlib.Core.Logic.{_≢_, _⊎_, inl, inr, ⊎-elim}
+use mathlib.Core.Bool.{Bool, true, false}
+use mathlib.Core.List.{List, [], _∷_, _++_, List·Memᴰ·cases-cons}
+use mathlib.Core.Option.{Option, none, some}
+use native.Mathlib.Omega.{arith}
+use lib.Dec.{eqb}
+use borrow.Author.Tests.{eqb-true, eqb-false, eq-eqb, ne-eqb, lt-leb}
+use Rattle.quorum.proofs.Bools.{which}
+use Rattle.rules.specs.Rules.{Rule, rule1, rule3}
+use Rattle.frame.specs.declared.Frame.{Frame}
+use Rattle.frame.specs.declared.Reading.the-variants.{Accepted, Refused}
+use Rattle.frame.specs.Format.{Valid, encode}
+use Rattle.frame.specs.Refusal.{first, leaderOf, misled, linkRows, contentRows, leaderRows, readFrame}
+use Rattle.frame.proofs.Theorems.{read-back}
+use Rattle.entry.specs.declared.Entry.{Entry}
+use Rattle.entry.specs.declared.Entry.the-variants.{ForAll, ForOne, Timer, Decision}
+use Rattle.settings.specs.declared.Settings.{Settings}
+use Rattle.settings.specs.Settings.{settingRows}
+use Rattle.protocol.specs.Record.{Record, leader, leads, changeFrame, voteFrame, reportFrame}
+use Rattle.protocol.specs.Pass.{Act, ask, enter, cast, decide, does, timerEntry, suggestEntry, writes, Out, Step, taken, onward, pass}
+use Rattle.protocol.specs.Calls.{recordRows, timerRows, fresh, started, keep, heard, wanted, rung, Call, start, frame, timer, short, accepted, answer}
+use Rattle.protocol.specs.Sound.{Sound, Ranged, Fed}
+use Rattle.protocol.specs.Runs.{_∈_}
+use Rattle.protocol.specs.ReadsBack.{AlwaysReadsBack}
+use Rattle.protocol.proofs.May.{May, Sure, done, and, sureC, sureA}
+use Rattle.protocol.proofs.Good.{doesSet}
+use Rattle.protocol.proofs.Went.{noneGiven, unlessAccepted, wantedMay}
+use Rattle.protocol.proofs.Slots.{Sendable}
+use Rattle.protocol.proofs.Sound.{Whole, actWhole, idBelow, changeGoes, voteGoes, leadsFirst, reportGoes, wishWidth}
+use Rattle.protocol.proofs.Proper.{freshWhole, heardWhole, callProper}
+
+-- ---- what is written
+
+-- A frame of the own number that passes 13 to 15 at vault j, and has bytes.
+record Goes (s : Settings) (j : ℕ) (x : Frame) : Type 0 where
+  pub valid : Valid x
+  pub sender : x .sender ≡ s .id
+  pub content : first (contentRows x) ≡ 0
+  pub leader : first (leaderRows x (s .n) j) ≡ 0
+
+-- The frame of an entry passes at whom it is for.
+abbrev Right : Settings → Entry → Type 0
+Right s (ForAll x) = (j : ℕ) → Goes s j x
+Right s (ForOne j x) = Goes s j x
+Right s (Timer v m) = Unit {0}
+Right s (Decision v p) = Unit {0}
+
+abbrev AllRight : Settings → List Entry → Type 0
+AllRight s [] = Unit {0}
+AllRight s (e ∷ es) = Right s e × AllRight s es
+
+rightJoin : (s : Settings) (es fs : List Entry) → AllRight s es → AllRight s fs → AllRight s (es ++ fs)
+rightJoin s [] fs a b = b
+rightJoin s (e ∷ es) fs (v, a) b = (v, rightJoin s es fs a b)
+
+rightAt : (s : Settings) (es : List Entry) → AllRight s es → (e : Entry) → e ∈ es → Right s e
+rightAt s [] all e at = elim at [ ]
+rightAt s (d ∷ es) (this, rest) e at = ⊎-elim (λ is. subst (Right s) (sym is) this) (rightAt s es rest e) (List·Memᴰ·cases-cons at)
+
+-- ---- rows 11 to 15
+
+-- Row 15, where a proposal is from its view's leader and a suggest is for it.
+ledRight : (x : Frame) (n j : ℕ) → (x .kind ≡ 1 → leaderOf (x .view) n ≡ x .sender) → (x .kind ≡ 7 → leaderOf (x .view) n ≡ j) → first (leaderRows x n j) ≡ 0
+unfolding misled
+ledRight x n j first-led last-led = go (which (eqb (x .kind) 1)) (which (eqb (x .kind) 7))
+  where
+    go : (eqb (x .kind) 1 ≡ true) ⊎ (eqb (x .kind) 1 ≡ false) → (eqb (x .kind) 7 ≡ true) ⊎ (eqb (x .kind) 7 ≡ false) → first (leaderRows x n j) ≡ 0
+    go (inl a) (inl b) = let one = eqb-true (x .kind) 1 a in let seven = eqb-true (x .kind) 7 b in absurd (omega arith)
+    go (inl a) (inr b) = rw (a, b, eq-eqb (leaderOf (x .view) n) (x .sender) (first-led (eqb-true (x .kind) 1 a)))
+    go (inr a) (inl b) = rw (a, b, eq-eqb (leaderOf (x .view) n) j (last-led (eqb-true (x .kind) 7 b)))
+    go (inr a) (inr b) = rw (a, b)
+
+-- Rows 11 and 12, over the own link.
+linkRight : (i n j : ℕ) → i < n → j ≢ i → first (linkRows i i n j) ≡ 0
+linkRight i n j low other = rw (lt-leb n i low, ne-eqb i j (λ (e : i ≡ j). other (sym e)), eq-eqb i i refl)
+
+goesRead : (s : Settings) (j : ℕ) (x : Frame) → s .id < s .n → j ≢ s .id → Goes s j x → readFrame (encode x) (s .id) (s .n) j ≡ Accepted x
+goesRead s j x low other g = read-back x (s .id) (s .n) j (g .valid)
+    (subst (λ (i : ℕ). first (linkRows i (s .id) (s .n) j) ≡ 0) (sym (g .sender)) (linkRight (s .id) (s .n) j low other)) (g .content) (g .leader)
+
+-- ---- the acts
+
+module _ {r : Record} (w : Whole r) where
+  goes : (x : Frame) (j : ℕ) → x .sender ≡ r .set .id → Sendable (r .set .n) (r .set .id) x
+      → (x .kind ≡ 1 → leaderOf (x .view) (r .set .n) ≡ x .sender) → (x .kind ≡ 7 → leaderOf (x .view) (r .set .n) ≡ j) → Goes (r .set) j x
+  goes x j own ok one seven = record { valid = ok .valid; sender = own; content = ok .content; leader = ledRight x (r .set .n) j one seven }
+
+  actRight : (a : Act) → May r a → AllRight (r .set) (writes r a)
+  unfolding writes
+  actRight (ask v) may =
+      (λ j. goes (changeFrame r v) j refl (changeGoes w v may) (λ (e : 6 ≡ 1). absurd (omega arith)) (λ (e : 6 ≡ 7). absurd (omega arith)), tt)
+  actRight (enter v) may = (tt, (λ j. report rule3 j (λ (e : 8 ≡ 1). absurd (omega arith)) (λ (e : 8 ≡ 7). absurd (omega arith)), rest (leads r v)))
+    where
+      report : (rule : Rule) (j : ℕ) → (reportFrame r rule v .kind ≡ 1 → leaderOf v (r .set .n) ≡ r .set .id)
+          → (reportFrame r rule v .kind ≡ 7 → leaderOf v (r .set .n) ≡ j) → Goes (r .set) j (reportFrame r rule v)
+      report rule j = goes (reportFrame r rule v) j refl (reportGoes w v (may .0) (wishWidth w v (may .1)) rule)
+
+      rest : (b : Bool) → AllRight (r .set) (suggestEntry r v b)
+      rest true = tt
+      rest false = (report rule1 (leader r v) (λ (e : 7 ≡ 1). absurd (omega arith)) (λ e. refl), tt)
+  actRight (cast k p) may = (
+    λ j. goes (voteFrame r k p) j refl (voteGoes w k p may) (λ (e : suc k ≡ 1). leadsFirst w k p (may .2) (omega arith))
+        (λ (e : suc k ≡ 7). absurd (omega (arith, may .0))),
+    tt,
+  )
+  actRight (decide p) may = (tt, tt)
+
+-- ---- a pass, and a call
+
+-- What is left has these settings, and what is written passes at whom it is for.
+record Keeps (s : Settings) (o : Out) : Type 0 where
+  pub stays : o .left .set ≡ s
+  pub right : AllRight s (o .wrote)
+
+keepsMore : (s : Settings) (es : List Entry) {t : Settings} {o : Out} → t ≡ s → AllRight s es → Keeps t o → Keeps s (onward es o)
+keepsMore s es {t} {o} same all k =
+    record { stays = k .stays ∙ same; right = rightJoin s es (o .wrote) all (subst (λ (t : Settings). AllRight t (o .wrote)) same (k .right)) }
+
+passKeeps : {steps : List Step} → Sure steps → (r : Record) → Whole r → Keeps (r .set) (pass steps r)
+unfolding pass
+passKeeps done r w = record { stays = refl; right = tt }
+passKeeps (and {s = s} {l = rest} law sure) r w =
+    subst (λ (o : Out). Keeps (r .set) (onward (o .wrote) (pass rest (o .left)))) (sym (law .does r)) (go (law .act r) refl (passKeeps sure))
+  where
+    go : (b : Option Act) → law .act r ≡ b → ((r : Record) → Whole r → Keeps (r .set) (pass rest r))
+        → Keeps (r .set) (onward ((taken r b) .wrote) (pass rest ((taken r b) .left)))
+    go none e then = keepsMore (r .set) [] refl tt (then r w)
+    go (some a) e then = keepsMore (r .set) (writes r a) (doesSet r a) (actRight w a (law .may r a e)) (then (does r a) (actWhole w a (law .may r a e)))
+
+ownRight : {s : Settings} {o u : Out} → o ≡ u → Keeps s o → AllRight (u .left .set) (u .wrote)
+ownRight {s} {o} same k =
+    subst (λ (u : Out). AllRight (u .left .set) (u .wrote)) same (subst (λ (t : Settings). AllRight t (o .wrote)) (sym (k .stays)) (k .right))
+
+callRight : (b : Option Record) (a : Call) → ((r : Record) → b ≡ some r → Sound r × Ranged r) → Fed b a
+    → (o : Out) → answer b a ≡ accepted o → AllRight (o .left .set) (o .wrote)
+unfolding answer started heard rung
+callRight b short was fed o e = let z : _≡_ {A = ℕ} 0 1 = cc in absurd (omega arith)
+callRight none (frame x) was fed o e = let z : _≡_ {A = ℕ} 0 1 = cc in absurd (omega arith)
+callRight none (timer v) was fed o e = let z : _≡_ {A = ℕ} 0 1 = cc in absurd (omega arith)
+callRight (some r) (start s p) was fed o e = let z : _≡_ {A = ℕ} 0 1 = cc in absurd (omega arith)
+callRight (some r) (frame (Refused k)) was fed o e = let z : _≡_ {A = ℕ} 0 1 = cc in absurd (omega arith)
+callRight none (start s p) was fed o e =
+    let (given, same) = unlessAccepted (first (settingRows s)) (started s p) e in
+    ownRight same (keepsMore s (timerEntry (fresh s p) 0 ∷ []) refl (tt, tt) (passKeeps sureC (fresh s p) (freshWhole s p given fed)))
+callRight (some r) (frame (Accepted x)) was fed o e =
+    let (given, same) = unlessAccepted (first (recordRows r x)) (heard r x) e in
+    let (sound, ranged) = was r refl in
+    ownRight same (passKeeps sureA (keep x r) (heardWhole r x fed (record { sound = sound; ranged = ranged })))
+callRight (some r) (timer v) was fed o e =
+    let (given, same) = unlessAccepted (first (timerRows r v)) (rung r) e in
+    let (sound, ranged) = was r refl in
+    let may : May r (ask (wanted r)) = wantedMay r (eqb-false (r .view) 4294967295 (noneGiven (timerRows r v) given .1 .0)) in
+    let w : Whole r = record { sound = sound; ranged = ranged } in
+    let then = passKeeps sureA (does r (ask (wanted r))) (actWhole w (ask (wanted r)) may) in
+    ownRight same (keepsMore (r .set) (writes r (ask (wanted r))) (doesSet r (ask (wanted r))) (actRight w (ask (wanted r)) may) then)
+
+-- Each frame that an accepted call writes is accepted, as itself, by every vault that it is for.
+pub callReadsBack : AlwaysReadsBack
+callReadsBack b a was fed o e j x low other for =
+    goesRead s j x own other (⊎-elim (λ at. rightAt s (o .wrote) right (ForAll x) at j) (rightAt s (o .wrote) right (ForOne j x)) for)
+  where
+    s : Settings
+    s = o .left .set
+
+    own : s .id < s .n
+    own = idBelow s (callProper b a was fed o e .sound .settings)
+
+    right : AllRight s (o .wrote)
+    right = callRight b a was fed o e
