@@ -12,7 +12,7 @@ use lib.Seq.{length-take-le}
 use Rattle.wire.specs.Digits.{numberAt}
 use Rattle.frame.specs.declared.Report.{Report}
 use Rattle.frame.specs.Refusal.{absent}
-use Rattle.record.specs.Slots.{rows, slotCount, frameSlot, reportSlot, slotOf}
+use Rattle.record.specs.Slots.{rows, slotCount, frameSlot, reportSlot, slotOf, Place}
 use Rattle.layout.specs.Layout.{slotSize, recordSize, place, slotIn, decodeRecord}
 use Rattle.layout.proofs.Bytes.{bytePart}
 use Rattle.layout.proofs.Laws.{placeShared, placeBlock, placeFits, slotThere}
@@ -44,6 +44,23 @@ pub placeReport : (kind which sender : ℕ) → place (reportSlot kind 0 0) + sl
 placeReport kind which sender =
     let e : reportSlot kind 0 0 + (which * rows + sender) ≡ reportSlot kind which sender = omega arith in
     sym (placeOn (reportSlot kind 0 0) (which * rows + sender) (λ (g : reportSlot kind 0 0 < rows). omega arith)) ∙ ap place e
+
+-- what stands at the place of a kept frame, and of its reports
+pub frameThere : (s : List ℕ) (kind sender : ℕ) {at : ℕ} → Place kind sender → at ≡ place (frameSlot kind sender)
+    → slotIn s at ≡ slotOf (decodeRecord s) (frameSlot kind sender)
+frameThere s kind sender h e =
+    let row = h .row in
+    ap (slotIn s) e ∙ sym (slotThere s (frameSlot kind sender) (omega arith))
+
+pub reportThere : (s : List ℕ) (kind which sender : ℕ) {at : ℕ} → Place kind sender → which < 3
+    → at ≡ place (reportSlot kind 0 sender) + which * groupSize → slotIn s at ≡ slotOf (decodeRecord s) (reportSlot kind which sender)
+reportThere s kind which sender h w e =
+    let row = h .row in
+    let high = h .high in
+    let from = placeReport kind 0 sender in
+    let p : place (reportSlot kind 0 sender) + which * groupSize ≡ place (reportSlot kind 0 0) + slotSize * (which * rows + sender) =
+    omega (arith, from) in
+    ap (slotIn s) (e ∙ p ∙ placeReport kind which sender) ∙ sym (slotThere s (reportSlot kind which sender) (omega arith))
 
 -- ---- absent slots
 

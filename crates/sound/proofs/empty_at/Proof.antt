@@ -1,40 +1,51 @@
+-- `sound::empty_at` meets its contract: the frame's slot, and the reports where the kind has them.
+-- Assumes nothing.
+use mathlib.Core.Path.{ap, sym, _∙_}
+use Rattle.frame.specs.Refusal.{absent}
+use Rattle.record.specs.Slots.{slotOf}
+use Rattle.layout.specs.Layout.{decodeRecord}
+use Rattle.sound.proofs.Laws.{off, on, empty-frame, empty-short, empty-reports}
+use Rattle.sound.proofs.Places.{frameThere}
 use borrow.Author.Needs.{needs}
 use Rattle.sound.proofs.empty_at.Statement.{statement}
 use Rattle.sound.proofs.empty_at.Tie as tie
-use Rattle.sound.proofs.empty_at.Reads as reads
-use Rattle.sound.proofs.empty_at.Lts as lts
-use Rattle.layout.proofs.slot_at.Reads as slot-at-reads
-use Rattle.sound.proofs.empty.Reads as empty-reads
-use Rattle.sound.proofs.frame_place.Reads as frame-place-reads
-use Rattle.sound.proofs.reports_absent.Reads as reports-absent-reads
 
--- src/lib.rt:160:9
 frame-place-requires : tie.Need-frame-place-requires
 frame-place-requires c κs = search needs
 
--- src/lib.rt:161:15
 slot-at-requires : tie.Need-slot-at-requires
 slot-at-requires c κs = search needs
 
--- src/lib.rt:161:9
 empty-requires : tie.Need-empty-requires
 empty-requires c κs = search needs
 
--- src/lib.rt:162:9
 returns : tie.Need-returns
-returns c = ?
+returns c =
+    let d = c in
+    let s = d .before .before .before .before .before in
+    let a = s .args in
+    let there = d .before .before .slot-at .ensures ∙ frameThere (a .rec .now) (a .kind) (a .sender) (s .pre .0) (d .before .before .before .frame-place .ensures .0) in
+    sym (empty-frame (slotOf (decodeRecord (a .rec .now))) (a .kind) (a .sender) (off (d .before .empty .ensures ∙ ap absent there) (d .if1 .taken)))
 
--- src/lib.rt:165:9
 returns-2 : tie.Need-returns-2
-returns-2 c = ?
+returns-2 c =
+    let d = c .before in
+    let s = d .before .before .before .before .before in
+    let a = s .args in
+    let there = d .before .before .slot-at .ensures ∙ frameThere (a .rec .now) (a .kind) (a .sender) (s .pre .0) (d .before .before .before .frame-place .ensures .0) in
+    sym (empty-short (slotOf (decodeRecord (a .rec .now))) (a .kind) (a .sender) (on (d .before .empty .ensures ∙ ap absent there) (d .if1 .left)) (c .if2 .taken))
 
--- src/lib.rt:167:5
 reports-absent-requires : tie.Need-reports-absent-requires
 reports-absent-requires c κs = search needs
 
--- src/lib.rt:156:1
 returns-3 : tie.Need-returns-3
-returns-3 c = ?
+returns-3 c =
+    let d = c .before .before in
+    let s = d .before .before .before .before .before in
+    let a = s .args in
+    let there = d .before .before .slot-at .ensures ∙ frameThere (a .rec .now) (a .kind) (a .sender) (s .pre .0) (d .before .before .before .frame-place .ensures .0) in
+    c .reports-absent .ensures
+    ∙ sym (empty-reports (slotOf (decodeRecord (a .rec .now))) (a .kind) (a .sender) (on (d .before .empty .ensures ∙ ap absent there) (d .if1 .left)) (c .before .if2 .left))
 
 pub empty-at-spec : {M : Type 1} → statement M
 empty-at-spec =

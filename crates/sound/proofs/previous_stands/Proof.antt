@@ -1,26 +1,25 @@
+-- `sound::previous_stands` meets its contract: its form, then the rest of 14.
+-- Assumes nothing.
+use mathlib.Core.Path.{sym, _∙_}
+use Rattle.sound.specs.Sound.{stands}
+use Rattle.sound.proofs.Laws.{off, on}
 use borrow.Author.Needs.{needs}
 use Rattle.sound.proofs.previous_stands.Statement.{statement}
 use Rattle.sound.proofs.previous_stands.Tie as tie
-use Rattle.sound.proofs.previous_stands.Reads as reads
-use Rattle.sound.proofs.previous_stands.Lts as lts
-use Rattle.sound.proofs.follows.Reads as follows-reads
-use Rattle.sound.proofs.well_formed.Reads as well-formed-reads
 
--- src/lib.rt:84:9
 well-formed-requires : tie.Need-well-formed-requires
 well-formed-requires c κs = search needs
 
--- src/lib.rt:85:9
 returns : tie.Need-returns
-returns c = ?
+unfolding stands
+returns c = sym (rw (off (c .before .well-formed .ensures) (c .if1 .taken)))
 
--- src/lib.rt:87:5
 follows-requires : tie.Need-follows-requires
 follows-requires c κs = search needs
 
--- src/lib.rt:81:1
 returns-2 : tie.Need-returns-2
-returns-2 c = ?
+unfolding stands
+returns-2 c = c .follows .ensures ∙ sym (rw (on (c .before .before .well-formed .ensures) (c .before .if1 .left)))
 
 pub previous-stands-spec : {M : Type 1} → statement M
 previous-stands-spec = tie.close (tie.spec well-formed-requires returns follows-requires returns-2)

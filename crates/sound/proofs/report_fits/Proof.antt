@@ -1,35 +1,38 @@
+-- `sound::report_fits` meets its contract: absent, or below the view.
+-- Assumes nothing.
+use Prim.Native.Nat.{ℕ}
+use mathlib.Core.Path.{ap, sym, _∙_}
+use lib.Dec.{ltb}
+use Rattle.frame.specs.Refusal.{absent}
+use Rattle.layout.specs.Layout.{slotIn}
+use Rattle.sound.proofs.Forms.{reportAbsent, reportPresent}
 use borrow.Author.Needs.{needs}
 use Rattle.sound.proofs.report_fits.Statement.{statement}
 use Rattle.sound.proofs.report_fits.Tie as tie
-use Rattle.sound.proofs.report_fits.Reads as reads
-use Rattle.sound.proofs.report_fits.Lts as lts
-use Rattle.layout.proofs.slot_at.Reads as slot-at-reads
-use Rattle.layout.proofs.view_at.Reads as view-at-reads
-use Rattle.sound.proofs.empty.Reads as empty-reads
 
--- src/lib.rt:175:8
 shared-slice-read-if1 : tie.Need-shared-slice-read-if1
 shared-slice-read-if1 c = search needs
 
--- src/lib.rt:176:22
 slot-at-requires : tie.Need-slot-at-requires
 slot-at-requires c κs = search needs
 
--- src/lib.rt:176:9
 empty-requires : tie.Need-empty-requires
 empty-requires c κs = search needs
 
--- src/lib.rt:176:9
 returns : tie.Need-returns
-returns c = ?
+returns c =
+    let a = c .before .before .before .before .before .args in
+    c .empty .ensures ∙ ap absent (c .before .slot-at .ensures)
+    ∙ sym (reportAbsent (a .view) (slotIn (a .rec .now) (a .at)) (c .before .before .if1 .taken))
 
--- src/lib.rt:178:5
 view-at-requires : tie.Need-view-at-requires
 view-at-requires c κs = search needs
 
--- src/lib.rt:171:1
 returns-2 : tie.Need-returns-2
-returns-2 c = ?
+returns-2 c =
+    let a = c .before .before .before .before .args in
+    ap (λ (x : ℕ). ltb x (a .view)) (c .view-at .ensures)
+    ∙ sym (reportPresent (a .view) (slotIn (a .rec .now) (a .at)) (c .before .if1 .left))
 
 pub report-fits-spec : {M : Type 1} → statement M
 report-fits-spec =

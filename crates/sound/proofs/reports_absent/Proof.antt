@@ -1,63 +1,86 @@
+-- `sound::reports_absent` meets its contract: the three reports stand a group apart.
+-- Assumes nothing.
+use Prim.Native.Nat.{_+_, _*_}
+use mathlib.Core.Path.{_≡_, ap, sym, _∙_}
+use native.Mathlib.Omega.{arith}
+use Rattle.frame.specs.Refusal.{absent}
+use Rattle.record.specs.Slots.{reportSlot, slotOf}
+use Rattle.layout.specs.Layout.{place, decodeRecord}
+use Rattle.sound.specs.Bulk.{groupSize}
+use Rattle.sound.proofs.Laws.{off, on, reports-highest, reports-previous, reports-lock}
+use Rattle.sound.proofs.Places.{reportThere}
 use borrow.Author.Needs.{needs}
 use Rattle.sound.proofs.reports_absent.Statement.{statement}
 use Rattle.sound.proofs.reports_absent.Tie as tie
-use Rattle.sound.proofs.reports_absent.Reads as reads
-use Rattle.sound.proofs.reports_absent.Lts as lts
-use Rattle.layout.proofs.slot_at.Reads as slot-at-reads
-use Rattle.sound.proofs.empty.Reads as empty-reads
-use Rattle.sound.proofs.report_place.Reads as report-place-reads
 
--- src/lib.rt:145:9
 report-place-requires : tie.Need-report-place-requires
 report-place-requires c κs = search needs
 
--- src/lib.rt:146:15
 slot-at-requires : tie.Need-slot-at-requires
 slot-at-requires c κs = search needs
 
--- src/lib.rt:146:9
 empty-requires : tie.Need-empty-requires
 empty-requires c κs = search needs
 
--- src/lib.rt:147:9
 returns : tie.Need-returns
-returns c = ?
+returns c =
+    let s = c .before .before .before .before .before in
+    let a = s .args in
+    let k = c .before .before .before .report-place in
+    let e₀ : k .result ≡ place (reportSlot (a .kind) 0 (a .sender)) + 0 * groupSize = omega (arith, k .ensures .0) in
+    let t₀ = c .before .before .slot-at .ensures ∙ reportThere (a .rec .now) (a .kind) 0 (a .sender) (s .pre .1) (omega arith) e₀ in
+    sym (reports-highest (slotOf (decodeRecord (a .rec .now))) (a .kind) (a .sender) (off (c .before .empty .ensures ∙ ap absent t₀) (c .if1 .taken)))
 
--- src/lib.rt:149:36
 add-slot-at : tie.Need-add-slot-at
 add-slot-at c = search needs
 
--- src/lib.rt:149:15
 slot-at-requires-2 : tie.Need-slot-at-requires-2
 slot-at-requires-2 c κs = search needs
 
--- src/lib.rt:149:9
 empty-requires-2 : tie.Need-empty-requires-2
 empty-requires-2 c κs = search needs
 
--- src/lib.rt:150:9
 returns-2 : tie.Need-returns-2
-returns-2 c = ?
+returns-2 c =
+    let d = c .before .before .before in
+    let s = d .before .before .before .before .before in
+    let a = s .args in
+    let k = d .before .before .before .report-place in
+    let e₀ : k .result ≡ place (reportSlot (a .kind) 0 (a .sender)) + 0 * groupSize = omega (arith, k .ensures .0) in
+    let e₁ : k .result + groupSize ≡ place (reportSlot (a .kind) 0 (a .sender)) + 1 * groupSize = omega (arith, k .ensures .0) in
+    let t₀ = d .before .before .slot-at .ensures ∙ reportThere (a .rec .now) (a .kind) 0 (a .sender) (s .pre .1) (omega arith) e₀ in
+    let t₁ = c .before .before .slot-at2 .ensures ∙ reportThere (a .rec .now) (a .kind) 1 (a .sender) (s .pre .1) (omega arith) e₁ in
+    sym (reports-previous (slotOf (decodeRecord (a .rec .now))) (a .kind) (a .sender)
+    (on (d .before .empty .ensures ∙ ap absent t₀) (d .if1 .left)) (off (c .before .empty2 .ensures ∙ ap absent t₁) (c .if2 .taken)))
 
--- src/lib.rt:152:37
 mul-slot-at : tie.Need-mul-slot-at
 mul-slot-at c = search needs
 
--- src/lib.rt:152:32
 add-slot-at-2 : tie.Need-add-slot-at-2
 add-slot-at-2 c = search needs
 
--- src/lib.rt:152:11
 slot-at-requires-3 : tie.Need-slot-at-requires-3
 slot-at-requires-3 c κs = search needs
 
--- src/lib.rt:152:5
 empty-requires-3 : tie.Need-empty-requires-3
 empty-requires-3 c κs = search needs
 
--- src/lib.rt:141:1
 returns-3 : tie.Need-returns-3
-returns-3 c = ?
+returns-3 c =
+    let c₂ = c .before .before in
+    let d = c₂ .before .before .before in
+    let s = d .before .before .before .before .before in
+    let a = s .args in
+    let k = d .before .before .before .report-place in
+    let e₀ : k .result ≡ place (reportSlot (a .kind) 0 (a .sender)) + 0 * groupSize = omega (arith, k .ensures .0) in
+    let e₁ : k .result + groupSize ≡ place (reportSlot (a .kind) 0 (a .sender)) + 1 * groupSize = omega (arith, k .ensures .0) in
+    let e₂ : k .result + 2 * groupSize ≡ place (reportSlot (a .kind) 0 (a .sender)) + 2 * groupSize = omega (arith, k .ensures .0) in
+    let t₀ = d .before .before .slot-at .ensures ∙ reportThere (a .rec .now) (a .kind) 0 (a .sender) (s .pre .1) (omega arith) e₀ in
+    let t₁ = c₂ .before .before .slot-at2 .ensures ∙ reportThere (a .rec .now) (a .kind) 1 (a .sender) (s .pre .1) (omega arith) e₁ in
+    let t₂ = c .before .slot-at3 .ensures ∙ reportThere (a .rec .now) (a .kind) 2 (a .sender) (s .pre .1) (omega arith) e₂ in
+    c .empty3 .ensures ∙ ap absent t₂
+    ∙ sym (reports-lock (slotOf (decodeRecord (a .rec .now))) (a .kind) (a .sender)
+    (on (d .before .empty .ensures ∙ ap absent t₀) (d .if1 .left)) (on (c₂ .before .empty2 .ensures ∙ ap absent t₁) (c₂ .if2 .left)))
 
 pub reports-absent-spec : {M : Type 1} → statement M
 reports-absent-spec =

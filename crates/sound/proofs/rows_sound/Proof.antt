@@ -1,46 +1,58 @@
+-- `sound::rows_sound` meets its contract. The invariant: every kind passed is sound.
+-- Assumes nothing.
+use Prim.Native.Nat.{ℕ, _+_, _-_, _≤_}
+use mathlib.Core.Path.{_≡_, sym}
+use mathlib.Core.Bool.{Bool, true}
+use native.Mathlib.Omega.{arith}
+use Rattle.record.specs.Slots.{kinds, slotOf}
+use Rattle.layout.specs.Layout.{decodeRecord}
+use Rattle.sound.specs.Sound.{all, kindSound, rowsSound}
+use Rattle.sound.proofs.Laws.{off, on, all-none, all-more, all-stop}
+use borrow.Author.Needs.{needs}
 use Rattle.sound.proofs.rows_sound.Statement.{statement}
 use Rattle.sound.proofs.rows_sound.Tie as tie
-use Rattle.sound.proofs.rows_sound.Reads as reads
-use Rattle.sound.proofs.rows_sound.Lts as lts
-use Rattle.sound.proofs.kind_sound.Reads as kind-sound-reads
 
 abbrev Inv-loop : tie.InvT-loop
-Inv-loop rec set view k₀ k = ?
+Inv-loop rec set view k₀ k = (k ≤ kinds) × (all (λ j. kindSound (slotOf (decodeRecord rec)) set view (j + 1)) k ≡ true)
 
 abbrev μ-loop : tie.MeasureT-loop
-μ-loop rec set view k₀ k = ?
+μ-loop rec set view k₀ k = kinds - k
 
--- src/lib.rt:377:5
 loop-holds : tie.Need-loop-holds Inv-loop μ-loop
-loop-holds c = ?
+loop-holds c = (omega arith, all-none _)
 
--- src/lib.rt:378:40
 add-kind-sound : tie.Need-add-kind-sound Inv-loop μ-loop
-add-kind-sound c = ?
+add-kind-sound c = search needs
 
--- src/lib.rt:378:13
 kind-sound-requires : tie.Need-kind-sound-requires Inv-loop μ-loop
-kind-sound-requires c κs = ?
+kind-sound-requires c κs = search needs
 
--- src/lib.rt:379:13
 returns : tie.Need-returns Inv-loop μ-loop
-returns c = ?
+unfolding rowsSound
+returns c =
+    let a = c .before .before .before .before .before .args in
+    let test : ℕ → Bool = λ j. kindSound (slotOf (decodeRecord (a .rec .now))) (a .set) (a .view) (j + 1) in
+    sym (all-stop test kinds (c .before .before .before .loop .k) (omega arith) (off (c .before .kind-sound .ensures) (c .if1 .taken)))
 
--- src/lib.rt:381:9
 add-k : tie.Need-add-k Inv-loop μ-loop
-add-k c = ?
+add-k c = search needs
 
--- src/lib.rt:377:5
 loop-less : tie.Need-loop-less Inv-loop μ-loop
-loop-less c = ?
+loop-less c = search needs
 
--- src/lib.rt:377:5
 loop-again : tie.Need-loop-again Inv-loop μ-loop
-loop-again c = ?
+loop-again c =
+    let a = c .before .before .before .before .before .args in
+    let test : ℕ → Bool = λ j. kindSound (slotOf (decodeRecord (a .rec .now))) (a .set) (a .view) (j + 1) in
+    let h = c .before .before .before .loop in
+    (omega arith, all-more test (h .k) (h .inv .1) (on (c .before .kind-sound .ensures) (c .if1 .left)))
 
--- src/lib.rt:372:1
 returns-2 : tie.Need-returns-2 Inv-loop μ-loop
-returns-2 c = ?
+unfolding rowsSound
+returns-2 c =
+    let h = c .before .loop in
+    let e : h .k ≡ kinds = omega arith in
+    rw (← e) (sym (h .inv .1))
 
 pub rows-sound-spec : {M : Type 1} → statement M
 rows-sound-spec =

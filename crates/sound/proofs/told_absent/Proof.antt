@@ -1,45 +1,63 @@
+-- `sound::told_absent` meets its contract: the three groups.
+-- Assumes nothing.
+use mathlib.Core.Path.{sym, _∙_}
+use native.Mathlib.Omega.{arith}
+use Prim.Native.Nat.{_+_, _*_, _<_}
+use Rattle.record.specs.Slots.{rows, slotOf}
+use Rattle.layout.specs.Layout.{decodeRecord}
+use Rattle.sound.proofs.Laws.{off, on}
+use Rattle.sound.proofs.Rows.{toldFirst, toldSecond, toldThird}
 use borrow.Author.Needs.{needs}
 use Rattle.sound.proofs.told_absent.Statement.{statement}
 use Rattle.sound.proofs.told_absent.Tie as tie
-use Rattle.sound.proofs.told_absent.Reads as reads
-use Rattle.sound.proofs.told_absent.Lts as lts
-use Rattle.sound.proofs.slots_absent.Reads as slots-absent-reads
 
--- src/lib.rt:315:9
 slots-absent-requires : tie.Need-slots-absent-requires
-slots-absent-requires c κs = search needs
+slots-absent-requires c κs =
+    let s = c .before in
+    let low = s .pre .0 in
+    let high = s .pre .1 in
+    (record { below = omega arith; whole = omega arith; part = λ (g : s .args .from < rows). omega arith }, s .pre .2)
 
--- src/lib.rt:316:9
 returns : tie.Need-returns
-returns c = ?
+returns c =
+    let a = c .before .before .before .args in
+    sym (toldFirst (slotOf (decodeRecord (a .rec .now))) (a .from) (a .count) (off (c .before .slots-absent .ensures) (c .if1 .taken)))
 
--- src/lib.rt:318:27
 add-slots-absent : tie.Need-add-slots-absent
 add-slots-absent c = search needs
 
--- src/lib.rt:318:9
 slots-absent-requires-2 : tie.Need-slots-absent-requires-2
-slots-absent-requires-2 c κs = search needs
+slots-absent-requires-2 c κs =
+    let s = c .before .before .before in
+    let low = s .pre .0 in
+    let high = s .pre .1 in
+    (record { below = omega arith; whole = omega arith; part = λ (g : s .args .from + rows < rows). omega arith }, s .pre .2)
 
--- src/lib.rt:319:9
 returns-2 : tie.Need-returns-2
-returns-2 c = ?
+returns-2 c =
+    let d = c .before .before in
+    let a = d .before .before .before .args in
+    sym (toldSecond (slotOf (decodeRecord (a .rec .now))) (a .from) (a .count) (on (d .before .slots-absent .ensures) (d .if1 .left)) (off (c .before .slots-absent2 .ensures) (c .if2 .taken)))
 
--- src/lib.rt:321:30
 mul-slots-absent : tie.Need-mul-slots-absent
 mul-slots-absent c = search needs
 
--- src/lib.rt:321:23
 add-slots-absent-2 : tie.Need-add-slots-absent-2
 add-slots-absent-2 c = search needs
 
--- src/lib.rt:321:5
 slots-absent-requires-3 : tie.Need-slots-absent-requires-3
-slots-absent-requires-3 c κs = search needs
+slots-absent-requires-3 c κs =
+    let s = c .before .before .before .before .before in
+    let low = s .pre .0 in
+    let high = s .pre .1 in
+    (record { below = omega arith; whole = omega arith; part = λ (g : s .args .from + 2 * rows < rows). omega arith }, s .pre .2)
 
--- src/lib.rt:311:1
 returns-3 : tie.Need-returns-3
-returns-3 c = ?
+returns-3 c =
+    let d = c .before .before .before in
+    let a = d .before .before .before .args in
+    c .slots-absent3 .ensures
+    ∙ sym (toldThird (slotOf (decodeRecord (a .rec .now))) (a .from) (a .count) (on (d .before .slots-absent .ensures) (d .if1 .left)) (on (c .before .before .slots-absent2 .ensures) (c .before .if2 .left)))
 
 pub told-absent-spec : {M : Type 1} → statement M
 told-absent-spec =

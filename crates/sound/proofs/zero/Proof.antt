@@ -1,42 +1,52 @@
+-- `sound::zero` meets its contract. The invariant: the largest byte so far is 0 just where every byte passed is.
+-- Assumes nothing.
+use Prim.Native.Nat.{_-_, _≤_}
+use mathlib.Core.Path.{_≡_, ap, sym, _∙_}
+use mathlib.Core.Bool.{Bool, _&&_}
+use native.Mathlib.Omega.{arith}
+use lib.Dec.{eqb}
+use lib.ListN.{length}
+use Rattle.sound.specs.Sound.{all}
+use Rattle.sound.specs.Bulk.{zeroIn}
+use Rattle.sound.proofs.Laws.{all-none}
+use Rattle.sound.proofs.All.{allOne}
+use borrow.Author.Needs.{needs}
 use Rattle.sound.proofs.zero.Statement.{statement}
 use Rattle.sound.proofs.zero.Tie as tie
-use Rattle.sound.proofs.zero.Reads as reads
-use Rattle.sound.proofs.zero.Lts as lts
-use Rattle.sound.proofs.larger.Reads as larger-reads
 
 abbrev Inv-loop : tie.InvT-loop
-Inv-loop s most₀ i₀ most i = ?
+Inv-loop s most₀ i₀ most i = (i ≤ length s) × (eqb most 0 ≡ all (zeroIn s) i)
 
 abbrev μ-loop : tie.MeasureT-loop
-μ-loop s most₀ i₀ most i = ?
+μ-loop s most₀ i₀ most i = length s - i
 
--- src/lib.rt:104:5
 loop-holds : tie.Need-loop-holds Inv-loop μ-loop
-loop-holds c = ?
+loop-holds c = (omega arith, sym (all-none _))
 
--- src/lib.rt:105:29
 shared-slice-read-larger : tie.Need-shared-slice-read-larger Inv-loop μ-loop
-shared-slice-read-larger c = ?
+shared-slice-read-larger c = search needs
 
--- src/lib.rt:105:9
 larger-requires : tie.Need-larger-requires Inv-loop μ-loop
-larger-requires c κs = ?
+larger-requires c κs = search needs
 
--- src/lib.rt:106:9
 add-i : tie.Need-add-i Inv-loop μ-loop
-add-i c = ?
+add-i c = search needs
 
--- src/lib.rt:104:5
 loop-less : tie.Need-loop-less Inv-loop μ-loop
-loop-less c = ?
+loop-less c = search needs
 
--- src/lib.rt:104:5
 loop-again : tie.Need-loop-again Inv-loop μ-loop
-loop-again c = ?
+loop-again c =
+    let h = c .before .before .before .loop in
+    let s = c .before .before .before .before .before .args .s .now in
+    (omega arith, c .larger .ensures ∙ ap (λ (b : Bool). b && zeroIn s (h .i)) (h .inv .1) ∙ sym (allOne (zeroIn s) (h .i)))
 
--- src/lib.rt:99:1
 returns : tie.Need-returns Inv-loop μ-loop
-returns c = ?
+returns c =
+    let h = c .before .loop in
+    let s = c .before .before .before .args .s .now in
+    let e : h .i ≡ length s = omega arith in
+    h .inv .1 ∙ ap (all (zeroIn s)) e
 
 pub zero-spec : {M : Type 1} → statement M
 zero-spec =
