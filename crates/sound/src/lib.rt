@@ -1,12 +1,19 @@
-// Whether lent bytes are a blank record, a sound one, or neither.
-use frame::Frame;
+// Whether lent bytes are a blank record, a sound one, or neither. They are read where they lie: in bulk where nothing is kept, else the
+// mark first, and the rest only where it is asked for.
 use frame::Report;
+use settings::Settings;
 ghost use mathlib.Core.Path.{_≡_};
-ghost use mathlib.Core.Bool.{not};
-ghost use Prim.Native.Nat.{_+_, _≤_, _<_};
-ghost use Rattle.frame.specs.Refusal.{absent, badForm};
-ghost use Rattle.record.specs.Slots.{slotIn, Arrays, Place};
-ghost use Rattle.sound.specs.Sound.{reportsAbsent, emptyAt, noPlan, ahead, frameSound, placeSound, kindSound, rowsSound, stands, previousSound, votesSound, soundIn, lentIs};
+ghost use mathlib.Core.Bool.{not, _&&_, _||_};
+ghost use Prim.Native.Nat.{_+_, _-_, _*_, _≤_, _<_};
+ghost use lib.ListN.{length};
+ghost use lib.Dec.{eqb, ltb};
+ghost use Rattle.frame.specs.Format.{within, threeReports};
+ghost use Rattle.frame.specs.Refusal.{first, absent, badForm, badPrevious, reportRows};
+ghost use Rattle.record.specs.Slots.{rows, slotCount, frameSlot, reportSlot, slotOf, Place};
+ghost use Rattle.layout.specs.Layout.{slotSize, recordSize, place, slotIn, decodeRecord};
+ghost use Rattle.keeping.specs.Kept.{reportsIn};
+ghost use Rattle.sound.specs.Sound.{all, reportsAbsent, emptyAt, frameSound, placeSound, kindSound, rowsSound, stands, previousSound, votesSound, soundIn, lentIs};
+ghost use Rattle.sound.specs.Bulk.{groupSize, zeroIn, absentFrom, toldAbsent, emptyFrom, Run, Marked, PlanSound, toldFrame, reportFits};
 
 // What lent bytes are.
 pub enum Lent {
@@ -14,6 +21,24 @@ pub enum Lent {
     Unsound,
     Sound,
 }
+
+// A kept frame's kind, sender and view.
+pub struct Head {
+    pub kind: u8,
+    pub sender: u8,
+    pub view: u32,
+}
+
+// The bytes of one kind's slots, and of one group of its reports.
+const GROUP: usize = 832;
+
+fn wide(x: u8) -> usize
+    ensures { λ r. ⌜ r ≡ x ⌝ }
+{
+    x as usize
+}
+
+// ---- one slot
 
 fn empty(slot: Report) -> bool
     ensures { λ b. ⌜ b ≡ absent slot ⌝ }
@@ -36,12 +61,12 @@ fn well_formed(slot: Report) -> bool
     empty(slot)
 }
 
-// A previous vote against its highest.
-fn previous_stands(highest: Report, previous: Report) -> bool
-    ensures { λ b. ⌜ b ≡ stands highest previous ⌝ }
+// A previous vote against its highest, but for its form.
+fn follows(highest: Report, previous: Report) -> bool
+    ensures { λ b. ⌜ b ≡ not (badPrevious highest previous) ⌝ }
 {
     if previous.mark != 1 {
-        return empty(previous);
+        return true;
     }
     if highest.mark != 1 {
         return false;
@@ -52,118 +77,275 @@ fn previous_stands(highest: Report, previous: Report) -> bool
     highest.plan != previous.plan
 }
 
-fn reports_absent<'a>(
-    marks: &'a [u8],
-    views: &'a [u32],
-    plans: &'a [u64],
-    kind: u8,
-    sender: u8,
-) -> bool
-    requires { ⌜ (7 ≤ kind) × Place kind sender × Arrays (now marks) (now views) (now plans) ⌝ }
-    ensures { λ b. ⌜ b ≡ reportsAbsent (slotIn (now (marks .entry)) (now (views .entry)) (now (plans .entry))) kind sender ⌝ }
+// A previous vote against its highest.
+fn previous_stands(highest: Report, previous: Report) -> bool
+    ensures { λ b. ⌜ b ≡ stands highest previous ⌝ }
 {
-    let first = record::report_slot(kind, 0, sender);
-    if !empty(record::slot_in(marks, views, plans, first)) {
+    if !well_formed(previous) {
         return false;
     }
-    if !empty(record::slot_in(marks, views, plans, first + 64)) {
+    follows(highest, previous)
+}
+
+// ---- many slots
+
+fn larger(a: u8, b: u8) -> u8
+    ensures { λ r. ⌜ eqb r 0 ≡ (eqb a 0 && eqb b 0) ⌝ }
+{
+    if a < b { b } else { a }
+}
+
+// Whether every byte is 0. There is no way out of the loop, so that it is compiled to steps of 16 bytes and more.
+fn zero(s: &[u8]) -> bool
+    ensures { λ b. ⌜ b ≡ all (zeroIn (now (s .entry))) (length (now (s .entry))) ⌝ }
+{
+    let mut most: u8 = 0;
+    let mut i: usize = 0;
+    while i < s.len() {
+        most = larger(most, s[i]);
+        i += 1;
+    }
+    most == 0
+}
+
+// Whether some slots, one after the other, are all absent: their bytes lie end to end.
+fn slots_absent(rec: &[u8], from: usize, count: usize) -> bool
+    requires { ⌜ Run from count × (length (now rec) ≡ recordSize) ⌝ }
+    ensures { λ b. ⌜ b ≡ all (absentFrom (slotOf (decodeRecord (now (rec .entry)))) from) count ⌝ }
+{
+    let at = layout::place_of(from);
+    let end = at + layout::SLOT * count;
+    zero(&rec[at..end])
+}
+
+// ---- one place: a kind and a sender
+
+// Where the bytes of a kept frame's slot stand. A kind's slots lie end to end, so that only the first has to be looked up.
+fn frame_place(kind: u8, sender: u8) -> usize
+    requires { ⌜ Place kind sender ⌝ }
+    ensures { λ r. ⌜ (r ≡ place (frameSlot kind sender)) × (r + slotSize ≤ recordSize) ⌝ }
+{
+    let first = layout::place_of(layout::frame_slot(kind, 0));
+    first + layout::SLOT * wide(sender)
+}
+
+// Where the bytes of a kept suggest's or proof's first report stand; the others' stand one and two groups on.
+fn report_place(kind: u8, sender: u8) -> usize
+    requires { ⌜ (7 ≤ kind) × Place kind sender ⌝ }
+    ensures { λ r. ⌜ (r ≡ place (reportSlot kind 0 sender)) × (r + (2 * groupSize + slotSize) ≤ recordSize) ⌝ }
+{
+    let first = layout::place_of(layout::report_slot(kind, 0, 0));
+    first + layout::SLOT * wide(sender)
+}
+
+fn reports_absent(rec: &[u8], kind: u8, sender: u8) -> bool
+    requires { ⌜ (7 ≤ kind) × Place kind sender × (length (now rec) ≡ recordSize) ⌝ }
+    ensures { λ b. ⌜ b ≡ reportsAbsent (slotOf (decodeRecord (now (rec .entry)))) kind sender ⌝ }
+{
+    let at = report_place(kind, sender);
+    if !empty(layout::slot_at(rec, at)) {
         return false;
     }
-    empty(record::slot_in(marks, views, plans, first + 128))
+    if !empty(layout::slot_at(rec, at + GROUP)) {
+        return false;
+    }
+    empty(layout::slot_at(rec, at + 2 * GROUP))
 }
 
 // Nothing is kept for a kind and a sender: neither a frame nor a report.
-fn empty_at<'a>(marks: &'a [u8], views: &'a [u32], plans: &'a [u64], kind: u8, sender: u8) -> bool
-    requires { ⌜ Place kind sender × Arrays (now marks) (now views) (now plans) ⌝ }
-    ensures { λ b. ⌜ b ≡ emptyAt (slotIn (now (marks .entry)) (now (views .entry)) (now (plans .entry))) kind sender ⌝ }
+fn empty_at(rec: &[u8], kind: u8, sender: u8) -> bool
+    requires { ⌜ Place kind sender × (length (now rec) ≡ recordSize) ⌝ }
+    ensures { λ b. ⌜ b ≡ emptyAt (slotOf (decodeRecord (now (rec .entry)))) kind sender ⌝ }
 {
-    let at = record::frame_slot(kind, sender);
-    if !empty(record::slot_in(marks, views, plans, at)) {
+    let at = frame_place(kind, sender);
+    if !empty(layout::slot_at(rec, at)) {
         return false;
     }
     if kind < 7 {
         return true;
     }
-    reports_absent(marks, views, plans, kind, sender)
+    reports_absent(rec, kind, sender)
 }
 
-// The slot of a view-change, a suggest or a proof has no plan.
-fn no_plan(kind: u8, plan: u64) -> bool
-    ensures { λ b. ⌜ b ≡ noPlan kind plan ⌝ }
+// A report that is absent, or present below a view.
+fn report_fits(rec: &[u8], at: usize, view: u32) -> bool
+    requires { ⌜ at + slotSize ≤ length (now rec) ⌝ }
+    ensures { λ b. ⌜ b ≡ reportFits view (slotIn (now (rec .entry)) at) ⌝ }
 {
-    if kind < 6 {
+    if rec[at] != 1 {
+        return empty(layout::slot_at(rec, at));
+    }
+    layout::view_at(rec, at) < view
+}
+
+// The reports kept for a kind and a sender pass 14 for a view.
+fn reports_fit(rec: &[u8], kind: u8, sender: u8, view: u32) -> bool
+    requires { ⌜ (7 ≤ kind) × Place kind sender × (length (now rec) ≡ recordSize) ⌝ }
+    ensures { λ b. ⌜ b ≡ eqb (first (reportRows view (threeReports (reportsIn (slotOf (decodeRecord (now (rec .entry)))) kind sender)))) 0 ⌝ }
+{
+    let at = report_place(kind, sender);
+    if !report_fits(rec, at, view) {
+        return false;
+    }
+    if !report_fits(rec, at + GROUP, view) {
+        return false;
+    }
+    if !report_fits(rec, at + 2 * GROUP, view) {
+        return false;
+    }
+    follows(
+        layout::slot_at(rec, at),
+        layout::slot_at(rec, at + GROUP),
+    )
+}
+
+// A frame in the own row above the current view.
+fn above(set: Settings, view: u32, head: Head) -> bool
+    ensures { λ b. ⌜ b ≡ (eqb (head .sender) (set .id) && ltb view (head .view)) ⌝ }
+{
+    if head.sender != set.id {
+        return false;
+    }
+    view < head.view
+}
+
+// A kept proposal or vote, in a row below n.
+fn plan_sound(set: Settings, view: u32, head: Head) -> bool
+    requires { ⌜ (1 ≤ head .kind) × (head .kind ≤ 5) × (head .sender < set .n) ⌝ }
+    ensures { λ b. ⌜ PlanSound b set view head ⌝ }
+{
+    if above(set, view, head) {
+        return false;
+    }
+    if head.kind != 1 {
         return true;
     }
-    plan == 0
+    head.view % (set.n as u32) == (head.sender as u32)
 }
 
-// A frame of the own row, other than the view-change, above the current view.
-fn runs_ahead(id: u8, view: u32, f: Frame) -> bool
-    ensures { λ b. ⌜ b ≡ ahead id view f ⌝ }
+// A kept suggest or proof, in a row below n.
+fn told_sound(rec: &[u8], set: Settings, view: u32, head: Head) -> bool
+    requires { ⌜ (7 ≤ head .kind) × Place (head .kind) (head .sender) × (head .sender < set .n) × (length (now rec) ≡ recordSize) ⌝ }
+    ensures { λ b. ⌜ b ≡ frameSound set view (toldFrame head (reportsIn (slotOf (decodeRecord (now (rec .entry)))) (head .kind) (head .sender))) ⌝ }
 {
-    if f.sender != id {
+    if above(set, view, head) {
         return false;
     }
-    if f.kind == 6 {
+    if head.view == 0 {
         return false;
     }
-    view < f.view
+    if !reports_fit(rec, head.kind, head.sender, head.view) {
+        return false;
+    }
+    if head.kind != 7 {
+        return true;
+    }
+    head.view % (set.n as u32) == (set.id as u32)
 }
 
-// A kept frame passes 9 to 15 for its row, and does not run ahead.
-fn frame_sound(n: u8, id: u8, view: u32, f: Frame) -> bool
-    ensures { λ b. ⌜ b ≡ frameSound n id view f ⌝ }
+// A vote in a row that is not the own one: wherever one is kept, it is sound.
+fn is_free(id: u8, kind: u8, sender: u8) -> bool
+    ensures { λ b. ⌜ b ≡ (not (eqb sender id) && within 2 5 kind) ⌝ }
 {
-    if n <= f.sender {
+    if sender == id {
         return false;
     }
-    if runs_ahead(id, view, f) {
+    if kind < 2 {
         return false;
     }
-    frame::frame_refusal(f, n, id) == 0
+    kind <= 5
 }
 
-// What stands for a kind and a sender is a sound frame, or nothing at all.
-fn place_sound<'a>(
-    marks: &'a [u8],
-    views: &'a [u32],
-    plans: &'a [u64],
-    n: u8,
-    id: u8,
-    view: u32,
-    kind: u8,
-    sender: u8,
-) -> bool
-    requires { ⌜ Place kind sender × Arrays (now marks) (now views) (now plans) ⌝ }
-    ensures { λ b. ⌜ b ≡ placeSound (slotIn (now (marks .entry)) (now (views .entry)) (now (plans .entry))) n id view kind sender ⌝ }
+// What is kept for a kind and a sender below n is a sound frame. Its form is told apart here, so that no frame is made of a vote.
+fn marked_sound(rec: &[u8], set: Settings, view: u32, head: Head) -> bool
+    requires { ⌜ Place (head .kind) (head .sender) × (head .sender < set .n) × (length (now rec) ≡ recordSize) × Marked (slotOf (decodeRecord (now rec))) head ⌝ }
+    ensures { λ b. ⌜ b ≡ placeSound (slotOf (decodeRecord (now (rec .entry)))) set view (head .kind) (head .sender) ⌝ }
 {
-    let at = record::frame_slot(kind, sender);
-    if marks[at] != 1 {
-        return empty_at(marks, views, plans, kind, sender);
+    if head.kind <= 5 {
+        return plan_sound(set, view, head);
     }
-    if !no_plan(kind, plans[at]) {
+    let at = frame_place(head.kind, head.sender);
+    if layout::plan_at(rec, at) != 0 {
         return false;
     }
-    let f = kept::frame_at(marks, views, plans, kind, sender);
-    frame_sound(n, id, view, f)
+    if head.kind == 6 {
+        return head.view != 0;
+    }
+    told_sound(rec, set, view, head)
 }
 
-// The 64 places of a kind.
-fn kind_sound<'a>(
-    marks: &'a [u8],
-    views: &'a [u32],
-    plans: &'a [u64],
-    n: u8,
-    id: u8,
-    view: u32,
-    kind: u8,
-) -> bool
-    requires { ⌜ (1 ≤ kind) × (kind ≤ 8) × Arrays (now marks) (now views) (now plans) ⌝ }
-    ensures { λ b. ⌜ b ≡ kindSound (slotIn (now (marks .entry)) (now (views .entry)) (now (plans .entry))) n id view kind ⌝ }
+// What stands for a kind and a sender below n is a sound frame, or nothing at all.
+fn place_sound(rec: &[u8], set: Settings, view: u32, kind: u8, sender: u8) -> bool
+    requires { ⌜ Place kind sender × (sender < set .n) × (length (now rec) ≡ recordSize) ⌝ }
+    ensures { λ b. ⌜ b ≡ placeSound (slotOf (decodeRecord (now (rec .entry)))) set view kind sender ⌝ }
+{
+    let at = frame_place(kind, sender);
+    if rec[at] != 1 {
+        return empty_at(rec, kind, sender);
+    }
+    if is_free(set.id, kind, sender) {
+        return true;
+    }
+    let head = Head {
+        kind,
+        sender,
+        view: layout::view_at(rec, at),
+    };
+    marked_sound(rec, set, view, head)
+}
+
+// ---- the places of a kind
+
+// No report is kept for a kind.
+fn no_reports(rec: &[u8], kind: u8) -> bool
+    requires { ⌜ (1 ≤ kind) × (kind ≤ 8) × (length (now rec) ≡ recordSize) ⌝ }
+    ensures { λ b. ⌜ b ≡ all (λ s. ltb kind 7 || reportsAbsent (slotOf (decodeRecord (now (rec .entry)))) kind s) rows ⌝ }
+{
+    if kind < 7 {
+        return true;
+    }
+    slots_absent(rec, layout::report_slot(kind, 0, 0), 3 * layout::ROWS)
+}
+
+// The reports of the rows from n on, in their three groups.
+fn told_absent(rec: &[u8], from: usize, count: usize) -> bool
+    requires { ⌜ (rows ≤ from) × (from + (2 * rows + count) < slotCount) × (length (now rec) ≡ recordSize) ⌝ }
+    ensures { λ b. ⌜ b ≡ toldAbsent (slotOf (decodeRecord (now (rec .entry)))) from count ⌝ }
+{
+    if !slots_absent(rec, from, count) {
+        return false;
+    }
+    if !slots_absent(rec, from + layout::ROWS, count) {
+        return false;
+    }
+    slots_absent(rec, from + 2 * layout::ROWS, count)
+}
+
+// Nothing is kept in the rows of a kind from n on.
+fn rest_empty(rec: &[u8], kind: u8, n: u8) -> bool
+    requires { ⌜ (n ≤ rows) × (1 ≤ kind) × (kind ≤ 8) × (length (now rec) ≡ recordSize) ⌝ }
+    ensures { λ b. ⌜ b ≡ all (emptyFrom (slotOf (decodeRecord (now (rec .entry)))) kind n) (rows - n) ⌝ }
+{
+    let row = wide(n);
+    let from = layout::frame_slot(kind, 0) + row;
+    if !slots_absent(rec, from, layout::ROWS - row) {
+        return false;
+    }
+    if kind < 7 {
+        return true;
+    }
+    let told = layout::report_slot(kind, 0, 0) + row;
+    told_absent(rec, told, layout::ROWS - row)
+}
+
+// The places of the rows below n of a kind, one by one.
+fn places_sound(rec: &[u8], set: Settings, view: u32, kind: u8) -> bool
+    requires { ⌜ (set .n ≤ rows) × (1 ≤ kind) × (kind ≤ 8) × (length (now rec) ≡ recordSize) ⌝ }
+    ensures { λ b. ⌜ b ≡ all (placeSound (slotOf (decodeRecord (now (rec .entry)))) set view kind) (set .n) ⌝ }
 {
     let mut sender: u8 = 0;
-    while sender < 64 {
-        if !place_sound(marks, views, plans, n, id, view, kind, sender) {
+    while sender < set.n {
+        if !place_sound(rec, set, view, kind, sender) {
             return false;
         }
         sender += 1;
@@ -171,21 +353,29 @@ fn kind_sound<'a>(
     true
 }
 
+// The 64 places of a kind.
+fn kind_sound(rec: &[u8], set: Settings, view: u32, kind: u8) -> bool
+    requires { ⌜ (set .n ≤ rows) × (1 ≤ kind) × (kind ≤ 8) × (length (now rec) ≡ recordSize) ⌝ }
+    ensures { λ b. ⌜ b ≡ kindSound (slotOf (decodeRecord (now (rec .entry)))) set view kind ⌝ }
+{
+    let from = layout::frame_slot(kind, 0);
+    if slots_absent(rec, from, layout::ROWS) {
+        return no_reports(rec, kind);
+    }
+    if !rest_empty(rec, kind, set.n) {
+        return false;
+    }
+    places_sound(rec, set, view, kind)
+}
+
 // The eight kinds.
-fn rows_sound<'a>(
-    marks: &'a [u8],
-    views: &'a [u32],
-    plans: &'a [u64],
-    n: u8,
-    id: u8,
-    view: u32,
-) -> bool
-    requires { ⌜ Arrays (now marks) (now views) (now plans) ⌝ }
-    ensures { λ b. ⌜ b ≡ rowsSound (slotIn (now (marks .entry)) (now (views .entry)) (now (plans .entry))) n id view ⌝ }
+fn rows_sound(rec: &[u8], set: Settings, view: u32) -> bool
+    requires { ⌜ (set .n ≤ rows) × (length (now rec) ≡ recordSize) ⌝ }
+    ensures { λ b. ⌜ b ≡ rowsSound (slotOf (decodeRecord (now (rec .entry)))) set view ⌝ }
 {
     let mut k: u8 = 0;
     while k < 8 {
-        if !kind_sound(marks, views, plans, n, id, view, k + 1) {
+        if !kind_sound(rec, set, view, k + 1) {
             return false;
         }
         k += 1;
@@ -193,77 +383,61 @@ fn rows_sound<'a>(
     true
 }
 
+// ---- the record
+
 // The own previous vote of a kind (2 is vote-1, 3 is vote-2) against the own kept one.
-fn previous_sound<'a>(marks: &'a [u8], views: &'a [u32], plans: &'a [u64], id: u8, kind: u8) -> bool
-    requires { ⌜ (id < 64) × (2 ≤ kind) × (kind ≤ 3) × Arrays (now marks) (now views) (now plans) ⌝ }
-    ensures { λ b. ⌜ b ≡ previousSound (slotIn (now (marks .entry)) (now (views .entry)) (now (plans .entry))) id kind ⌝ }
+fn previous_sound(rec: &[u8], id: u8, kind: u8) -> bool
+    requires { ⌜ (id < rows) × (2 ≤ kind) × (kind ≤ 3) × (length (now rec) ≡ recordSize) ⌝ }
+    ensures { λ b. ⌜ b ≡ previousSound (slotOf (decodeRecord (now (rec .entry)))) id kind ⌝ }
 {
-    let at = record::frame_slot(kind, id);
-    let before = record::previous_slot(kind);
+    let at = layout::frame_slot(kind, id);
+    let before = layout::previous_slot(kind);
     previous_stands(
-        record::slot_in(marks, views, plans, at),
-        record::slot_in(marks, views, plans, before),
+        layout::slot_of(rec, at),
+        layout::slot_of(rec, before),
     )
 }
 
 // The own previous votes and the decision.
-fn votes_sound<'a>(marks: &'a [u8], views: &'a [u32], plans: &'a [u64], id: u8) -> bool
-    requires { ⌜ (id < 64) × Arrays (now marks) (now views) (now plans) ⌝ }
-    ensures { λ b. ⌜ b ≡ votesSound (slotIn (now (marks .entry)) (now (views .entry)) (now (plans .entry))) id ⌝ }
+fn votes_sound(rec: &[u8], id: u8) -> bool
+    requires { ⌜ (id < rows) × (length (now rec) ≡ recordSize) ⌝ }
+    ensures { λ b. ⌜ b ≡ votesSound (slotOf (decodeRecord (now (rec .entry)))) id ⌝ }
 {
-    if !previous_sound(marks, views, plans, id, 2) {
+    if !previous_sound(rec, id, 2) {
         return false;
     }
-    if !previous_sound(marks, views, plans, id, 3) {
+    if !previous_sound(rec, id, 3) {
         return false;
     }
-    well_formed(record::slot_in(marks, views, plans, record::DECISION))
+    well_formed(layout::slot_of(rec, layout::DECISION))
 }
 
-// Whether a record with these settings, this view and these slots is sound. The arrays are lent: a record by value would be copied.
-pub fn sound_in<'a>(
-    marks: &'a [u8],
-    views: &'a [u32],
-    plans: &'a [u64],
-    n: u8,
-    f: u8,
-    id: u8,
-    class: u8,
-    view: u32,
-) -> bool
-    requires { ⌜ Arrays (now marks) (now views) (now plans) ⌝ }
-    ensures { λ b. ⌜ b ≡ soundIn (slotIn (now (marks .entry)) (now (views .entry)) (now (plans .entry))) n f id class view ⌝ }
+// Whether the slots are sound with these settings and this view.
+pub fn sound_in(rec: &[u8], set: Settings, view: u32) -> bool
+    requires { ⌜ length (now rec) ≡ recordSize ⌝ }
+    ensures { λ b. ⌜ b ≡ soundIn (slotOf (decodeRecord (now (rec .entry)))) set view ⌝ }
 {
-    if settings::settings_refusal(n, f, id, class) != 0 {
+    if settings::settings_refusal(set) != 0 {
         return false;
     }
-    if !rows_sound(marks, views, plans, n, id, view) {
+    if !rows_sound(rec, set, view) {
         return false;
     }
-    votes_sound(marks, views, plans, id)
+    votes_sound(rec, set.id)
 }
 
 // What lent bytes are: any bytes, of any length.
-pub fn classify(bytes: &[u8]) -> Lent
-    ensures { λ r. ⌜ r ≡ lentIs (now (bytes .entry)) ⌝ }
+pub fn classify(rec: &[u8]) -> Lent
+    ensures { λ r. ⌜ r ≡ lentIs (now (rec .entry)) ⌝ }
 {
-    if bytes.len() != layout::SIZE {
+    if rec.len() != layout::SIZE {
         return Lent::Unsound;
     }
-    if bytes[0] == 0 {
+    if rec[0] == 0 {
         return Lent::Blank;
     }
-    let r = layout::decode(bytes);
-    if sound_in(
-        &r.marks,
-        &r.views,
-        &r.plans,
-        r.n,
-        r.f,
-        r.id,
-        r.class,
-        r.view,
-    ) {
+    let set = layout::settings_of(rec);
+    if sound_in(rec, set, layout::view_of(rec)) {
         return Lent::Sound;
     }
     Lent::Unsound

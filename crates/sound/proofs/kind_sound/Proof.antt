@@ -1,66 +1,70 @@
--- `sound::kind_sound` meets its contract. The invariant: every sender passed is sound.
+-- `sound::kind_sound` meets its contract: without a frame the reports in bulk, else rows one by one and a rest in bulk.
 -- Assumes nothing.
-use Prim.Native.Nat.{ℕ, _-_, _≤_}
-use mathlib.Core.Path.{_≡_, sym}
-use mathlib.Core.Bool.{Bool, true}
+use mathlib.Core.Path.{ap, sym, _∙_}
 use native.Mathlib.Omega.{arith}
+use Prim.Native.Nat.{ℕ, _<_}
+use Rattle.record.specs.Slots.{rows, slotOf}
+use Rattle.layout.specs.Layout.{decodeRecord}
+use Rattle.frame.proofs.Laws.{told}
+use Rattle.sound.specs.Sound.{all}
+use Rattle.sound.specs.Bulk.{absentFrom}
+use Rattle.sound.proofs.Laws.{off, on}
+use Rattle.sound.proofs.Rows.{kindAbsent, kindRest, kindPlaces}
 use borrow.Author.Needs.{needs}
-use Rattle.record.specs.Slots.{slotIn}
-use Rattle.sound.specs.Sound.{all, placeSound, kindSound}
-use Rattle.sound.proofs.Laws.{off, on, all-none, all-more, all-stop}
 use Rattle.sound.proofs.kind_sound.Statement.{statement}
 use Rattle.sound.proofs.kind_sound.Tie as tie
 
-abbrev Inv-loop : tie.InvT-loop
-Inv-loop marks views plans n id view kind sender₀ sender =
-    (sender ≤ 64) × (all (placeSound (slotIn marks views plans) n id view kind) sender ≡ true)
+frame-slot-requires : tie.Need-frame-slot-requires
+frame-slot-requires c κs =
+    let s = c .before in
+    record { low = s .pre .1; high = s .pre .2; row = omega arith }
 
-abbrev μ-loop : tie.MeasureT-loop
-μ-loop marks views plans n id view kind sender₀ sender = 64 - sender
+slots-absent-requires : tie.Need-slots-absent-requires
+slots-absent-requires c κs =
+    let s = c .before .before in
+    let from = c .frame-slot .ensures in
+    (record {
+      below = omega (arith, from .1);
+      whole = omega (arith, from .1);
+      part = λ (g : c .frame-slot .result < rows). omega (arith, from .0, g);
+    }, s .pre .3)
 
-loop-holds : tie.Need-loop-holds Inv-loop μ-loop
-loop-holds c = (omega arith, all-none _)
+no-reports-requires : tie.Need-no-reports-requires
+no-reports-requires c κs = search needs
 
-place-sound-requires : tie.Need-place-sound-requires Inv-loop μ-loop
-place-sound-requires c κs = search needs
-
-returns : tie.Need-returns Inv-loop μ-loop
-unfolding kindSound
+returns : tie.Need-returns
 returns c =
-    let a = c .before .before .before .before .before .before .before .args in
-    let test : ℕ → Bool = placeSound (slotIn (a .marks .now) (a .views .now) (a .plans .now)) (a .n) (a .id) (a .view) (a .kind) in
-    sym (all-stop test 64 (c .before .before .before .loop .sender) (omega arith) (off (c .before .place-sound .ensures) (c .if1 .taken)))
+    let a = c .before .before .before .before .before .args in
+    let none = c .before .before .slots-absent .ensures ∙ ap (λ (x : ℕ). all (absentFrom (slotOf (decodeRecord (a .rec .now))) x) rows) (c .before .before .before .frame-slot .ensures .0) in
+    c .no-reports .ensures ∙ sym (kindAbsent (slotOf (decodeRecord (a .rec .now))) (a .kind) (a .set) (a .view) (told none (c .before .if1 .taken)))
 
-add-sender : tie.Need-add-sender Inv-loop μ-loop
-add-sender c = search needs
+rest-empty-requires : tie.Need-rest-empty-requires
+rest-empty-requires c κs = search needs
 
-loop-less : tie.Need-loop-less Inv-loop μ-loop
-loop-less c = search needs
-
-loop-again : tie.Need-loop-again Inv-loop μ-loop
-loop-again c =
-    let a = c .before .before .before .before .before .before .before .args in
-    let test : ℕ → Bool = placeSound (slotIn (a .marks .now) (a .views .now) (a .plans .now)) (a .n) (a .id) (a .view) (a .kind) in
-    let h = c .before .before .before .loop in
-    (omega arith, all-more test (h .sender) (h .inv .1) (on (c .before .place-sound .ensures) (c .if1 .left)))
-
-returns-2 : tie.Need-returns-2 Inv-loop μ-loop
-unfolding kindSound
+returns-2 : tie.Need-returns-2
 returns-2 c =
-    let h = c .before .loop in
-    let e : h .sender ≡ 64 = omega arith in
-    rw (← e) (sym (h .inv .1))
+    let s = c .before .before .before .before .before .before in
+    let a = s .args in
+    sym (kindRest (slotOf (decodeRecord (a .rec .now))) (a .set) (a .view) (a .kind) (s .pre .0) (off (c .before .rest-empty .ensures) (c .if2 .taken)))
+
+places-sound-requires : tie.Need-places-sound-requires
+places-sound-requires c κs = search needs
+
+returns-3 : tie.Need-returns-3
+returns-3 c =
+    let s = c .before .before .before .before .before .before .before in
+    let a = s .args in
+    c .places-sound .ensures ∙ sym (kindPlaces (slotOf (decodeRecord (a .rec .now))) (a .set) (a .view) (a .kind) (s .pre .0) (on (c .before .before .rest-empty .ensures) (c .before .if2 .left)))
 
 pub kind-sound-spec : {M : Type 1} → statement M
 kind-sound-spec =
     tie.close
     (tie.spec
-    Inv-loop
-    μ-loop
-    loop-holds
-    place-sound-requires
+    frame-slot-requires
+    slots-absent-requires
+    no-reports-requires
     returns
-    add-sender
-    loop-less
-    loop-again
-    returns-2)
+    rest-empty-requires
+    returns-2
+    places-sound-requires
+    returns-3)

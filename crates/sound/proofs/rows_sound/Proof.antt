@@ -4,19 +4,19 @@ use Prim.Native.Nat.{ℕ, _+_, _-_, _≤_}
 use mathlib.Core.Path.{_≡_, sym}
 use mathlib.Core.Bool.{Bool, true}
 use native.Mathlib.Omega.{arith}
-use borrow.Author.Needs.{needs}
-use Rattle.record.specs.Slots.{slotIn}
+use Rattle.record.specs.Slots.{kinds, slotOf}
+use Rattle.layout.specs.Layout.{decodeRecord}
 use Rattle.sound.specs.Sound.{all, kindSound, rowsSound}
 use Rattle.sound.proofs.Laws.{off, on, all-none, all-more, all-stop}
+use borrow.Author.Needs.{needs}
 use Rattle.sound.proofs.rows_sound.Statement.{statement}
 use Rattle.sound.proofs.rows_sound.Tie as tie
 
 abbrev Inv-loop : tie.InvT-loop
-Inv-loop marks views plans n id view k₀ k =
-    (k ≤ 8) × (all (λ j. kindSound (slotIn marks views plans) n id view (j + 1)) k ≡ true)
+Inv-loop rec set view k₀ k = (k ≤ kinds) × (all (λ j. kindSound (slotOf (decodeRecord rec)) set view (j + 1)) k ≡ true)
 
 abbrev μ-loop : tie.MeasureT-loop
-μ-loop marks views plans n id view k₀ k = 8 - k
+μ-loop rec set view k₀ k = kinds - k
 
 loop-holds : tie.Need-loop-holds Inv-loop μ-loop
 loop-holds c = (omega arith, all-none _)
@@ -30,9 +30,9 @@ kind-sound-requires c κs = search needs
 returns : tie.Need-returns Inv-loop μ-loop
 unfolding rowsSound
 returns c =
-    let a = c .before .before .before .before .before .before .before .args in
-    let test : ℕ → Bool = λ j. kindSound (slotIn (a .marks .now) (a .views .now) (a .plans .now)) (a .n) (a .id) (a .view) (j + 1) in
-    sym (all-stop test 8 (c .before .before .before .loop .k) (omega arith) (off (c .before .kind-sound .ensures) (c .if1 .taken)))
+    let a = c .before .before .before .before .before .args in
+    let test : ℕ → Bool = λ j. kindSound (slotOf (decodeRecord (a .rec .now))) (a .set) (a .view) (j + 1) in
+    sym (all-stop test kinds (c .before .before .before .loop .k) (omega arith) (off (c .before .kind-sound .ensures) (c .if1 .taken)))
 
 add-k : tie.Need-add-k Inv-loop μ-loop
 add-k c = search needs
@@ -42,8 +42,8 @@ loop-less c = search needs
 
 loop-again : tie.Need-loop-again Inv-loop μ-loop
 loop-again c =
-    let a = c .before .before .before .before .before .before .before .args in
-    let test : ℕ → Bool = λ j. kindSound (slotIn (a .marks .now) (a .views .now) (a .plans .now)) (a .n) (a .id) (a .view) (j + 1) in
+    let a = c .before .before .before .before .before .args in
+    let test : ℕ → Bool = λ j. kindSound (slotOf (decodeRecord (a .rec .now))) (a .set) (a .view) (j + 1) in
     let h = c .before .before .before .loop in
     (omega arith, all-more test (h .k) (h .inv .1) (on (c .before .kind-sound .ensures) (c .if1 .left)))
 
@@ -51,7 +51,7 @@ returns-2 : tie.Need-returns-2 Inv-loop μ-loop
 unfolding rowsSound
 returns-2 c =
     let h = c .before .loop in
-    let e : h .k ≡ 8 = omega arith in
+    let e : h .k ≡ kinds = omega arith in
     rw (← e) (sym (h .inv .1))
 
 pub rows-sound-spec : {M : Type 1} → statement M

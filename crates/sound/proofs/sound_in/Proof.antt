@@ -4,7 +4,8 @@ use mathlib.Core.Path.{sym, _∙_}
 use native.Mathlib.Omega.{arith}
 use Rattle.frame.proofs.Laws.{told}
 use Rattle.settings.proofs.Allowed.{allowed}
-use Rattle.record.specs.Slots.{slotIn}
+use Rattle.record.specs.Slots.{slotOf}
+use Rattle.layout.specs.Layout.{decodeRecord}
 use Rattle.sound.proofs.Laws.{off, on, sound-settings, sound-rows, sound-votes}
 use borrow.Author.Needs.{needs}
 use Rattle.sound.proofs.sound_in.Statement.{statement}
@@ -15,37 +16,34 @@ settings-refusal-requires c κs = search needs
 
 returns : tie.Need-returns
 returns c =
-    let s = c .before .before .before .before .before in
-    let slots = slotIn (s .args .marks .now) (s .args .views .now) (s .args .plans .now) in
-    sym (sound-settings slots (s .args .n) (s .args .f) (s .args .id) (s .args .class) (s .args .view)
-    (λ e. c .if1 .taken (c .before .settings-refusal .ensures ∙ e)))
+    let a = c .before .before .before .args in
+    sym (sound-settings (slotOf (decodeRecord (a .rec .now))) (a .set) (a .view) (λ e. c .if1 .taken (c .before .settings-refusal .ensures ∙ e)))
 
 rows-sound-requires : tie.Need-rows-sound-requires
-rows-sound-requires c κs = search needs
+rows-sound-requires c κs =
+    let s = c .before .before .before in
+    let h = allowed (s .args .set) (told (c .before .settings-refusal .ensures) (c .if1 .left)) in
+    (omega arith, s .pre)
 
 returns-2 : tie.Need-returns-2
 returns-2 c =
-    let s = c .before .before .before .before .before .before .before in
-    let slots = slotIn (s .args .marks .now) (s .args .views .now) (s .args .plans .now) in
-    sym (sound-rows slots (s .args .n) (s .args .f) (s .args .id) (s .args .class) (s .args .view)
-    (told (c .before .before .before .settings-refusal .ensures) (c .before .before .if1 .left))
-    (off (c .before .rows-sound .ensures) (c .if2 .taken)))
+    let d = c .before .before in
+    let a = d .before .before .before .args in
+    sym (sound-rows (slotOf (decodeRecord (a .rec .now))) (a .set) (a .view) (told (d .before .settings-refusal .ensures) (d .if1 .left)) (off (c .before .rows-sound .ensures) (c .if2 .taken)))
 
 votes-sound-requires : tie.Need-votes-sound-requires
 votes-sound-requires c κs =
-    let s = c .before .before .before .before .before .before .before in
-    let a = allowed (s .args .n) (s .args .f) (s .args .id) (s .args .class)
-    (told (c .before .before .before .settings-refusal .ensures) (c .before .before .if1 .left)) in
+    let d = c .before .before in
+    let s = d .before .before .before in
+    let h = allowed (s .args .set) (told (d .before .settings-refusal .ensures) (d .if1 .left)) in
     (omega arith, s .pre)
 
 returns-3 : tie.Need-returns-3
 returns-3 c =
-    let s = c .before .before .before .before .before .before .before .before in
-    let slots = slotIn (s .args .marks .now) (s .args .views .now) (s .args .plans .now) in
+    let d = c .before .before .before in
+    let a = d .before .before .before .args in
     c .votes-sound .ensures
-    ∙ sym (sound-votes slots (s .args .n) (s .args .f) (s .args .id) (s .args .class) (s .args .view)
-    (told (c .before .before .before .before .settings-refusal .ensures) (c .before .before .before .if1 .left))
-    (on (c .before .before .rows-sound .ensures) (c .before .if2 .left)))
+    ∙ sym (sound-votes (slotOf (decodeRecord (a .rec .now))) (a .set) (a .view) (told (d .before .settings-refusal .ensures) (d .if1 .left)) (on (c .before .before .rows-sound .ensures) (c .before .if2 .left)))
 
 pub sound-in-spec : {M : Type 1} → statement M
 sound-in-spec =

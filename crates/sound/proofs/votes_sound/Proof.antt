@@ -4,7 +4,8 @@ use mathlib.Core.Path.{ap, sym, _∙_}
 use mathlib.Core.Bool.{not}
 use Rattle.frame.specs.declared.Report.{Report}
 use Rattle.frame.specs.Refusal.{badForm}
-use Rattle.record.specs.Slots.{slotIn}
+use Rattle.record.specs.Slots.{slotOf}
+use Rattle.layout.specs.Layout.{decodeRecord}
 use Rattle.sound.proofs.Laws.{off, on, votes-first, votes-second, votes-decision}
 use borrow.Author.Needs.{needs}
 use Rattle.sound.proofs.votes_sound.Statement.{statement}
@@ -15,33 +16,31 @@ previous-sound-requires c κs = search needs
 
 returns : tie.Need-returns
 returns c =
-    let s = c .before .before .before .before .before in
-    let slots = slotIn (s .args .marks .now) (s .args .views .now) (s .args .plans .now) in
-    sym (votes-first slots (s .args .id) (off (c .before .previous-sound .ensures) (c .if1 .taken)))
+    let a = c .before .before .before .args in
+    sym (votes-first (slotOf (decodeRecord (a .rec .now))) (a .id) (off (c .before .previous-sound .ensures) (c .if1 .taken)))
 
 previous-sound-requires-2 : tie.Need-previous-sound-requires-2
 previous-sound-requires-2 c κs = search needs
 
 returns-2 : tie.Need-returns-2
 returns-2 c =
-    let s = c .before .before .before .before .before .before .before in
-    let slots = slotIn (s .args .marks .now) (s .args .views .now) (s .args .plans .now) in
-    sym (votes-second slots (s .args .id) (on (c .before .before .before .previous-sound .ensures) (c .before .before .if1 .left))
+    let d = c .before .before in
+    let a = d .before .before .before .args in
+    sym (votes-second (slotOf (decodeRecord (a .rec .now))) (a .id) (on (d .before .previous-sound .ensures) (d .if1 .left))
     (off (c .before .previous-sound2 .ensures) (c .if2 .taken)))
 
-slot-in-requires : tie.Need-slot-in-requires
-slot-in-requires c κs = search needs
+slot-of-requires : tie.Need-slot-of-requires
+slot-of-requires c κs = search needs
 
 well-formed-requires : tie.Need-well-formed-requires
 well-formed-requires c κs = search needs
 
 returns-3 : tie.Need-returns-3
 returns-3 c =
-    let s = c .before .before .before .before .before .before .before .before .before in
-    let slots = slotIn (s .args .marks .now) (s .args .views .now) (s .args .plans .now) in
-    c .well-formed .ensures ∙ ap (λ (x : Report). not (badForm x)) (c .before .slot-in .ensures)
-    ∙ sym (votes-decision slots (s .args .id)
-    (on (c .before .before .before .before .before .previous-sound .ensures) (c .before .before .before .before .if1 .left))
+    let d = c .before .before .before .before in
+    let a = d .before .before .before .args in
+    c .well-formed .ensures ∙ ap (λ (x : Report). not (badForm x)) (c .before .slot-of .ensures)
+    ∙ sym (votes-decision (slotOf (decodeRecord (a .rec .now))) (a .id) (on (d .before .previous-sound .ensures) (d .if1 .left))
     (on (c .before .before .before .previous-sound2 .ensures) (c .before .before .if2 .left)))
 
 pub votes-sound-spec : {M : Type 1} → statement M
@@ -52,6 +51,6 @@ votes-sound-spec =
     returns
     previous-sound-requires-2
     returns-2
-    slot-in-requires
+    slot-of-requires
     well-formed-requires
     returns-3)

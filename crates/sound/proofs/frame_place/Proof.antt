@@ -1,0 +1,42 @@
+-- `sound::frame_place` meets its contract: a kind's slots lie end to end.
+-- Assumes nothing.
+use Prim.Native.Nat.{ℕ, _+_, _*_}
+use mathlib.Core.Path.{_≡_, ap, _∙_}
+use native.Mathlib.Omega.{arith}
+use Rattle.record.specs.Slots.{frameSlot}
+use Rattle.layout.specs.Layout.{slotSize, place}
+use Rattle.layout.proofs.Laws.{placeFits}
+use Rattle.sound.proofs.Places.{placeFrame}
+use borrow.Author.Needs.{needs}
+use Rattle.sound.proofs.frame_place.Statement.{statement}
+use Rattle.sound.proofs.frame_place.Tie as tie
+
+frame-slot-requires : tie.Need-frame-slot-requires
+frame-slot-requires c κs = search needs
+
+place-of-requires : tie.Need-place-of-requires
+place-of-requires c κs = search needs
+
+wide-requires : tie.Need-wide-requires
+wide-requires c κs = search needs
+
+mul-result : tie.Need-mul-result
+mul-result c = search needs
+
+add-result : tie.Need-add-result
+add-result c = search needs
+
+returns : tie.Need-returns
+returns c =
+    let s = c .before .before .before in
+    let a = s .args in
+    let first = c .before .place-of .ensures .0 ∙ ap place (c .before .before .frame-slot .ensures .0) in
+    let row = c .wide .ensures in
+    let e = (λ i. first i + slotSize * row i) ∙ placeFrame (a .kind) (a .sender) (s .pre .row) in
+    let fits = placeFits (frameSlot (a .kind) (a .sender)) (let h = s .pre .row in omega arith) in
+    (e, omega (arith, e, fits))
+
+pub frame-place-spec : {M : Type 1} → statement M
+frame-place-spec =
+    tie.close
+    (tie.spec frame-slot-requires place-of-requires wide-requires mul-result add-result returns)

@@ -1,0 +1,45 @@
+-- `sound::report_place` meets its contract: a kind's reports lie end to end.
+-- Assumes nothing.
+use Prim.Native.Nat.{ℕ, _+_, _*_, _<_}
+use mathlib.Core.Path.{_≡_, ap, _∙_}
+use native.Mathlib.Omega.{arith}
+use Rattle.record.specs.Slots.{slotCount, reportSlot}
+use Rattle.layout.specs.Layout.{slotSize, place}
+use Rattle.layout.proofs.Laws.{placeFits}
+use Rattle.sound.proofs.Places.{placeReport}
+use borrow.Author.Needs.{needs}
+use Rattle.sound.proofs.report_place.Statement.{statement}
+use Rattle.sound.proofs.report_place.Tie as tie
+
+report-slot-requires : tie.Need-report-slot-requires
+report-slot-requires c κs = search needs
+
+place-of-requires : tie.Need-place-of-requires
+place-of-requires c κs = search needs
+
+wide-requires : tie.Need-wide-requires
+wide-requires c κs = search needs
+
+mul-result : tie.Need-mul-result
+mul-result c = search needs
+
+add-result : tie.Need-add-result
+add-result c = search needs
+
+returns : tie.Need-returns
+returns c =
+    let s = c .before .before .before in
+    let a = s .args in
+    let first = c .before .place-of .ensures .0 ∙ ap place (c .before .before .report-slot .ensures .0) in
+    let row = c .wide .ensures in
+    let from = placeReport (a .kind) 0 (a .sender) in
+    let e : c .before .place-of .result + slotSize * c .wide .result ≡ place (reportSlot (a .kind) 0 (a .sender)) = omega (arith, first, row, from) in
+    let last = placeReport (a .kind) 2 (a .sender) in
+    let below : reportSlot (a .kind) 2 (a .sender) < slotCount = let h = s .pre .1 .high in let k = s .pre .1 .row in omega arith in
+    let fits = placeFits (reportSlot (a .kind) 2 (a .sender)) below in
+    (e, omega (arith, first, row, last, fits))
+
+pub report-place-spec : {M : Type 1} → statement M
+report-place-spec =
+    tie.close
+    (tie.spec report-slot-requires place-of-requires wide-requires mul-result add-result returns)
