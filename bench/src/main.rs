@@ -27,7 +27,7 @@ const SIZES: [(u8, u8); 3] = [(4, 1), (16, 5), (64, 21)];
 fn print_head(clock: &Clock) {
     let load = std::fs::read_to_string("/proc/loadavg").unwrap_or_else(|_| String::from("unknown"));
     println!(
-        "The Rattle vault (libvault_c.a), an in-place vault and the reference (Rust), built for release.
+        "The Rattle vault (libvault_c.a), an in-place vault and the reference, all built for release.
 Load of the machine at the beginning: {}
 
 Times are the best of some rounds; rounds of the sides take turns. A ratio is the library's time

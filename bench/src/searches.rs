@@ -1,4 +1,5 @@
-//! Part 2: the searches for safe plans, on bad report sets: apart from the calls, and in whole calls.
+//! Part 2: the searches for safe plans, on bad report sets: apart from the calls, and in whole
+//! calls.
 
 use std::hint::black_box;
 
@@ -120,8 +121,8 @@ impl Input {
     }
 }
 
-/// The contents of a vault in VIEW that has these reports: of the leader, which is vault 0 (Rule 1),
-/// or of vault 1 with the leader's proposal of the plan (Rule 3).
+/// The contents of a vault in VIEW that has these reports: of the leader, which is vault 0 (Rule
+/// 1), or of vault 1 with the leader's proposal of the plan (Rule 3).
 fn kept(n: usize, f: usize, reports: &Reports, rule: Rule, plan: u64) -> Record {
     let (id, kind) = match rule {
         Rule::One => (0, SUGGEST),
@@ -206,7 +207,8 @@ fn timed<'a>(clock: &Clock, rounds: u32, inputs: Vec<&'a Input>) -> Vec<(&'a Inp
     inputs.into_iter().zip(times).collect()
 }
 
-/// The worst few of a quick race are timed well, and the worst of these is printed, with a whole call.
+/// The worst few of a quick race are timed well, and the worst of these is printed, with a whole
+/// call.
 fn print_worst(clock: &Clock, summary: &mut Summary, rule: Rule, n: usize, f: usize) {
     let inputs = inputs(rule, n, f);
     inputs.iter().for_each(Input::check);

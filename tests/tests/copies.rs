@@ -71,22 +71,25 @@ fn a_copy_and_a_fill_show() {
     assert_eq!((COPIED.get() - before.0, FILLED.get() - before.1), (5_000, 3_000));
 }
 
+/// The most that a call of a class copies and fills.
+fn most(class: Class) -> (usize, usize) {
+    (if class == Class::Acting { MOST_ACTING } else { MOST_QUIET }, MOST_FILLED)
+}
+
 #[test]
 fn a_quiet_call_copies_at_most_one_record() {
-    let mut worst = [0.0f64; 2];
-    let records = |bytes: usize| bytes as f64 / LEN as f64;
     let mut slips = Vec::new();
     for (n, f) in [(4, 1), (64, 21)] {
-        for case in cases::all(n, f) {
-            let (copied, filled) = counted(&case);
-            println!("{copied:>7} bytes copied, {filled:>6} filled, n = {n}: {}", case.name);
-            let (place, most) = if case.class() == Class::Acting { (1, MOST_ACTING) } else { (0, MOST_QUIET) };
-            worst[place] = worst[place].max(records(copied));
-            if copied > most || filled > MOST_FILLED {
-                slips.push(format!("n = {n}: {}", case.name));
-            }
+        let cases = cases::all(n, f);
+        let mut counts: Vec<_> = cases.iter().map(|case| (counted(case), n, case.class(), &case.name)).collect();
+        counts.sort_by_key(|count| count.0);
+        for class in [Class::Quiet, Class::Refused, Class::Acting] {
+            let ((copied, filled), .., name) = counts.iter().rfind(|count| count.2 == class).expect("a case of the class");
+            let records = *copied as f64 / LEN as f64;
+            println!("{copied:>7} bytes copied ({records:.2} records), {filled} filled, n = {n}, {class:?}: {name}");
         }
+        counts.retain(|&((copied, filled), _, class, _)| copied > most(class).0 || filled > most(class).1);
+        slips.extend(counts.iter().map(|count| format!("{count:?}")));
     }
-    println!("a quiet or refused call copies up to {:.2} records, an acting one up to {:.2}", worst[0], worst[1]);
-    assert!(slips.is_empty(), "too many bytes: {slips:?}");
+    assert!(slips.is_empty(), "too many bytes, copied and filled: {slips:#?}");
 }

@@ -5,7 +5,13 @@ use comparison::sides::{Call, InPlace, Rattle};
 use reference::entry::{parse_entries, Entry};
 use reference::rng::Rng;
 
+/// CALLS and SEED in the environment make a longer run, or another.
 const CALLS: u64 = 300_000;
+const SEED: u64 = 12;
+
+fn from_environment(name: &str, usual: u64) -> u64 {
+    std::env::var(name).map_or(usual, |text| text.parse().expect("a number"))
+}
 
 /// The calls made so far, and what came of them.
 struct Seen {
@@ -178,8 +184,9 @@ fn any_start(rng: &mut Rng) -> Call {
 #[test]
 fn in_place_vault_and_library_leave_the_same_bytes() {
     let (refusals, steps, sizes) = ([0; 20], [0; 8], [0; 65]);
-    let mut seen = Seen { rng: Rng(12), calls: 0, accepted: 0, refusals, steps, sizes };
-    while seen.calls < CALLS {
+    let (calls, rng) = (from_environment("CALLS", CALLS), Rng(from_environment("SEED", SEED)));
+    let mut seen = Seen { rng, calls: 0, accepted: 0, refusals, steps, sizes };
+    while seen.calls < calls {
         (0..60).for_each(|_| seen.search());
         let mut rec = seen.sound();
         for _ in 0..1 + seen.rng.below(60) {
@@ -194,7 +201,7 @@ fn in_place_vault_and_library_leave_the_same_bytes() {
     }
     println!("{} calls, accepted {}, steps {:?}, refusals {:?}", seen.calls, seen.accepted, seen.steps, seen.refusals);
     println!("least calls of an n from 4 to 64: {}", seen.sizes[4..].iter().min().unwrap());
-    assert!(seen.accepted > CALLS / 10);
+    assert!(seen.accepted > calls / 10);
     assert!(seen.steps.iter().all(|&count| count > 100), "{:?}", seen.steps);
     assert!(seen.refusals[1..].iter().all(|&count| count > 20), "{:?}", seen.refusals);
     assert!(seen.sizes[4..].iter().all(|&count| count > 100), "{:?}", seen.sizes);

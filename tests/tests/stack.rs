@@ -77,15 +77,19 @@ fn a_written_array_shows() {
 
 #[test]
 fn no_call_takes_more_than_48_kilobytes() {
-    let mut deepest = 0;
+    let mut all = Vec::new();
     for (n, f) in [(4, 1), (64, 21)] {
-        for case in cases::all(n, f) {
-            case.check();
-            let bytes = depth_of(&case);
-            println!("{bytes:>7} bytes of stack, n = {n}: {}", case.name);
-            deepest = deepest.max(bytes);
+        let cases = cases::all(n, f);
+        cases.iter().for_each(Case::check);
+        let mut depths: Vec<_> = cases.iter().map(|case| (depth_of(case), n, case.class(), case.name.clone())).collect();
+        depths.sort_by_key(|depth| depth.0);
+        for class in [Class::Quiet, Class::Refused, Class::Acting] {
+            let (bytes, .., name) = depths.iter().rfind(|depth| depth.2 == class).expect("a case of the class");
+            println!("{bytes:>7} bytes of stack, n = {n}, {class:?}: {name}");
         }
+        all.append(&mut depths);
     }
-    println!("the deepest call takes {deepest} bytes of stack");
-    assert!(deepest <= MOST, "{deepest} bytes of stack");
+    println!("the deepest call takes {} bytes of stack", all.iter().map(|depth| depth.0).max().expect("a call"));
+    all.retain(|depth| depth.0 > MOST);
+    assert!(all.is_empty(), "more than {MOST} bytes of stack: {all:#?}");
 }

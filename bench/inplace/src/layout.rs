@@ -1,5 +1,5 @@
-//! The record of the Rattle vault (docs/DECISIONS.md, 'The record') as one struct over its bytes. Every
-//! field is made of bytes, so every string of this length is one, at any address.
+//! The record of the Rattle vault (docs/DECISIONS.md, 'The record') as one struct over its bytes.
+//! Every field is made of bytes, so every string of this length is one, at any address.
 
 pub const SIZE: usize = 11_703;
 
@@ -17,7 +17,7 @@ pub struct Slot {
 /// The slots of one kind of frame or report, by sender.
 pub type Row = [Slot; 64];
 
-/// The rows behind the view-changes: kinds 7, 8, 1 to 5, then the reports of suggests and of proofs.
+/// The rows behind the view-changes: kinds 7, 8, 1 to 5, then the reports of suggests and proofs.
 pub const SUGGESTS: usize = 0;
 pub const PROOFS: usize = 1;
 pub const PROPOSALS: usize = 2;
@@ -43,8 +43,8 @@ pub struct Record {
     pub last: [Slot; 3],
 }
 
-/// The row of the highest votes that the suggests (0) or proofs (1) report; previous votes and locks are in
-/// the next two.
+/// The row of the highest votes that the suggests (0) or proofs (1) report; previous votes and
+/// locks are in the next two.
 #[inline(always)]
 pub const fn reports_of(row: usize) -> usize {
     7 + 3 * row
@@ -73,6 +73,17 @@ impl Slot {
     #[inline(always)]
     pub fn view(&self) -> u32 {
         u32::from_be_bytes(self.view)
+    }
+
+    /// The view and the mark, wide enough to be added.
+    #[inline(always)]
+    pub fn wide_view(&self) -> u64 {
+        u64::from(self.view())
+    }
+
+    #[inline(always)]
+    pub fn marks(&self) -> u64 {
+        u64::from(self.mark)
     }
 
     #[inline(always)]
@@ -130,8 +141,8 @@ impl Record {
     }
 }
 
-/// view mod n without a division, n from 4 to 64: 2^64 / n, rounded up, times view leaves the remainder's share
-/// of 2^64.
+/// view mod n without a division, n from 4 to 64: 2^64 / n, rounded up, times view leaves the
+/// remainder's share of 2^64.
 #[inline(always)]
 pub fn leader(view: u32, n: usize) -> usize {
     let share = STEPS[n & 127].wrapping_mul(u64::from(view));

@@ -1,8 +1,9 @@
-//! A vault by document 01, in place on the record of the Rattle vault: what plain Rust reaches on this layout. It was
-//! written after reading the Rattle code, so it is a measure of speed and no oracle; a test compares it with the
-//! library, byte for byte. Soundness is tested by presence words and bulk scans (`sound`), safe plans are searched by
-//! one selection (`safe`).
+//! A vault by document 01, in place on the record of the Rattle vault: what plain Rust reaches on
+//! this layout. It was written after reading the Rattle code, so it is a measure of speed and no
+//! oracle; a test compares it with the library, byte for byte. Soundness is tested by presence
+//! words and bulk scans (`sound`), safe plans are searched by one selection (`safe`).
 
+mod asked;
 mod layout;
 mod safe;
 mod scan;
@@ -167,7 +168,7 @@ pub fn timer(rec: &mut [u8], view: u32, out: &mut [u8]) -> Answer {
     Ok(vault.count)
 }
 
-/// The searches for safe plans over a sound record's reports of the current view, apart from the calls.
+/// The searches for safe plans over a sound record's reports of the current view, apart from calls.
 pub struct Search<'a>(Reports<'a>);
 
 impl<'a> Search<'a> {

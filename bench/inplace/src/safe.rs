@@ -1,7 +1,7 @@
-//! Safe plans, by one selection: u is the lowest view above which some quorum of reporters has no lock. Below u no
-//! plan is allowed, at u only plans of locks at u (where not a quorum is free of locks), above u every plan; and
-//! claims fall with the view. So only the claims at u and at the next view count (docs/DECISIONS.md, 'The search for
-//! safe plans').
+//! Safe plans, by one selection: u is the lowest view above which some quorum of reporters has no
+//! lock. Below u no plan is allowed, at u only plans of locks at u (where not a quorum is free of
+//! locks), above u every plan; and claims fall with the view. So only the claims at u and at the
+//! next view count (docs/DECISIONS.md, 'The search for safe plans').
 
 use crate::layout::*;
 use crate::scan::{at_view, Ones};
@@ -38,8 +38,8 @@ impl<T: Copy + Default + Ord> Few<T> {
     }
 }
 
-/// Who claims what at a view: how many claim every plan, and the plans of those that claim only their highest
-/// vote's.
+/// Who claims what at a view: how many claim every plan, and the plans of those that claim only
+/// their highest vote's.
 struct Claims {
     every: usize,
     one: Few<u64>,
@@ -62,9 +62,10 @@ impl<'a> Reports<'a> {
     #[inline(always)]
     pub fn of(rec: &'a Record, present: &Present, row: usize) -> Reports<'a> {
         let first = reports_of(row);
-        let reporters = at_view(&rec.rows[row], present.rows[row], rec.view());
+        let n = usize::from(rec.n);
+        let reporters = present.rows[row] & at_view(&rec.rows[row], n, rec.view());
         Reports {
-            n: usize::from(rec.n),
+            n,
             f: usize::from(rec.f),
             view: rec.view(),
             reporters,
@@ -80,8 +81,8 @@ impl<'a> Reports<'a> {
         self.view == 0 || (self.reporters & !self.locked).count_ones() as usize >= self.n - self.f
     }
 
-    /// The lowest view above which a quorum of reporters has no lock, where there are enough and no quorum is free
-    /// of locks.
+    /// The lowest view above which a quorum of reporters has no lock, where there are enough and no
+    /// quorum is free of locks.
     fn lowest(&self) -> Option<u32> {
         let silent = self.n - self.reporters.count_ones() as usize;
         let place = self.f.checked_sub(silent)?;

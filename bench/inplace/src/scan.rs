@@ -74,11 +74,40 @@ pub fn marks(row: &Row, n: usize, all: &mut u8) -> u64 {
     present
 }
 
-/// Which of the slots named by bits are at a view.
+/// Which of the first n slots pass a test.
 #[inline(always)]
-pub fn at_view(row: &Row, bits: u64, view: u32) -> u64 {
+fn passing(row: &Row, n: usize, test: impl Fn(&Slot) -> bool) -> u64 {
+    row[..n.min(64)].iter().rev().fold(0, |bits, slot| 2 * bits + u64::from(test(slot)))
+}
+
+/// Which of the first n slots are at a view. An absent one is at view 0.
+#[inline(always)]
+pub fn at_view(row: &Row, n: usize, view: u32) -> u64 {
     let view = view.to_be();
-    Ones(bits).fold(0, |found, s| found | u64::from(row[s].raw_view() == view) << s)
+    passing(row, n, |slot| slot.raw_view() == view)
+}
+
+/// Which of the first n slots are for a plan, as `Slot::raw_plan` gives it.
+#[inline(always)]
+pub fn with_plan(row: &Row, n: usize, plan: u64) -> u64 {
+    passing(row, n, |slot| slot.raw_plan() == plan)
+}
+
+/// What a test finds at the places of the ones, taken together. Where most of the first n places
+/// are ones all n are asked: the test finds nothing at an absent slot.
+#[inline(always)]
+pub fn found(bits: u64, n: usize, test: impl Fn(usize) -> u64) -> u64 {
+    let mut found = 0;
+    if 2 * bits.count_ones() as usize > n {
+        for s in 0..n.min(64) {
+            found |= test(s);
+        }
+    } else {
+        for s in Ones(bits) {
+            found |= test(s);
+        }
+    }
+    found
 }
 
 /// The places of the ones, lowest first.

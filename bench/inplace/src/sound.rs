@@ -1,7 +1,7 @@
 //! Whether a record is sound, and which slots are present.
 
 use crate::layout::*;
-use crate::scan::{absent, marks, Ones};
+use crate::scan::{absent, found, marks};
 
 /// Which slots are present: bit s of a word is the row's slot s.
 #[derive(Default)]
@@ -68,27 +68,28 @@ fn presence(rec: &Record, n: usize) -> Option<Present> {
     Some(present)
 }
 
-/// The kept suggests or proofs: a view above 0, no plan, reports below the view, each previous vote below the
-/// highest and for another plan.
+/// The kept suggests or proofs: a view above 0, no plan, reports below the view, each previous vote
+/// below the highest and for another plan. A mark is 1 where a slot is present, and an absent slot
+/// is zero: `x + mark <= y` then asks nothing of it.
 #[inline(always)]
-fn reports(rec: &Record, present: &Present, row: usize) -> bool {
+fn reports(rec: &Record, present: &Present, row: usize, n: usize) -> bool {
     let first = reports_of(row);
-    let [high, previous, lock] = [0, 1, 2].map(|i| present.rows[first + i]);
+    let [high, previous, lock] =
+        [present.rows[first], present.rows[first + 1], present.rows[first + 2]];
     if (high | lock) & !present.rows[row] != 0 || previous & !high != 0 {
         return false;
     }
-    let [highs, previous_votes, locks] = [0, 1, 2].map(|i| &rec.rows[first + i]);
-    let mut good = true;
-    for s in Ones(present.rows[row]) {
-        let frame = &rec.rows[row][s];
-        good &= highs[s].view().max(locks[s].view()) < frame.view();
-        good &= frame.raw_plan() == 0;
-    }
-    for s in Ones(previous) {
-        good &= previous_votes[s].view() < highs[s].view();
-        good &= previous_votes[s].raw_plan() != highs[s].raw_plan();
-    }
-    good
+    let frames = &rec.rows[row];
+    let [highs, previous_votes, locks] =
+        [&rec.rows[first], &rec.rows[first + 1], &rec.rows[first + 2]];
+    let wrong = |s: usize| {
+        let (frame, high, previous) = (&frames[s], &highs[s], &previous_votes[s]);
+        let late = high.wide_view().max(locks[s].wide_view()) + frame.marks() > frame.wide_view();
+        let order = previous.wide_view() + previous.marks() > high.wide_view();
+        let same = (previous.mark != 0) & (previous.raw_plan() == high.raw_plan());
+        u64::from(late | order | same) | frame.raw_plan()
+    };
+    found(present.rows[row], n, wrong) == 0
 }
 
 /// The own previous vote-1 (0) or vote-2 (1) against the own kept one.
@@ -99,22 +100,27 @@ fn previous(rec: &Record, present: &Present, id: usize, vote: usize) -> bool {
         || kept.mark == 1 && before.view() < kept.view() && before.raw_plan() != kept.raw_plan()
 }
 
-/// Proposals from their leaders, view-changes above view 0 and without plan, suggests for views that this vault
-/// leads.
+/// Proposals from their leaders, view-changes above view 0 and without plan, suggests for views
+/// that this vault leads.
 #[inline(always)]
 fn frames(rec: &Record, present: &Present, n: usize, id: usize) -> bool {
-    let mut good = true;
-    for s in Ones(present.rows[PROPOSALS]) {
-        good &= leader(rec.rows[PROPOSALS][s].view(), n) == s;
-    }
-    for s in Ones(present.changes) {
+    let (proposals, suggests) = (&rec.rows[PROPOSALS], &rec.rows[SUGGESTS]);
+    let not_leaders = |s: usize| {
+        let proposal = &proposals[s];
+        u64::from((proposal.mark != 0) & (leader(proposal.view(), n) != s))
+    };
+    let wrong_change = |s: usize| {
         let change = &rec.changes[s];
-        good &= (change.raw_view() != 0) & (change.raw_plan() == 0);
-    }
-    for s in Ones(present.rows[SUGGESTS]) {
-        good &= leader(rec.rows[SUGGESTS][s].view(), n) == id;
-    }
-    good
+        u64::from((change.mark != 0) & (change.raw_view() == 0)) | change.raw_plan()
+    };
+    let not_for_us = |s: usize| {
+        let suggest = &suggests[s];
+        u64::from((suggest.mark != 0) & (leader(suggest.view(), n) != id))
+    };
+    found(present.rows[PROPOSALS], n, not_leaders)
+        | found(present.changes, n, wrong_change)
+        | found(present.rows[SUGGESTS], n, not_for_us)
+        == 0
 }
 
 /// The present slots of a sound record that is not blank.
@@ -129,8 +135,8 @@ pub fn present(rec: &Record) -> Option<Present> {
     let own = rec.rows[..=VOTES_4].iter().all(|row| row[id].view() <= rec.view());
     let good = own
         && frames(rec, &present, n, id)
-        && reports(rec, &present, SUGGESTS)
-        && reports(rec, &present, PROOFS)
+        && reports(rec, &present, SUGGESTS, n)
+        && reports(rec, &present, PROOFS, n)
         && previous(rec, &present, id, 0)
         && previous(rec, &present, id, 1);
     good.then_some(present)

@@ -1,8 +1,9 @@
 //! A sound record within an accepted call: what is kept, the steps, and the entries.
 
+use crate::asked::Asked;
 use crate::layout::*;
 use crate::safe::Reports;
-use crate::scan::{at_view, Ones};
+use crate::scan::{at_view, with_plan, Ones};
 use crate::sound::Present;
 
 const DELAYS: [u32; 8] = [20, 50, 100, 200, 500, 1000, 2000, 5000];
@@ -144,40 +145,24 @@ impl<'a> Vault<'a> {
         }
     }
 
-    /// The views above the current one that view-changes are for.
-    #[inline(always)]
-    fn asked(&self) -> ([u32; 64], usize) {
-        let mut asked = [0; 64];
-        let mut count = 0;
-        for s in Ones(self.present.changes) {
-            let w = self.rec.changes[s].view();
-            asked[count & 63] = w;
-            count += usize::from(w > self.view);
-        }
-        (asked, count)
-    }
-
     /// A and B. Fewer than f + 1 view-changes are too few for both.
     #[inline(always)]
     pub fn change_view(&mut self) {
         if (self.present.changes.count_ones() as usize) <= self.f {
             return;
         }
-        let (mut asked, mut count) = self.asked();
-        if count <= self.f {
+        let mut asked = Asked::of(self.rec, self.n, self.view);
+        // A quorum has f + 1 askers besides this vault.
+        let Some(w) = asked.highest(self.f + 1, self.view) else {
             return;
-        }
+        };
         // An absent view-change has view 0.
-        let own = self.rec.changes[self.id].view();
-        if let Some(w) = highest(&asked[..count], self.f + 1, own.max(self.view)) {
+        if w > self.rec.changes[self.id].view() {
             self.ask(w);
-            (asked, count) = self.asked();
+            asked = Asked::of(self.rec, self.n, self.view);
         }
-        let quorum = self.n - self.f;
-        if count >= quorum {
-            if let Some(w) = highest(&asked[..count], quorum, self.view) {
-                self.enter(w);
-            }
+        if let Some(w) = asked.highest(self.n - self.f, self.view) {
+            self.enter(w);
         }
     }
 
@@ -212,21 +197,20 @@ impl<'a> Vault<'a> {
             return None;
         }
         let kept = &self.rec.rows[row];
-        let votes = at_view(kept, present, self.view);
+        let votes = present & at_view(kept, self.n, self.view);
         if (votes.count_ones() as usize) < quorum {
             return None;
         }
-        // More than half are for the plan that leads in the end, if any is for so many.
-        let (mut plan, mut lead) = (0, 0);
-        for s in Ones(votes) {
-            let x = kept[s].raw_plan();
-            if lead == 0 {
-                plan = x;
+        let for_plan = |plan| (votes & with_plan(kept, self.n, plan)).count_ones() as usize;
+        // Mostly all votes are for the first one's plan.
+        let mut plan = kept[votes.trailing_zeros() as usize & 63].raw_plan();
+        if for_plan(plan) < quorum {
+            plan = leading(kept, votes);
+            if for_plan(plan) < quorum {
+                return None;
             }
-            lead = if x == plan { lead + 1 } else { lead - 1 };
         }
-        let count = Ones(votes).filter(|&s| kept[s].raw_plan() == plan).count();
-        (count >= quorum).then(|| u64::from_be_bytes(plan.to_ne_bytes()))
+        Some(u64::from_be_bytes(plan.to_ne_bytes()))
     }
 
     /// C to H.
@@ -252,18 +236,16 @@ impl<'a> Vault<'a> {
     }
 }
 
-/// The highest view above `low` that is asked for `need` times.
-fn highest(asked: &[u32], need: usize, low: u32) -> Option<u32> {
-    let mut best = low;
-    // A view met here for the first time has all its askers from here on.
-    for i in 0..=asked.len() - need {
-        let w = asked[i];
-        if w > best
-            && (i == 0 || asked[i - 1] != w)
-            && asked[i..].iter().map(|&x| u32::from(x == w)).sum::<u32>() as usize >= need
-        {
-            best = w;
+/// The plan that more than half of the votes are for, if there is one.
+#[cold]
+fn leading(kept: &Row, votes: u64) -> u64 {
+    let (mut plan, mut lead) = (0, 0);
+    for s in Ones(votes) {
+        let x = kept[s].raw_plan();
+        if lead == 0 {
+            plan = x;
         }
+        lead = if x == plan { lead + 1 } else { lead - 1 };
     }
-    (best > low).then_some(best)
+    plan
 }
