@@ -2,7 +2,7 @@
 -- (`slotPart`); thirteen bytes put at a slot's place are the record with that slot (`putThere`), for every other slot and the heads
 -- are made of bytes that stay; and what bytes spell has its widths (`smallSlots`, `fitsDecoded`).
 -- Assumes nothing.
-use Prim.Native.Nat.{ℕ, suc, _+_, _-_, _*_, _^_, _≤_, _<_}
+use Prim.Native.Nat.{ℕ, suc, _+_, _-_, _^_, _≤_, _<_}
 use mathlib.Core.Path.{_≡_, refl, ap, sym, _∙_}
 use mathlib.Core.Logic.{_≢_}
 use mathlib.Core.Bool.{Bool, true, false, cond}

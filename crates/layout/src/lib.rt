@@ -98,7 +98,7 @@ pub fn slot_at(part: &[u8], at: usize) -> Report
     ensures { λ r. ⌜ r ≡ slotIn (now (part .entry)) at ⌝ }
 {
     let view = wire::number32(part, at + 1);
-    let plan = wire::number(part, at + 5, 8);
+    let plan = wire::number64(part, at + 5);
     Report {
         mark: part[at],
         view,
@@ -119,7 +119,7 @@ pub fn plan_at(part: &[u8], at: usize) -> u64
     requires { ⌜ at + slotSize ≤ length (now part) ⌝ }
     ensures { λ r. ⌜ r ≡ slotIn (now (part .entry)) at .plan ⌝ }
 {
-    wire::number(part, at + 5, 8)
+    wire::number64(part, at + 5)
 }
 
 fn wider(x: u32) -> u64
@@ -184,7 +184,7 @@ pub fn plan_of(rec: &[u8]) -> u64
     requires { ⌜ length (now rec) ≡ recordSize ⌝ }
     ensures { λ r. ⌜ r ≡ decodeRecord (now (rec .entry)) .plan ⌝ }
 {
-    wire::number(rec, SHARED, 8)
+    wire::number64(rec, SHARED)
 }
 
 // Another current view.

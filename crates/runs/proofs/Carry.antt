@@ -53,8 +53,8 @@ Held rec (some r) = Holds rec r
 -- ---- the call that bytes say
 
 abbrev pub said : List ℕ → Call → by.Call
-said rec (start n f id class plan) = by.start (record { n = n; f = f; id = id; class = class }) plan
-said rec (frame link bytes) = by.frame (readFrame bytes link (decodeRecord rec .n) (decodeRecord rec .id))
+said rec (start set plan) = by.start set plan
+said rec (frame link bytes) = by.frame (readFrame bytes link (decodeRecord rec .set .n) (decodeRecord rec .set .id))
 said rec (timer view) = by.timer view
 
 -- A call by contents was refused, with record and output unchanged, or accepted, with what `after` says.
@@ -79,7 +79,7 @@ calledComes k rec out b a h = go (ltb (length out) 256) (answer b a) refl refl (
 -- A call on bytes that hold contents comes to a call on the contents.
 pub carried : (rec out : List ℕ) (b : Option Record) (a : Call) → Held rec b → Comes rec out b (said rec a) (leaves rec a out)
 unfolding startLeft frameLeft timerLeft
-carried rec out b (start n f id class plan) h = calledComes 4 rec out b (said rec (start n f id class plan)) h
+carried rec out b (start set plan) h = calledComes 4 rec out b (said rec (start set plan)) h
 carried rec out b (frame link bytes) h = calledComes 3 rec out b (said rec (frame link bytes)) h
 carried rec out b (timer view) h = calledComes 3 rec out b (said rec (timer view)) h
 
@@ -87,20 +87,20 @@ carried rec out b (timer view) h = calledComes 3 rec out b (said rec (timer view
 
 -- A frame that the reader accepted is one that the contents let it accept.
 readSaid : (rec : List ℕ) (r : Record) (link : ℕ) (bytes : List ℕ) → Holds rec r → Bytes bytes → (y : Reading)
-    → readFrame bytes link (decodeRecord rec .n) (decodeRecord rec .id) ≡ y → Fed (some r) (by.frame y)
+    → readFrame bytes link (decodeRecord rec .set .n) (decodeRecord rec .set .id) ≡ y → Fed (some r) (by.frame y)
 unfolding contents
 readSaid rec r link bytes h low (Refused k) read = tt
 readSaid rec r link bytes h low (Accepted x) read =
-    let n-is : decodeRecord rec .n ≡ r .set .n = ap (λ (z : Record). z .set .n) (h .holds) in
-    let id-is : decodeRecord rec .id ≡ r .set .id = ap (λ (z : Record). z .set .id) (h .holds) in
-    let can = acceptedReadable bytes link (decodeRecord rec .n) (decodeRecord rec .id) x low read .1 in
-    subst (λ (k : ℕ). Readable k (r .set .id) x) n-is (subst (λ (k : ℕ). Readable (decodeRecord rec .n) k x) id-is can)
+    let n-is : decodeRecord rec .set .n ≡ r .set .n = ap (λ (z : Record). z .set .n) (h .holds) in
+    let id-is : decodeRecord rec .set .id ≡ r .set .id = ap (λ (z : Record). z .set .id) (h .holds) in
+    let can = acceptedReadable bytes link (decodeRecord rec .set .n) (decodeRecord rec .set .id) x low read .1 in
+    subst (λ (k : ℕ). Readable k (r .set .id) x) n-is (subst (λ (k : ℕ). Readable (decodeRecord rec .set .n) k x) id-is can)
 
 -- A call whose numbers have their widths feeds the call on contents.
 pub fedSaid : (rec : List ℕ) (b : Option Record) (a : Call) → Held rec b → InWidth a → Fed b (said rec a)
-fedSaid rec b (start n f id class plan) h low = low
+fedSaid rec b (start set plan) h low = low
 fedSaid rec none (frame link bytes) h low = tt
-fedSaid rec (some r) (frame link bytes) h low = readSaid rec r link bytes h low (readFrame bytes link (decodeRecord rec .n) (decodeRecord rec .id)) refl
+fedSaid rec (some r) (frame link bytes) h low = readSaid rec r link bytes h low (readFrame bytes link (decodeRecord rec .set .n) (decodeRecord rec .set .id)) refl
 fedSaid rec none (timer view) h low = tt
 fedSaid rec (some r) (timer view) h low = tt
 

@@ -11,6 +11,7 @@ use mathlib.Core.Option.{Option, none, some}
 use native.Mathlib.Omega.{arith}
 use lib.Dec.{eqb}
 use borrow.Author.Tests.{eqb-true}
+use Rattle.quorum.specs.Sets.{Vaults}
 use Rattle.agreement.proofs.Reports.{none≢some}
 use Rattle.frame.specs.declared.Frame.{Frame}
 use Rattle.frame.specs.declared.Reading.{Reading}
@@ -26,6 +27,7 @@ use Rattle.sound.specs.declared.Lent.the-variants.{Unsound}
 use Rattle.sound.specs.Sound.{lentIs}
 use Rattle.protocol.specs.Record.{Record, put}
 use Rattle.settings.specs.declared.Settings.{Settings}
+use Rattle.settings.specs.Settings.{vaultsOf}
 use Rattle.protocol.specs.Pass.{Out}
 use Rattle.protocol.specs.Calls as by
 use Rattle.protocol.specs.Calls.{Readable, Answer, refused, accepted, answer}
@@ -77,11 +79,11 @@ startedCases (model.earlier s) = inr s
 
 module _ (c : Setting) where
   abbrev plain : model.Setting
-  plain = record { n = c .n; f = c .f; keeps = c .keeps; most = c .most }
+  plain = record { vaults = c .vaults; keeps = c .keeps; most = c .most }
 
   -- The record of vault i.
   record Own (i : ℕ) (r : Record) : Type 0 where
-    n : r .set .n ≡ c .n
+    vaults : vaultsOf (r .set) ≡ c .vaults
     id : r .set .id ≡ i
     fine : Fine r
 
@@ -104,7 +106,7 @@ module _ (c : Setting) where
     fair : model.Fair plain items i a
     set : Settings
     goes : From (λ r. r .set ≡ set) b a
-    n : set .n ≡ c .n
+    vaults : vaultsOf set ≡ c .vaults
     id : set .id ≡ i
 
   module _ {l : List Item} (v : Carried l) (i : ℕ) where
@@ -129,13 +131,13 @@ module _ (c : Setting) where
     allowed : (a : Call) (b : Option Record) (left : Left) → Held (recordAt c l i) b → ((r : Record) → b ≡ some r → Own i r) → InWidth a → Fair c l i a left → isAccepted left ≡ true
         → (o : Out) → answer b (said (recordAt c l i) a) ≡ accepted o → Allowed (v .items) i b (said (recordAt c l i) a)
     unfolding answer
-    allowed (start n f id class plan) none left h own low fair went o is =
-        let (en, ef, own-id) = fair went in
-        record { fair = λ o e. (en, ef, own-id); set = record { n = n; f = f; id = id; class = class }; goes = refl; n = en; id = own-id }
-    allowed (start n f id class plan) (some r) left h own low fair went o is = never is
+    allowed (start set plan) none left h own low fair went o is =
+        let (same, own-id) = fair went in
+        record { fair = λ o e. (same, own-id); set = set; goes = refl; vaults = same; id = own-id }
+    allowed (start set plan) (some r) left h own low fair went o is = never is
     allowed (frame link bytes) none left h own low fair went o is = never is
     allowed (frame link bytes) (some r) left h own low fair went o is =
-        go (readFrame bytes link (decodeRecord rec .n) (decodeRecord rec .id)) refl (fedSaid rec (some r) (frame link bytes) h low) is
+        go (readFrame bytes link (decodeRecord rec .set .n) (decodeRecord rec .set .id)) refl (fedSaid rec (some r) (frame link bytes) h low) is
       where
         rec : List ℕ
         rec = recordAt c l i
@@ -143,24 +145,24 @@ module _ (c : Setting) where
         its : Own i r
         its = own r refl
 
-        go : (y : Reading) → readFrame bytes link (decodeRecord rec .n) (decodeRecord rec .id) ≡ y → Fed (some r) (by.frame y) → answer (some r) (by.frame y) ≡ accepted o
+        go : (y : Reading) → readFrame bytes link (decodeRecord rec .set .n) (decodeRecord rec .set .id) ≡ y → Fed (some r) (by.frame y) → answer (some r) (by.frame y) ≡ accepted o
             → Allowed (v .items) i (some r) (by.frame y)
         go (Refused k) read fed e = never e
         go (Accepted x) read fed e =
-            let sender = acceptedReadable bytes link (decodeRecord rec .n) (decodeRecord rec .id) x low read .0 in
+            let sender = acceptedReadable bytes link (decodeRecord rec .set .n) (decodeRecord rec .set .id) x low read .0 in
             record {
               fair = (
-                subst (λ (k : ℕ). Readable k i x) (its .n) (subst (λ (k : ℕ). Readable (r .set .n) k x) (its .id) fed),
-                λ keeps. sentSaid link bytes x (passed bytes link (decodeRecord rec .n) (decodeRecord rec .id) x read .said) sender (fair (subst (λ (j : ℕ). c .keeps j ≡ true) sender keeps)),
+                subst (λ (vs : Vaults). Readable (vs .n) i x) (its .vaults) (subst (λ (k : ℕ). Readable (r .set .n) k x) (its .id) fed),
+                λ keeps. sentSaid link bytes x (passed bytes link (decodeRecord rec .set .n) (decodeRecord rec .set .id) x read .said) sender (fair (subst (λ (j : ℕ). c .keeps j ≡ true) sender keeps)),
               );
               set = r .set;
               goes = refl;
-              n = its .n;
+              vaults = its .vaults;
               id = its .id;
             }
     allowed (timer view) none left h own low fair went o is = never is
     allowed (timer view) (some r) left h own low fair went o is =
-        record { fair = tt; set = r .set; goes = refl; n = own r refl .n; id = own r refl .id }
+        record { fair = tt; set = r .set; goes = refl; vaults = own r refl .vaults; id = own r refl .id }
 
   -- ---- one more call
 
@@ -244,7 +246,7 @@ module _ (c : Setting) where
       well = leftWell (recordAt c l i) (x .out) b a (λ r e. v .same i .own r e .fine) (fedSaid (recordAt c l i) b (x .call) held low) o answered
 
       own : Own i (o .left)
-      own = record { n = ap (λ (s : Settings). s .n) stays ∙ ok .n; id = ap (λ (s : Settings). s .id) stays ∙ ok .id; fine = well .fine }
+      own = record { vaults = ap vaultsOf stays ∙ ok .vaults; id = ap (λ (s : Settings). s .id) stays ∙ ok .id; fine = well .fine }
 
       changed : Same i (recordIn left) (some (o .left)) (written l i ++ entriesIn left) (model.written (v .items) i ++ o .wrote)
       changed = record {
@@ -255,7 +257,7 @@ module _ (c : Setting) where
       }
 
       begun : (p : ℕ) (s : Settings) (k : Call) → x .call ≡ k → said (recordAt c l i) k ≡ by.start s p → Started p (x ∷ l)
-      begun p s (start n f id class plan) call e = let its : plan ≡ p = cc in here (call ∙ ap (start n f id class) its) went
+      begun p s (start set plan) call e = let its : plan ≡ p = cc in here (call ∙ ap (start set) its) went
       begun p s (frame link bytes) call e = let z : _≡_ {A = ℕ} 0 1 = cc in absurd (omega arith)
       begun p s (timer view) call e = let z : _≡_ {A = ℕ} 0 1 = cc in absurd (omega arith)
 

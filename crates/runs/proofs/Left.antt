@@ -21,7 +21,7 @@ use Rattle.layout.specs.Layout.{decodeRecord}
 use Rattle.sound.specs.declared.Lent.{Lent}
 use Rattle.sound.specs.declared.Lent.the-variants.{Blank, Unsound, Sound}
 use Rattle.sound.specs.Sound.{lentIs}
-use Rattle.record.specs.declared.Record as slots
+use Rattle.record.specs.Slots as slots
 use Rattle.record.specs.Slots.{previousSlot, slotOf}
 use Rattle.protocol.specs.Record.{Record, reported}
 use Rattle.protocol.specs.Pass.{hasPrevious, Out}
@@ -80,7 +80,7 @@ unsoundCalled k rec out a bad = go (ltb (length out) 256) (lentIs rec) bad
 
 unsoundLeavesWell : (rec out : List ℕ) (a : Call) → lentIs rec ≡ Unsound → LeavesWell rec out (leaves rec a out)
 unfolding startLeft frameLeft timerLeft
-unsoundLeavesWell rec out (start n f id class plan) bad = unsoundCalled 4 rec out (said rec (start n f id class plan)) bad
+unsoundLeavesWell rec out (start set plan) bad = unsoundCalled 4 rec out (said rec (start set plan)) bad
 unsoundLeavesWell rec out (frame link bytes) bad = unsoundCalled 3 rec out (said rec (frame link bytes)) bad
 unsoundLeavesWell rec out (timer view) bad = unsoundCalled 3 rec out (said rec (timer view)) bad
 

@@ -7,34 +7,36 @@ use mathlib.Core.Logic.{_⊎_}
 use mathlib.Core.Bool.{Bool, true, false}
 use mathlib.Core.List.{List, [], _∷_, _++_}
 use lib.ListN.{take}
-use Rattle.quorum.specs.Sets.{Set, equals, size}
+use Rattle.quorum.specs.Sets.{Vaults, Set, size, total}
 use Rattle.wire.specs.Fields.{Bytes}
 use Rattle.frame.specs.declared.Frame.{Frame}
 use Rattle.frame.specs.Format.{encode}
 use Rattle.entry.specs.declared.Entry.{Entry}
 use Rattle.entry.specs.declared.Entry.the-variants.{ForAll, ForOne, Decision}
 use Rattle.entry.specs.Layout.{entriesOf}
+use Rattle.settings.specs.declared.Settings.{Settings}
+use Rattle.settings.specs.Settings.{vaultsOf}
 use Rattle.sound.specs.declared.Lent.the-variants.{Blank}
 use Rattle.sound.specs.Sound.{lentIs}
 use Rattle.protocol.specs.Record.{put}
 use Rattle.protocol.specs.Runs.{_∈_}
 use Rattle.contents.specs.Calls.{Left, wrote, gave, startLeft, frameLeft, timerLeft}
 
--- A start brings n, f, id, class and plan; a frame call a link's sender and bytes; a timer a view.
+-- A start brings settings and a plan; a frame call a link's sender and bytes; a timer a view.
 pub data Call : Type 0 where
-  start : ℕ → ℕ → ℕ → ℕ → ℕ → Call
+  start : Settings → ℕ → Call
   frame : ℕ → List ℕ → Call
   timer : ℕ → Call
 
 -- 'A plan is any 64-bit number', and bytes are below 256. What else a call brings may be any number at all.
 abbrev pub InWidth : Call → Type 0
-InWidth (start n f id class plan) = plan < 2 ^ 64
+InWidth (start set plan) = plan < 2 ^ 64
 InWidth (frame link bytes) = Bytes bytes
 InWidth (timer view) = Unit {0}
 
 -- What a call at a record leaves, down to each byte, 'as this paper fixes': crate contents' definitions.
 abbrev pub leaves : List ℕ → Call → List ℕ → Left
-leaves rec (start n f id class plan) out = startLeft rec n f id class plan out
+leaves rec (start set plan) out = startLeft rec set plan out
 leaves rec (frame link bytes) out = frameLeft rec link bytes out
 leaves rec (timer view) out = timerLeft rec view out
 
@@ -76,12 +78,11 @@ written (x ∷ l) = put (x .at) (written l (x .at) ++ entriesIn (x .left)) (writ
 abbrev pub Sent : List Item → ℕ → ℕ → List ℕ → Type 0
 Sent l i link bytes = (x : Frame) × (bytes ≡ encode x) × ((ForAll x ∈ written l link) ⊎ (ForOne i x ∈ written l link))
 
--- 'A run has an n, an f, a set of at least n - f numbers below n'. 'Record: at first any blank one.'
+-- 'A run has an n, an f, a set of at least n - f numbers below n': the set's vaults weigh what all do, less f. 'Record: at first any blank one.'
 pub record Setting : Type 0 where
-  pub n : ℕ
-  pub f : ℕ
+  pub vaults : Vaults
   pub keeps : Set
-  pub most : n - f ≤ size (equals n f) keeps
+  pub most : total vaults - vaults .f ≤ size vaults keeps
   pub first : ℕ → List ℕ
   pub blank : (i : ℕ) → keeps i ≡ true → lentIs (first i) ≡ Blank
 
@@ -95,7 +96,7 @@ module _ (c : Setting) where
   -- 'Timer: any view, at any place in the list.' 'Frame: a link's sender and bytes. Where the sender keeps the rules, the bytes are a
   -- frame that .. Where the sender is any other number, the bytes are anything.'
   abbrev pub Fair : List Item → ℕ → Call → Left → Type 0
-  Fair l i (start n f id class plan) left = isAccepted left ≡ true → (n ≡ c .n) × (f ≡ c .f) × (id ≡ i)
+  Fair l i (start set plan) left = isAccepted left ≡ true → (vaultsOf set ≡ c .vaults) × (set .id ≡ i)
   Fair l i (frame link bytes) left = c .keeps link ≡ true → Sent l i link bytes
   Fair l i (timer view) left = Unit {0}
 
@@ -112,5 +113,5 @@ Decides l i p = (v : ℕ) × (Decision v p ∈ written l i)
 
 -- 'It was started with the plan of its accepted start': some vault of the list was, with p.
 pub data Started (p : ℕ) : List Item → Type 0 where
-  here : {l : List Item} {x : Item} {n f id class : ℕ} → x .call ≡ start n f id class p → isAccepted (x .left) ≡ true → Started p (x ∷ l)
+  here : {l : List Item} {x : Item} {set : Settings} → x .call ≡ start set p → isAccepted (x .left) ≡ true → Started p (x ∷ l)
   earlier : {l : List Item} {x : Item} → Started p l → Started p (x ∷ l)

@@ -6,13 +6,13 @@
 use mathlib.Core.Path.{_≡_, refl, ap, _∙_}
 use mathlib.Core.List.{List, [], _∷_, _++_, append-assoc, append-nil}
 use Prim.Native.Nat.{ℕ, zero, suc, _+_, _*_, _/_, _%_, _^_, _<_, _≤_}
-use native.Mathlib.Nat.{add-zero, pow-suc, pow-zero, div-add-mod', div-lt-iff-lt-mul, pow-le-pow-right}
+use native.Mathlib.Nat.{add-zero, add-assoc, pow-suc, pow-zero, div-add-mod', div-lt-iff-lt-mul, pow-le-pow-right}
 use native.Mathlib.Numerals.{add-one}
 use native.Mathlib.Omega.{arith}
 use lib.ListN.{length, getD, take, drop, length-append, length-drop}
 use lib.Arith.{digits-div, digits-mod}
 use lib.Seq.{getD-at, take-add, take-suc, drop-drop, getD-drop, take-all}
-use Rattle.wire.specs.Digits.{numberAt, digits}
+use Rattle.wire.specs.Digits.{numberAt, digits, Reversed}
 use Rattle.wire.specs.Fields.{Field, field, spell, widths, total, fieldsAt, Sized, Bytes}
 
 pub length-digits : (w n : ℕ) → length (digits w n) ≡ w
@@ -113,3 +113,32 @@ bytes-digits (suc w) n i = bytes-append (digits w (n / 256)) (n % 256 ∷ []) (b
 pub bytes-spell : (fs : List Field) → Bytes (spell fs)
 bytes-spell [] i = omega arith
 bytes-spell (field w v ∷ fs) i = bytes-append (digits w v) (spell fs) (bytes-digits w v) (bytes-spell fs) i
+
+-- ---- read from the other end
+
+-- four bytes to the base 256
+four : (s : List ℕ) (at : ℕ)
+    → numberAt 4 s at ≡ getD s at 0 * 16777216 + getD s (at + 1) 0 * 65536 + getD s (at + 2) 0 * 256 + getD s (at + 3) 0
+unfolding numberAt
+four s at = rw add-zero (omega arith)
+
+-- four bytes read from the other end and turned round
+pub turned : (x : ℕ) (s : List ℕ) (at : ℕ) → Reversed x s at
+    → x % 256 * 16777216 + x / 256 % 256 * 65536 + x / 65536 % 256 * 256 + x / 16777216 ≡ numberAt 4 s at
+turned x s at h =
+    let a : x % 256 ≡ getD s at 0 = omega arith in
+    let q : x / 256 ≡ getD s (at + 1) 0 + getD s (at + 2) 0 * 256 + getD s (at + 3) 0 * 65536 = omega arith in
+    let b : x / 256 % 256 ≡ getD s (at + 1) 0 = rw q (omega arith) in
+    let r : x / 65536 ≡ getD s (at + 2) 0 + getD s (at + 3) 0 * 256 = omega arith in
+    let c : x / 65536 % 256 ≡ getD s (at + 2) 0 = rw r (omega arith) in
+    let d : x / 16777216 ≡ getD s (at + 3) 0 = omega arith in
+    rw (a, b, c, d) (omega (arith, four s at))
+
+-- eight bytes are four and four
+pub number-halves : (s : List ℕ) (at : ℕ) → numberAt 8 s at ≡ numberAt 4 s at * 4294967296 + numberAt 4 s (at + 4)
+unfolding numberAt
+number-halves s at =
+    omega (arith, at₄ 0, at₄ 1, at₄ 2, at₄ 3)
+  where
+    at₄ : (j : ℕ) → getD s (at + 4 + j) 0 ≡ getD s (at + (4 + j)) 0
+    at₄ j = ap (λ (n : ℕ). getD s n 0) (add-assoc at 4 j)

@@ -1,12 +1,12 @@
 // Big-endian numbers in byte slices: one reader and one writer for every width up to eight bytes.
 ghost use mathlib.Core.Path.{_≡_};
-ghost use Prim.Native.Nat.{_+_, _≤_};
+ghost use Prim.Native.Nat.{_+_, _≤_, _<_};
 ghost use lib.ListN.{length};
-ghost use Rattle.wire.specs.Digits.{numberAt, digits};
+ghost use Rattle.wire.specs.Digits.{numberAt, digits, Reversed};
 ghost use Rattle.wire.specs.Placed.{placed};
 
 fn wide(x: u8) -> u64
-    ensures { λ r. ⌜ r ≡ x ⌝ }
+    ensures { λ r. ⌜ (r ≡ x) × (r < 256) ⌝ }
 {
     x as u64
 }
@@ -25,12 +25,37 @@ pub fn number(s: &[u8], at: usize, width: usize) -> u64
     n
 }
 
-// The same for four bytes, as a number of 32 bits.
+// Four bytes, the first the least significant.
+fn reversed(s: &[u8], at: usize) -> u64
+    requires { ⌜ at + 4 ≤ length (now s) ⌝ }
+    ensures { λ r. ⌜ Reversed r (now (s .entry)) at ⌝ }
+{
+    wide(s[at]) + wide(s[at + 1]) * 256 + wide(s[at + 2]) * 65536 + wide(s[at + 3]) * 16777216
+}
+
+// The number that four bytes spell. Read in the machine's order and then turned round it is one load and one swap, wherever it is used.
 pub fn number32(s: &[u8], at: usize) -> u32
     requires { ⌜ at + 4 ≤ length (now s) ⌝ }
     ensures { λ r. ⌜ r ≡ numberAt 4 (now (s .entry)) at ⌝ }
 {
-    number(s, at, 4) as u32
+    let x = reversed(s, at);
+    (x % 256 * 16777216 + x / 256 % 256 * 65536 + x / 65536 % 256 * 256 + x / 16777216) as u32
+}
+
+fn wider(x: u32) -> u64
+    ensures { λ r. ⌜ (r ≡ x) × (r < 4294967296) ⌝ }
+{
+    x as u64
+}
+
+// The number that eight bytes spell, likewise.
+pub fn number64(s: &[u8], at: usize) -> u64
+    requires { ⌜ at + 8 ≤ length (now s) ⌝ }
+    ensures { λ r. ⌜ r ≡ numberAt 8 (now (s .entry)) at ⌝ }
+{
+    let high = number32(s, at);
+    let low = number32(s, at + 4);
+    wider(high) * 4294967296 + wider(low)
 }
 
 // Writes a number as width bytes at a place; every other byte stays.

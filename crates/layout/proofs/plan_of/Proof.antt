@@ -5,12 +5,12 @@ use borrow.Author.Needs.{needs}
 use Rattle.layout.proofs.plan_of.Statement.{statement}
 use Rattle.layout.proofs.plan_of.Tie as tie
 
-number-requires : tie.Need-number-requires
-number-requires c κs = search needs
+number64-requires : tie.Need-number64-requires
+number64-requires c κs = search needs
 
 returns : tie.Need-returns
 unfolding decodeRecord
-returns c = c .number .ensures
+returns c = c .number64 .ensures
 
 pub plan-of-spec : {M : Type 1} → statement M
-plan-of-spec = tie.close (tie.spec number-requires returns)
+plan-of-spec = tie.close (tie.spec number64-requires returns)

@@ -11,11 +11,11 @@ add-number32 c = search needs
 number32-requires : tie.Need-number32-requires
 number32-requires c κs = search needs
 
-add-number : tie.Need-add-number
-add-number c = search needs
+add-number64 : tie.Need-add-number64
+add-number64 c = search needs
 
-number-requires : tie.Need-number-requires
-number-requires c κs = search needs
+number64-requires : tie.Need-number64-requires
+number64-requires c κs = search needs
 
 shared-slice-read-t7 : tie.Need-shared-slice-read-t7
 shared-slice-read-t7 c = search needs
@@ -24,7 +24,7 @@ returns : tie.Need-returns
 returns c =
     let s = c .before .before .before .before .args in
     let v = c .before .before .number32 .ensures in
-    let p = c .before .number .ensures in
+    let p = c .before .number64 .ensures in
     λ i. record { mark = getD (s .part .now) (s .at) 0; view = v i; plan = p i }
 
 pub slot-at-spec : {M : Type 1} → statement M
@@ -33,7 +33,7 @@ slot-at-spec =
     (tie.spec
     add-number32
     number32-requires
-    add-number
-    number-requires
+    add-number64
+    number64-requires
     shared-slice-read-t7
     returns)

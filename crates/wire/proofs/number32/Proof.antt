@@ -1,23 +1,50 @@
--- `wire::number32` meets its contract. "a view (4 bytes)" (01, Frames).
--- The number is read by `number`, and four digits to the base 256 make a number below 2 ^ 32.
+-- `wire::number32` meets its contract. "a view (4 bytes)" (01, Frames): four bytes read from the other end, and turned round.
 -- Assumes nothing.
-use borrow.Author.Needs.{needs}
 use denote.Ref.{now}
-use native.Mathlib.Omega.{arith}
-use Rattle.wire.proofs.Laws.{number-below}
+use Rattle.wire.proofs.Laws.{turned}
+use borrow.Author.Needs.{needs}
 use Rattle.wire.proofs.number32.Statement.{statement}
 use Rattle.wire.proofs.number32.Tie as tie
 
-number-requires : tie.Need-number-requires
-number-requires c κs = search needs
+reversed-requires : tie.Need-reversed-requires
+reversed-requires c κs = search needs
+
+mul-result : tie.Need-mul-result
+mul-result c = search needs
+
+mul-result-2 : tie.Need-mul-result-2
+mul-result-2 c = search needs
+
+add-result : tie.Need-add-result
+add-result c = search needs
+
+mul-result-3 : tie.Need-mul-result-3
+mul-result-3 c = search needs
+
+add-result-2 : tie.Need-add-result-2
+add-result-2 c = search needs
+
+add-result-3 : tie.Need-add-result-3
+add-result-3 c = search needs
 
 cast-result : tie.Need-cast-result
-cast-result c =
-    let a = c .before .before .args in
-    omega (arith, number-below 4 (now (a .s)) (a .at) (λ i. omega (arith, c .before .shared-slice-known .given i)), c .number .ensures)
+cast-result c = search needs
 
 returns : tie.Need-returns
-returns c = search needs
+returns c =
+    let a = c .before .before .args in
+    turned (c .reversed .result) (now (a .s)) (a .at) (c .reversed .ensures)
 
 pub number32-spec : {M : Type 1} → statement M
-number32-spec = tie.close (tie.spec number-requires cast-result returns)
+number32-spec =
+    tie.close
+    (tie.spec
+    reversed-requires
+    mul-result
+    mul-result-2
+    add-result
+    mul-result-3
+    add-result-2
+    add-result-3
+    cast-result
+    returns)
