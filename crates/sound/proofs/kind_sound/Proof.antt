@@ -22,12 +22,14 @@ frame-slot-requires c κs =
 slots-absent-requires : tie.Need-slots-absent-requires
 slots-absent-requires c κs =
     let s = c .before .before in
-    let from = c .frame-slot .ensures in
-    (record {
-      below = omega (arith, from .1);
-      whole = omega (arith, from .1);
-      part = λ (g : c .frame-slot .result < rows). omega (arith, from .0, g);
-    }, s .pre .3)
+    let from = c .frame-slot .ensures in (
+      record {
+        below = omega (arith, from .1);
+        whole = omega (arith, from .1);
+        part = λ (g : c .frame-slot .result < rows). omega (arith, from .0, g);
+      },
+      s .pre .3,
+    )
 
 no-reports-requires : tie.Need-no-reports-requires
 no-reports-requires c κs = search needs

@@ -32,12 +32,14 @@ slots-absent-requires c κs =
     let s = c .before .before .before in
     let n = s .pre .0 in
     let row = c .before .wide .ensures in
-    let from = c .frame-slot .ensures in
-    (record {
-      below = omega (arith, n, row, from .1);
-      whole = omega (arith, n, row, from .1);
-      part = λ (g : c .frame-slot .result + c .before .wide .result < rows). omega (arith, n, row, from .0, g);
-    }, s .pre .3)
+    let from = c .frame-slot .ensures in (
+      record {
+        below = omega (arith, n, row, from .1);
+        whole = omega (arith, n, row, from .1);
+        part = λ (g : c .frame-slot .result + c .before .wide .result < rows). omega (arith, n, row, from .0, g);
+      },
+      s .pre .3,
+    )
 
 returns : tie.Need-returns
 returns c =
