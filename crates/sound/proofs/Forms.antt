@@ -70,8 +70,14 @@ pub bareRows : (set : Settings) (view : ℕ) (head : Head) → head .kind ≡ 6 
     → frameSound set view (bareFrame head) ≡ not (eqb (head .view) 0)
 unfolding frameSound ahead viewMissing misled
 bareRows set view head k below =
-    simp (lt-ltb (head .sender) (set .n) below, eq-eqb (head .kind) 6 k, ne-eqb (head .kind) 1 (omega arith),
-    ne-eqb (head .kind) 7 (omega arith), inside 6 8 (head .kind) (omega arith) (omega arith), andFalse) (cond13 (eqb (head .view) 0))
+    simp (
+      lt-ltb (head .sender) (set .n) below,
+      eq-eqb (head .kind) 6 k,
+      ne-eqb (head .kind) 1 (omega arith),
+      ne-eqb (head .kind) 7 (omega arith),
+      inside 6 8 (head .kind) (omega arith) (omega arith),
+      andFalse,
+    ) (cond13 (eqb (head .view) 0))
 
 -- ---- reports
 

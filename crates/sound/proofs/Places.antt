@@ -9,13 +9,11 @@ use borrow.Author.Tests.{ltb-true, ltb-false}
 use lib.Dec.{eqb, ltb}
 use lib.ListN.{length, getD, take, drop, length-drop}
 use lib.Seq.{length-take-le}
-use Rattle.wire.specs.Digits.{numberAt}
-use Rattle.frame.specs.declared.Report.{Report}
 use Rattle.frame.specs.Refusal.{absent}
 use Rattle.record.specs.Slots.{rows, slotCount, frameSlot, reportSlot, slotOf, Place}
 use Rattle.layout.specs.Layout.{slotSize, recordSize, place, slotIn, decodeRecord}
 use Rattle.layout.proofs.Bytes.{bytePart}
-use Rattle.layout.proofs.Laws.{placeShared, placeBlock, placeFits, slotThere}
+use Rattle.layout.proofs.Laws.{placeShared, placeBlock, slotThere}
 use Rattle.sound.specs.Sound.{all}
 use Rattle.sound.specs.Bulk.{groupSize, zeroIn, zeroFrom, absentFrom, Run}
 use Rattle.sound.proofs.All.{allSame, allSplit, allPieces, numberZero}

@@ -193,10 +193,7 @@ fn reports_fit(rec: &[u8], kind: u8, sender: u8, view: u32) -> bool
     if !report_fits(rec, at + 2 * GROUP, view) {
         return false;
     }
-    follows(
-        layout::slot_at(rec, at),
-        layout::slot_at(rec, at + GROUP),
-    )
+    follows(layout::slot_at(rec, at), layout::slot_at(rec, at + GROUP))
 }
 
 // A frame in the own row above the current view.
@@ -392,10 +389,7 @@ fn previous_sound(rec: &[u8], id: u8, kind: u8) -> bool
 {
     let at = layout::frame_slot(kind, id);
     let before = layout::previous_slot(kind);
-    previous_stands(
-        layout::slot_of(rec, at),
-        layout::slot_of(rec, before),
-    )
+    previous_stands(layout::slot_of(rec, at), layout::slot_of(rec, before))
 }
 
 // The own previous votes and the decision.

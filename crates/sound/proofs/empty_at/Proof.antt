@@ -24,16 +24,20 @@ returns c =
     let d = c in
     let s = d .before .before .before .before .before in
     let a = s .args in
-    let there = d .before .before .slot-at .ensures ∙ frameThere (a .rec .now) (a .kind) (a .sender) (s .pre .0) (d .before .before .before .frame-place .ensures .0) in
-    sym (empty-frame (slotOf (decodeRecord (a .rec .now))) (a .kind) (a .sender) (off (d .before .empty .ensures ∙ ap absent there) (d .if1 .taken)))
+    let at = d .before .before .before .frame-place .ensures .0 in
+    let there = d .before .before .slot-at .ensures ∙ frameThere (a .rec .now) (a .kind) (a .sender) (s .pre .0) at in
+    let slot = d .before .empty .ensures ∙ ap absent there in
+    sym (empty-frame (slotOf (decodeRecord (a .rec .now))) (a .kind) (a .sender) (off slot (d .if1 .taken)))
 
 returns-2 : tie.Need-returns-2
 returns-2 c =
     let d = c .before in
     let s = d .before .before .before .before .before in
     let a = s .args in
-    let there = d .before .before .slot-at .ensures ∙ frameThere (a .rec .now) (a .kind) (a .sender) (s .pre .0) (d .before .before .before .frame-place .ensures .0) in
-    sym (empty-short (slotOf (decodeRecord (a .rec .now))) (a .kind) (a .sender) (on (d .before .empty .ensures ∙ ap absent there) (d .if1 .left)) (c .if2 .taken))
+    let at = d .before .before .before .frame-place .ensures .0 in
+    let there = d .before .before .slot-at .ensures ∙ frameThere (a .rec .now) (a .kind) (a .sender) (s .pre .0) at in
+    let slot = d .before .empty .ensures ∙ ap absent there in
+    sym (empty-short (slotOf (decodeRecord (a .rec .now))) (a .kind) (a .sender) (on slot (d .if1 .left)) (c .if2 .taken))
 
 reports-absent-requires : tie.Need-reports-absent-requires
 reports-absent-requires c κs = search needs
@@ -43,9 +47,11 @@ returns-3 c =
     let d = c .before .before in
     let s = d .before .before .before .before .before in
     let a = s .args in
-    let there = d .before .before .slot-at .ensures ∙ frameThere (a .rec .now) (a .kind) (a .sender) (s .pre .0) (d .before .before .before .frame-place .ensures .0) in
+    let at = d .before .before .before .frame-place .ensures .0 in
+    let there = d .before .before .slot-at .ensures ∙ frameThere (a .rec .now) (a .kind) (a .sender) (s .pre .0) at in
+    let slot = d .before .empty .ensures ∙ ap absent there in
     c .reports-absent .ensures
-    ∙ sym (empty-reports (slotOf (decodeRecord (a .rec .now))) (a .kind) (a .sender) (on (d .before .empty .ensures ∙ ap absent there) (d .if1 .left)) (c .before .if2 .left))
+    ∙ sym (empty-reports (slotOf (decodeRecord (a .rec .now))) (a .kind) (a .sender) (on slot (d .if1 .left)) (c .before .if2 .left))
 
 pub empty-at-spec : {M : Type 1} → statement M
 empty-at-spec =

@@ -1,7 +1,7 @@
 -- `sound::frame_place` meets its contract: a kind's slots lie end to end.
 -- Assumes nothing.
-use Prim.Native.Nat.{ℕ, _+_, _*_}
-use mathlib.Core.Path.{_≡_, ap, _∙_}
+use Prim.Native.Nat.{_+_, _*_}
+use mathlib.Core.Path.{ap, _∙_}
 use native.Mathlib.Omega.{arith}
 use Rattle.record.specs.Slots.{frameSlot}
 use Rattle.layout.specs.Layout.{slotSize, place}

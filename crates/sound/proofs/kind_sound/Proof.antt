@@ -22,12 +22,14 @@ frame-slot-requires c κs =
 slots-absent-requires : tie.Need-slots-absent-requires
 slots-absent-requires c κs =
     let s = c .before .before in
-    let from = c .frame-slot .ensures in
-    (record {
-      below = omega (arith, from .1);
-      whole = omega (arith, from .1);
-      part = λ (g : c .frame-slot .result < rows). omega (arith, from .0, g);
-    }, s .pre .3)
+    let from = c .frame-slot .ensures in (
+      record {
+        below = omega (arith, from .1);
+        whole = omega (arith, from .1);
+        part = λ (g : c .frame-slot .result < rows). omega (arith, from .0, g);
+      },
+      s .pre .3,
+    )
 
 no-reports-requires : tie.Need-no-reports-requires
 no-reports-requires c κs = search needs
@@ -35,7 +37,8 @@ no-reports-requires c κs = search needs
 returns : tie.Need-returns
 returns c =
     let a = c .before .before .before .before .before .args in
-    let none = c .before .before .slots-absent .ensures ∙ ap (λ (x : ℕ). all (absentFrom (slotOf (decodeRecord (a .rec .now))) x) rows) (c .before .before .before .frame-slot .ensures .0) in
+    let from = c .before .before .before .frame-slot .ensures .0 in
+    let none = c .before .before .slots-absent .ensures ∙ ap (λ (x : ℕ). all (absentFrom (slotOf (decodeRecord (a .rec .now))) x) rows) from in
     c .no-reports .ensures ∙ sym (kindAbsent (slotOf (decodeRecord (a .rec .now))) (a .kind) (a .set) (a .view) (told none (c .before .if1 .taken)))
 
 rest-empty-requires : tie.Need-rest-empty-requires
@@ -54,7 +57,9 @@ returns-3 : tie.Need-returns-3
 returns-3 c =
     let s = c .before .before .before .before .before .before .before in
     let a = s .args in
-    c .places-sound .ensures ∙ sym (kindPlaces (slotOf (decodeRecord (a .rec .now))) (a .set) (a .view) (a .kind) (s .pre .0) (on (c .before .before .rest-empty .ensures) (c .before .if2 .left)))
+    c .places-sound .ensures
+    ∙ sym (kindPlaces (slotOf (decodeRecord (a .rec .now))) (a .set) (a .view) (a .kind) (s .pre .0)
+    (on (c .before .before .rest-empty .ensures) (c .before .if2 .left)))
 
 pub kind-sound-spec : {M : Type 1} → statement M
 kind-sound-spec =

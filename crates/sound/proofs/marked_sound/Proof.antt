@@ -32,18 +32,24 @@ returns-2 c =
     let d = c .before in
     let s = d .before .before .before .before .before in
     let a = s .args in
-    let there = frameThere (a .rec .now) (a .head .kind) (a .head .sender) (s .pre .0) (d .before .frame-place .ensures .0) in
+    let at = d .before .frame-place .ensures .0 in
+    let there = frameThere (a .rec .now) (a .head .kind) (a .head .sender) (s .pre .0) at in
     let plan = d .plan-at .ensures ∙ ap (λ (x : Report). x .plan) there in
-    sym (keptPlanned (slotOf (decodeRecord (a .rec .now))) (a .set) (a .view) (a .head) (s .pre .3) (omega (arith, d .before .before .if1 .left)) (λ e. c .if2 .taken (plan ∙ e)))
+    sym (keptPlanned (slotOf (decodeRecord (a .rec .now))) (a .set) (a .view) (a .head) (s .pre .3)
+    (omega (arith, d .before .before .if1 .left)) (λ e. c .if2 .taken (plan ∙ e)))
 
 returns-3 : tie.Need-returns-3
 returns-3 c =
     let d = c .before .before .before .before in
     let s = d .before .before .before .before .before in
     let a = s .args in
-    let there = frameThere (a .rec .now) (a .head .kind) (a .head .sender) (s .pre .0) (d .before .frame-place .ensures .0) in
+    let at = d .before .frame-place .ensures .0 in
+    let there = frameThere (a .rec .now) (a .head .kind) (a .head .sender) (s .pre .0) at in
     let plan = d .plan-at .ensures ∙ ap (λ (x : Report). x .plan) there in
-    sym (keptBare (slotOf (decodeRecord (a .rec .now))) (a .set) (a .view) (a .head) (s .pre .3) (c .before .if3 .taken) (sym plan ∙ c .before .before .before .if2 .left) ∙ bareRows (a .set) (a .view) (a .head) (c .before .if3 .taken) (s .pre .1))
+    let none = sym plan ∙ c .before .before .before .if2 .left in
+    let six = c .before .if3 .taken in
+    sym (keptBare (slotOf (decodeRecord (a .rec .now))) (a .set) (a .view) (a .head) (s .pre .3) six none
+    ∙ bareRows (a .set) (a .view) (a .head) six (s .pre .1))
 
 told-sound-requires : tie.Need-told-sound-requires
 told-sound-requires c κs = search needs
@@ -53,10 +59,13 @@ returns-4 c =
     let d = c .before .before .before .before in
     let s = d .before .before .before .before .before in
     let a = s .args in
-    let there = frameThere (a .rec .now) (a .head .kind) (a .head .sender) (s .pre .0) (d .before .frame-place .ensures .0) in
+    let at = d .before .frame-place .ensures .0 in
+    let there = frameThere (a .rec .now) (a .head .kind) (a .head .sender) (s .pre .0) at in
     let plan = d .plan-at .ensures ∙ ap (λ (x : Report). x .plan) there in
+    let none = sym plan ∙ c .before .before .before .if2 .left in
     c .told-sound .ensures
-    ∙ sym (keptTold (slotOf (decodeRecord (a .rec .now))) (a .set) (a .view) (a .head) (s .pre .3) (omega (arith, d .before .before .if1 .left, c .before .if3 .left)) (sym plan ∙ c .before .before .before .if2 .left))
+    ∙ sym (keptTold (slotOf (decodeRecord (a .rec .now))) (a .set) (a .view) (a .head) (s .pre .3)
+    (omega (arith, d .before .before .if1 .left, c .before .if3 .left)) none)
 
 pub marked-sound-spec : {M : Type 1} → statement M
 marked-sound-spec =

@@ -29,8 +29,14 @@ slots-absent-requires : tie.Need-slots-absent-requires
 slots-absent-requires c κs =
     let s = c .before .before .before in
     let k = s .pre .1 in
-    let h = c .report-slot .ensures in
-    (record { below = omega (arith, h .2); whole = omega (arith, h .0, k, c .before .if1 .left); part = λ (g : c .report-slot .result < rows). omega (arith, h .1, g) }, s .pre .2)
+    let h = c .report-slot .ensures in (
+      record {
+        below = omega (arith, h .2);
+        whole = omega (arith, h .0, k, c .before .if1 .left);
+        part = λ (g : c .report-slot .result < rows). omega (arith, h .1, g);
+      },
+      s .pre .2,
+    )
 
 returns-2 : tie.Need-returns-2
 returns-2 c =

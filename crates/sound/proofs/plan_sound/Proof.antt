@@ -13,13 +13,16 @@ above-requires c κs = search needs
 returns : tie.Need-returns
 returns c =
     let s = c .before .before in
-    λ plan. sym (planAbove (s .args .set) (s .args .view) (s .args .head) (s .pre .0) (s .pre .1) (s .pre .2) plan (told (c .before .above .ensures) (c .if1 .taken)))
+    let a = s .args in
+    λ plan. sym (planAbove (a .set) (a .view) (a .head) (s .pre .0) (s .pre .1) (s .pre .2) plan (told (c .before .above .ensures) (c .if1 .taken)))
 
 returns-2 : tie.Need-returns-2
 returns-2 c =
     let d = c .before .before in
     let s = d .before .before in
-    λ plan. sym (planVote (s .args .set) (s .args .view) (s .args .head) (s .pre .0) (s .pre .1) (s .pre .2) plan (told (d .before .above .ensures) (d .if1 .left)) (c .if2 .taken))
+    let a = s .args in
+    λ plan. sym (planVote (a .set) (a .view) (a .head) (s .pre .0) (s .pre .1) (s .pre .2) plan (told (d .before .above .ensures) (d .if1 .left))
+    (c .if2 .taken))
 
 cast-result : tie.Need-cast-result
 cast-result c = search needs
@@ -34,7 +37,9 @@ returns-3 : tie.Need-returns-3
 returns-3 c =
     let d = c .before .before .before .before .before in
     let s = d .before .before in
-    λ plan. sym (planProposal (s .args .set) (s .args .view) (s .args .head) (s .pre .0) (s .pre .1) (s .pre .2) plan (told (d .before .above .ensures) (d .if1 .left)) (c .before .before .before .if2 .left))
+    let a = s .args in
+    λ plan. sym (planProposal (a .set) (a .view) (a .head) (s .pre .0) (s .pre .1) (s .pre .2) plan (told (d .before .above .ensures) (d .if1 .left))
+    (c .before .before .before .if2 .left))
 
 pub plan-sound-spec : {M : Type 1} → statement M
 plan-sound-spec =

@@ -1,6 +1,6 @@
 -- `sound::report_place` meets its contract: a kind's reports lie end to end.
 -- Assumes nothing.
-use Prim.Native.Nat.{ℕ, _+_, _*_, _<_}
+use Prim.Native.Nat.{_+_, _*_, _<_}
 use mathlib.Core.Path.{_≡_, ap, _∙_}
 use native.Mathlib.Omega.{arith}
 use Rattle.record.specs.Slots.{slotCount, reportSlot}

@@ -29,7 +29,8 @@ returns c =
     let k = c .before .before .report-place in
     let e₀ : k .result ≡ place (reportSlot (a .kind) 0 (a .sender)) + 0 * groupSize = omega (arith, k .ensures .0) in
     let t₀ = reportThere (a .rec .now) (a .kind) 0 (a .sender) (s .pre .1) (omega arith) e₀ in
-    sym (fitsHighest (a .view) (reportsIn (slotOf (decodeRecord (a .rec .now))) (a .kind) (a .sender)) (off (c .before .report-fits .ensures ∙ ap (reportFits (a .view)) t₀) (c .if1 .taken)))
+    sym (fitsHighest (a .view) (reportsIn (slotOf (decodeRecord (a .rec .now))) (a .kind) (a .sender))
+    (off (c .before .report-fits .ensures ∙ ap (reportFits (a .view)) t₀) (c .if1 .taken)))
 
 add-report-fits : tie.Need-add-report-fits
 add-report-fits c = search needs
@@ -48,7 +49,8 @@ returns-2 c =
     let e₁ : k .result + groupSize ≡ place (reportSlot (a .kind) 0 (a .sender)) + 1 * groupSize = omega (arith, k .ensures .0) in
     let t₁ = reportThere (a .rec .now) (a .kind) 1 (a .sender) (s .pre .1) (omega arith) e₁ in
     sym (fitsPrevious (a .view) (reportsIn (slotOf (decodeRecord (a .rec .now))) (a .kind) (a .sender))
-    (on (d .before .report-fits .ensures ∙ ap (reportFits (a .view)) t₀) (d .if1 .left)) (off (c .before .report-fits2 .ensures ∙ ap (reportFits (a .view)) t₁) (c .if2 .taken)))
+    (on (d .before .report-fits .ensures ∙ ap (reportFits (a .view)) t₀) (d .if1 .left))
+    (off (c .before .report-fits2 .ensures ∙ ap (reportFits (a .view)) t₁) (c .if2 .taken)))
 
 mul-report-fits : tie.Need-mul-report-fits
 mul-report-fits c = search needs
@@ -73,7 +75,8 @@ returns-3 c =
     let e₂ : k .result + 2 * groupSize ≡ place (reportSlot (a .kind) 0 (a .sender)) + 2 * groupSize = omega (arith, k .ensures .0) in
     let t₂ = reportThere (a .rec .now) (a .kind) 2 (a .sender) (s .pre .1) (omega arith) e₂ in
     sym (fitsLock (a .view) (reportsIn (slotOf (decodeRecord (a .rec .now))) (a .kind) (a .sender))
-    (on (d .before .report-fits .ensures ∙ ap (reportFits (a .view)) t₀) (d .if1 .left)) (on (c₂ .before .report-fits2 .ensures ∙ ap (reportFits (a .view)) t₁) (c₂ .if2 .left))
+    (on (d .before .report-fits .ensures ∙ ap (reportFits (a .view)) t₀) (d .if1 .left))
+    (on (c₂ .before .report-fits2 .ensures ∙ ap (reportFits (a .view)) t₁) (c₂ .if2 .left))
     (off (c .before .report-fits3 .ensures ∙ ap (reportFits (a .view)) t₂) (c .if3 .taken)))
 
 slot-at-requires : tie.Need-slot-at-requires
@@ -106,7 +109,8 @@ returns-4 c =
     let p = c .before .slot-at2 .ensures ∙ t₁ in
     c .follows .ensures ∙ (λ i. not (badPrevious (h i) (p i)))
     ∙ sym (fitsAll (a .view) (reportsIn (slotOf (decodeRecord (a .rec .now))) (a .kind) (a .sender))
-    (on (d .before .report-fits .ensures ∙ ap (reportFits (a .view)) t₀) (d .if1 .left)) (on (c₂ .before .report-fits2 .ensures ∙ ap (reportFits (a .view)) t₁) (c₂ .if2 .left))
+    (on (d .before .report-fits .ensures ∙ ap (reportFits (a .view)) t₀) (d .if1 .left))
+    (on (c₂ .before .report-fits2 .ensures ∙ ap (reportFits (a .view)) t₁) (c₂ .if2 .left))
     (on (c₃ .before .report-fits3 .ensures ∙ ap (reportFits (a .view)) t₂) (c₃ .if3 .left)))
 
 pub reports-fit-spec : {M : Type 1} → statement M

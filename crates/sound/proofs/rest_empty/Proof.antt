@@ -1,7 +1,7 @@
 -- `sound::rest_empty` meets its contract: the frames, and the reports where the kind has them.
 -- Assumes nothing.
 use Prim.Native.Nat.{_+_, _-_, _<_}
-use mathlib.Core.Path.{_≡_, sym, _∙_}
+use mathlib.Core.Path.{sym, _∙_}
 use native.Mathlib.Omega.{arith}
 use Rattle.record.specs.Slots.{rows, slotOf}
 use Rattle.layout.specs.Layout.{decodeRecord}
@@ -32,12 +32,14 @@ slots-absent-requires c κs =
     let s = c .before .before .before in
     let n = s .pre .0 in
     let row = c .before .wide .ensures in
-    let from = c .frame-slot .ensures in
-    (record {
-      below = omega (arith, n, row, from .1);
-      whole = omega (arith, n, row, from .1);
-      part = λ (g : c .frame-slot .result + c .before .wide .result < rows). omega (arith, n, row, from .0, g);
-    }, s .pre .3)
+    let from = c .frame-slot .ensures in (
+      record {
+        below = omega (arith, n, row, from .1);
+        whole = omega (arith, n, row, from .1);
+        part = λ (g : c .frame-slot .result + c .before .wide .result < rows). omega (arith, n, row, from .0, g);
+      },
+      s .pre .3,
+    )
 
 returns : tie.Need-returns
 returns c =
@@ -83,10 +85,13 @@ returns-3 c =
     let a = k .before .before .before .args in
     let row = k .before .wide .ensures in
     let from = k .frame-slot .ensures .0 in
-    let e = c .before .before .before .before .slots-absent .ensures ∙ (λ i. all (absentFrom (slotOf (decodeRecord (a .rec .now))) (from i + row i)) (rows - row i)) in
+    let e = c .before .before .before .before .slots-absent .ensures
+    ∙ (λ i. all (absentFrom (slotOf (decodeRecord (a .rec .now))) (from i + row i)) (rows - row i)) in
     let told = c .before .report-slot .ensures .0 in
-    c .told-absent .ensures ∙ (λ i. toldAbsent (slotOf (decodeRecord (a .rec .now))) (told i + row i) (rows - row i))
-    ∙ sym (restTold (slotOf (decodeRecord (a .rec .now))) (a .kind) (a .n) (rows - a .n) (on e (c .before .before .before .if1 .left)) (c .before .before .if2 .left))
+    c .told-absent .ensures
+    ∙ (λ i. toldAbsent (slotOf (decodeRecord (a .rec .now))) (told i + row i) (rows - row i))
+    ∙ sym (restTold (slotOf (decodeRecord (a .rec .now))) (a .kind) (a .n) (rows - a .n)
+    (on e (c .before .before .before .if1 .left)) (c .before .before .if2 .left))
 
 pub rest-empty-spec : {M : Type 1} → statement M
 rest-empty-spec =

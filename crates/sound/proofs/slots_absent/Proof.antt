@@ -1,10 +1,10 @@
 -- `sound::slots_absent` meets its contract: the bytes of the slots are one part of the record.
 -- Assumes nothing.
-use Prim.Native.Nat.{ℕ, _+_, _*_, _-_, _≤_}
-use mathlib.Core.Path.{_≡_, ap, _∙_}
+use Prim.Native.Nat.{ℕ, _+_, _*_, _≤_}
+use mathlib.Core.Path.{ap, _∙_}
 use native.Mathlib.Omega.{arith}
 use lib.ListN.{length}
-use Rattle.layout.specs.Layout.{slotSize, place}
+use Rattle.layout.specs.Layout.{slotSize}
 use Rattle.sound.specs.Sound.{all}
 use Rattle.sound.specs.Bulk.{zeroFrom}
 use Rattle.sound.proofs.Places.{runAbsent, runFits, zeroPart}

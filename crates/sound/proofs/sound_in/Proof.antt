@@ -29,7 +29,8 @@ returns-2 : tie.Need-returns-2
 returns-2 c =
     let d = c .before .before in
     let a = d .before .before .before .args in
-    sym (sound-rows (slotOf (decodeRecord (a .rec .now))) (a .set) (a .view) (told (d .before .settings-refusal .ensures) (d .if1 .left)) (off (c .before .rows-sound .ensures) (c .if2 .taken)))
+    sym (sound-rows (slotOf (decodeRecord (a .rec .now))) (a .set) (a .view) (told (d .before .settings-refusal .ensures) (d .if1 .left))
+    (off (c .before .rows-sound .ensures) (c .if2 .taken)))
 
 votes-sound-requires : tie.Need-votes-sound-requires
 votes-sound-requires c κs =
@@ -43,7 +44,8 @@ returns-3 c =
     let d = c .before .before .before in
     let a = d .before .before .before .args in
     c .votes-sound .ensures
-    ∙ sym (sound-votes (slotOf (decodeRecord (a .rec .now))) (a .set) (a .view) (told (d .before .settings-refusal .ensures) (d .if1 .left)) (on (c .before .before .rows-sound .ensures) (c .before .if2 .left)))
+    ∙ sym (sound-votes (slotOf (decodeRecord (a .rec .now))) (a .set) (a .view) (told (d .before .settings-refusal .ensures) (d .if1 .left))
+    (on (c .before .before .rows-sound .ensures) (c .before .if2 .left)))
 
 pub sound-in-spec : {M : Type 1} → statement M
 sound-in-spec =

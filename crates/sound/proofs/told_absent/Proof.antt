@@ -37,7 +37,8 @@ returns-2 : tie.Need-returns-2
 returns-2 c =
     let d = c .before .before in
     let a = d .before .before .before .args in
-    sym (toldSecond (slotOf (decodeRecord (a .rec .now))) (a .from) (a .count) (on (d .before .slots-absent .ensures) (d .if1 .left)) (off (c .before .slots-absent2 .ensures) (c .if2 .taken)))
+    sym (toldSecond (slotOf (decodeRecord (a .rec .now))) (a .from) (a .count) (on (d .before .slots-absent .ensures) (d .if1 .left))
+    (off (c .before .slots-absent2 .ensures) (c .if2 .taken)))
 
 mul-slots-absent : tie.Need-mul-slots-absent
 mul-slots-absent c = search needs
@@ -57,7 +58,8 @@ returns-3 c =
     let d = c .before .before .before in
     let a = d .before .before .before .args in
     c .slots-absent3 .ensures
-    ∙ sym (toldThird (slotOf (decodeRecord (a .rec .now))) (a .from) (a .count) (on (d .before .slots-absent .ensures) (d .if1 .left)) (on (c .before .before .slots-absent2 .ensures) (c .before .if2 .left)))
+    ∙ sym (toldThird (slotOf (decodeRecord (a .rec .now))) (a .from) (a .count) (on (d .before .slots-absent .ensures) (d .if1 .left))
+    (on (c .before .before .slots-absent2 .ensures) (c .before .if2 .left)))
 
 pub told-absent-spec : {M : Type 1} → statement M
 told-absent-spec =
