@@ -27,10 +27,10 @@ struct Seen {
 
 impl Seen {
     /// Makes the call at both. The record becomes the one that it leaves.
-    fn call(&mut self, rec: &mut Vec<u8>, call: &Call) -> Result<usize, u8> {
+    fn call(&mut self, rec: &mut [u8], call: &Call) -> Result<usize, u8> {
         let space = if self.rng.one_in(50) { self.rng.below(400) } else { 256 + 60 * self.rng.below(3) } as usize;
         let filler = self.rng.next() as u8;
-        let (mut theirs, mut their_out, mut out) = (rec.clone(), vec![filler; space], vec![filler; space]);
+        let (mut theirs, mut their_out, mut out) = (rec.to_vec(), vec![filler; space], vec![filler; space]);
         let answer = call.on::<Rattle>(&mut theirs, &mut their_out);
         let n = usize::from(rec.first().copied().unwrap_or(0)).min(64);
         assert_eq!(call.on::<InPlace>(rec, &mut out), answer, "call {}", self.calls);
@@ -62,7 +62,7 @@ impl Seen {
         }
     }
 
-    fn frame(&mut self, rec: &mut Vec<u8>, kind: u8, sender: u8, view: u32, plan: u64) {
+    fn frame(&mut self, rec: &mut [u8], kind: u8, sender: u8, view: u32, plan: u64) {
         let (n, id) = if rec.len() > 4 { (rec[0].max(1), rec[2]) } else { (4, 0) };
         let mut bytes = random::frame(&mut self.rng, n, id, kind, sender, view, plan);
         if self.rng.one_in(100) && bytes.len() > 1 {
@@ -72,7 +72,7 @@ impl Seen {
     }
 
     /// One frame from many senders: the leader's plan or another, a view that comes soon or that this vault leads.
-    fn frames(&mut self, rec: &mut Vec<u8>) {
+    fn frames(&mut self, rec: &mut [u8]) {
         let (n, id, view) = known(rec);
         let rng = &mut self.rng;
         let kind = rng.pick(&[1, 2, 2, 3, 3, 4, 4, 5, 5, 6, 6, 7, 7, 8, 8]);
@@ -93,7 +93,7 @@ impl Seen {
         }
     }
 
-    fn any_frame(&mut self, rec: &mut Vec<u8>) {
+    fn any_frame(&mut self, rec: &mut [u8]) {
         let (n, _, view) = known(rec);
         let rng = &mut self.rng;
         let kind = if rng.one_in(60) { rng.next() as u8 } else { 1 + rng.below(8) as u8 };
@@ -109,7 +109,7 @@ impl Seen {
     }
 
     /// A call of any kind.
-    fn any(&mut self, rec: &mut Vec<u8>) {
+    fn any(&mut self, rec: &mut [u8]) {
         match self.rng.below(11) {
             0 => {
                 let call = any_start(&mut self.rng);

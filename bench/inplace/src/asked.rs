@@ -36,7 +36,7 @@ impl Asked {
         // One of the first askers is met for every view that has so many.
         for i in 0..(self.count + 1).saturating_sub(need) {
             let w = self.views[i & 63];
-            if w > best && (i == 0 || self.views[i - 1 & 63] != w) && self.times(w) >= need {
+            if w > best && (i == 0 || self.views[(i - 1) & 63] != w) && self.times(w) >= need {
                 best = w;
             }
         }
