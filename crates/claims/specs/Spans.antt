@@ -1,6 +1,5 @@
 -- The search for the lowest view that fewer than f + 1 vaults cover, over their spans: how many views, from 0 on, each covers.
--- In the search over locks a vault covers, or claims, the views above which it has a lock.
--- Assumes nothing.
+-- A vault covers the views above which it has a lock, and all where it has not reported. Assumes nothing.
 use Prim.Native.Nat.{ℕ, zero, suc, _≤_, _<_, max}
 use mathlib.Core.Path.{_≡_}
 use mathlib.Core.Bool.{Bool, cond}
@@ -11,16 +10,16 @@ use Rattle.quorum.specs.Sets.{equals, isBlocking, Set}
 use Rattle.rules.specs.Views.{views}
 
 -- Those of whose spans view u is one.
-abbrev pub claimers : List ℕ → ℕ → Set
-claimers spans u i = ltb u (getD spans i 0)
+abbrev pub covering : List ℕ → ℕ → Set
+covering spans u i = ltb u (getD spans i 0)
 
--- They are a blocking set, f + 1 or more of n.
-unfoldable pub reaches : List ℕ → ℕ → ℕ → ℕ → Bool
-reaches spans n f u = isBlocking (equals n f) (claimers spans u)
+-- They are f + 1 or more of n: no quorum is without a lock above u.
+unfoldable pub covered : List ℕ → ℕ → ℕ → ℕ → Bool
+covered spans n f u = isBlocking (equals n f) (covering spans u)
 
 -- In how many views below v they are.
-unfoldable pub reached : List ℕ → ℕ → ℕ → ℕ → ℕ
-reached spans n f v = views (reaches spans n f) v
+unfoldable pub coveredViews : List ℕ → ℕ → ℕ → ℕ → ℕ
+coveredViews spans n f v = views (covered spans n f) v
 
 -- The highest of the first k spans that is not above w, 0 where there is none: the next candidate view is its last.
 unfoldable pub highestTo : List ℕ → ℕ → ℕ → ℕ

@@ -1,15 +1,46 @@
-// Claims: whether a blocking set of reporters claims a plan at a view (document 01, 'When a plan is safe').
-// And the search over candidate views, by spans: how many views, from 0 on, each vault covers.
-ghost use Prim.Native.Nat.{_+_, _-_, _≤_, _<_, max};
+// Claims: who claims which plan at a view (document 01, 'When a plan is safe'), from a lent table of reports, prepared in rows of plans.
+// A plan's search goes down the candidate views and ends at the first one that serves the plan. The lock search goes by spans.
+ghost use Prim.Native.Nat.{_+_, _-_, _*_, _≤_, _<_, max};
 ghost use mathlib.Core.Path.{_≡_};
 ghost use mathlib.Core.Bool.{cond};
-ghost use lib.Dec.{leb, ltb};
-ghost use lib.ListN.{length};
-ghost use Rattle.quorum.specs.Sets.{equals};
-ghost use Rattle.rules.specs.Rules.{viewOf, viewFor, reach, claims, reporting};
-ghost use Rattle.rules.specs.Counts.{claimed};
-ghost use Rattle.claims.specs.Layout.{voteOf, reportAt, reporter, reportsIn, Laid};
-ghost use Rattle.claims.specs.Spans.{reached, highestTo, Within};
+ghost use lib.Dec.{leb, ltb, eqb};
+ghost use lib.ListN.{length, getD};
+ghost use Rattle.rules.specs.Rules.{claims, reporting};
+ghost use Rattle.claims.specs.Rows.{rowsSize, Fits, Stance, Tells, SameBelow, tallyAt, placeAt, claimedIn, endOf, servingView};
+ghost use Rattle.claims.specs.Spans.{coveredViews, highestTo, Within};
+ghost use Rattle.claims.specs.Table.{column, tableSize, reporter, reportsIn};
+
+// The places of a column, one for each vault.
+pub const COLUMN: usize = 64;
+
+// Where the columns begin of the highest vote's view + 1 and plan, of the previous vote's view + 1, and of the lock's view + 1 and plan.
+const HIGHEST: usize = 64;
+
+const VOTED: usize = 128;
+
+const PREVIOUS: usize = 192;
+
+pub const LOCK: usize = 320;
+
+pub const LOCKED: usize = 384;
+
+// How many are for every plan, and how many others for one plan only, which stands in a row of plans.
+pub struct Tally {
+    pub every: usize,
+    pub some: usize,
+}
+
+// What a search goes by: n and f, the view v, the lowest view u that can serve a plan; who claims at view u and at the next view, and
+// whom the locks let be at view u.
+pub struct Search {
+    pub n: usize,
+    pub f: usize,
+    pub u: u32,
+    pub v: u32,
+    pub here: Tally,
+    pub next: Tally,
+    pub locks: Tally,
+}
 
 // 'A blocking set [is] f + 1 or more vaults'.
 pub fn is_blocking(count: usize, f: usize) -> bool
@@ -18,108 +49,162 @@ pub fn is_blocking(count: usize, f: usize) -> bool
     f < count
 }
 
+// 'A quorum is n - f or more vaults'.
+pub fn is_quorum(count: usize, n: usize, f: usize) -> bool
+    requires { ⌜ f < n ⌝ }
+    ensures { λ b. ⌜ b ≡ leb (n - f) count ⌝ }
+{
+    n - f <= count
+}
+
 pub fn larger(a: u32, b: u32) -> u32
     ensures { λ r. ⌜ r ≡ max a b ⌝ }
 {
     if a < b { b } else { a }
 }
 
-// The view of a vote that is there, 0 of one that is not. The plan does not matter.
-pub fn view_of(mark: u8, view: u32) -> u32
-    ensures { λ r. ⌜ r ≡ viewOf (voteOf mark view 0) ⌝ }
+fn wide(x: u32) -> usize
+    ensures { λ r. ⌜ r ≡ x ⌝ }
 {
-    if mark == 0 {
-        return 0;
-    }
-    view
+    x as usize
 }
 
-// The same for a vote that is for plan p.
-fn view_for(mark: u8, view: u32, plan: u64, p: u64) -> u32
-    ensures { λ r. ⌜ r ≡ viewFor p (voteOf mark view plan) ⌝ }
+pub fn long(x: u32) -> u64
+    ensures { λ r. ⌜ r ≡ x ⌝ }
 {
-    if mark == 0 {
-        return 0;
-    }
-    if plan == p {
-        return view;
-    }
-    0
+    x as u64
 }
 
-// Whether vault r has reported: its frame is kept and of view v.
-pub fn reported<'a>(kept: &'a [u8], at: &'a [u32], r: usize, v: u32) -> bool
-    requires { ⌜ (r < length (now kept)) × (r < length (now at)) ⌝ }
-    ensures { λ b. ⌜ b ≡ reporter (now (kept .entry)) (now (at .entry)) v r ⌝ }
+// Whether vault r has reported.
+pub fn reported<'a>(table: &'a [u64], r: usize) -> bool
+    requires { ⌜ (length (now table) ≡ tableSize) × (r < column) ⌝ }
+    ensures { λ b. ⌜ b ≡ reporter (now (table .entry)) r ⌝ }
 {
-    if kept[r] == 0 {
-        return false;
+    table[r] != 0
+}
+
+// ---- rows of claims
+
+// Whether a vote is at view w or later, given its view + 1. At view 0 none is needed.
+fn is_at(above: u64, w: u64) -> bool
+    ensures { λ b. ⌜ b ≡ leb w (above - 1) ⌝ }
+{
+    if w == 0 {
+        return true;
     }
-    at[r] == v
+    w < above
 }
 
-// The highest view at which the report of vault r claims p.
-fn reach_of<'a>(marks: &'a [u8], views: &'a [u32], plans: &'a [u64], r: usize, p: u64) -> u32
-    requires { ⌜ (length (now marks) ≡ 192) × (length (now views) ≡ 192) × (length (now plans) ≡ 192) × (r < 64) ⌝ }
-    ensures { λ u. ⌜ u ≡ reach (reportAt (now (marks .entry)) (now (views .entry)) (now (plans .entry)) r) p ⌝ }
+// Rules 2 and 4: which plans vault r claims at view w. Its previous vote claims every plan, its highest vote its own.
+fn claim_share<'a>(table: &'a [u64], r: usize, w: u64) -> Tally
+    requires { ⌜ (length (now table) ≡ tableSize) × (r < column) ⌝ }
+    ensures { λ t. ⌜ Stance (λ p. reporting (reportsIn (now (table .entry))) (claims p w) r) (getD (now (table .entry)) (column * 2 + r) 0) (t .every) (t .some) ⌝ }
 {
-    let s = 64 + r;
-    let high = view_for(marks[r], views[r], plans[r], p);
-    let low = view_of(marks[s], views[s]);
-    larger(high, low)
-}
-
-// What vault r adds to the claimers of p at view u.
-fn claimer_share<'a>(
-    kept: &'a [u8],
-    at: &'a [u32],
-    marks: &'a [u8],
-    views: &'a [u32],
-    plans: &'a [u64],
-    r: usize,
-    v: u32,
-    p: u64,
-    u: u32,
-) -> usize
-    requires { ⌜ Laid (now kept) (now at) (now marks) (now views) (now plans) × (r < 64) ⌝ }
-    ensures { λ c. ⌜ c ≡ cond (reporting (reportsIn (now (kept .entry)) (now (at .entry)) (now (marks .entry)) (now (views .entry)) (now (plans .entry)) v) (claims p u) r) 1 0 ⌝ }
-{
-    if reported(kept, at, r, v) {
-        if u <= reach_of(marks, views, plans, r, p) {
-            return 1;
+    if reported(table, r) {
+        if is_at(table[PREVIOUS + r], w) {
+            return Tally { every: 1, some: 0 };
         }
-        return 0;
+        if is_at(table[HIGHEST + r], w) {
+            return Tally { every: 0, some: 1 };
+        }
+        return Tally { every: 0, some: 0 };
     }
-    0
+    Tally { every: 0, some: 0 }
 }
 
-// Whether a blocking set of reporters claims p at view u.
-pub fn claimed<'a>(
-    kept: &'a [u8],
-    at: &'a [u32],
-    marks: &'a [u8],
-    views: &'a [u32],
-    plans: &'a [u64],
-    n: usize,
-    f: usize,
-    v: u32,
-    p: u64,
-    u: u32,
-) -> bool
-    requires { ⌜ Laid (now kept) (now at) (now marks) (now views) (now plans) × (n ≤ 64) ⌝ }
-    ensures { λ b. ⌜ b ≡ claimed (equals n f) (reportsIn (now (kept .entry)) (now (at .entry)) (now (marks .entry)) (now (views .entry)) (now (plans .entry)) v) p u ⌝ }
+// Who claims which plan at view w: the row of plans is written from place at on. A plan that does not count is written over.
+pub fn claims_at<'a>(table: &'a [u64], n: usize, w: u32, plans: &mut [u64], at: usize) -> Tally
+    requires { ⌜ (length (now table) ≡ tableSize) × (n ≤ column) × (length (now plans) ≡ rowsSize) × (at + column ≤ rowsSize) ⌝ }
+    ensures { λ t. ⌜ (length (now (plans .exit)) ≡ rowsSize) × SameBelow (now (plans .entry)) (now (plans .exit)) at × Tells (reportsIn (now (table .entry))) n (λ p. claims p w) (now (plans .exit)) at t ⌝ }
 {
-    let mut count: usize = 0;
+    let view = long(w);
+    let mut every: usize = 0;
+    let mut some: usize = 0;
     let mut r: usize = 0;
     while r < n {
-        count += claimer_share(kept, at, marks, views, plans, r, v, p, u);
+        let share = claim_share(table, r, view);
+        plans[at + some] = table[VOTED + r];
+        every += share.every;
+        some += share.some;
         r += 1;
-        if is_blocking(count, f) {
-            return true;
-        }
     }
-    false
+    Tally {
+        every: every,
+        some: some,
+    }
 }
+
+// ---- the search over candidate views
+
+// The candidate views are u, and the next view where that is below v.
+fn end_of(c: Search) -> u32
+    requires { ⌜ c .u < c .v ⌝ }
+    ensures { λ r. ⌜ r ≡ endOf c ⌝ }
+{
+    if c.u + 1 < c.v {
+        return c.u + 2;
+    }
+    c.v
+}
+
+// The tally of a candidate view, and where its row begins.
+fn tally_at(c: Search, w: u32) -> Tally
+    ensures { λ t. ⌜ t ≡ tallyAt c w ⌝ }
+{
+    if w == c.u {
+        return c.here;
+    }
+    c.next
+}
+
+fn place_at(c: Search, w: u32) -> usize
+    ensures { λ r. ⌜ r ≡ placeAt c w ⌝ }
+{
+    if w == c.u {
+        return 0;
+    }
+    COLUMN
+}
+
+fn same(x: u64, p: u64) -> usize
+    ensures { λ c. ⌜ c ≡ cond (eqb x p) 1 0 ⌝ }
+{
+    if x == p { 1 } else { 0 }
+}
+
+// The search over candidate views, downwards and not below low: the first view at which a blocking set of reporters claims plan p,
+// v where there is none. The count is new for every plan and view.
+pub fn serving_view<'a>(plans: &'a [u64], c: Search, low: u32, p: u64) -> u32
+    requires { ⌜ (length (now plans) ≡ rowsSize) × (c .u < c .v) × Fits (c .here) × Fits (c .next) ⌝ }
+    ensures { λ w. ⌜ w ≡ servingView (claimedIn (now (plans .entry)) c p) low (c .v) (endOf c) ⌝ }
+{
+    let mut end = end_of(c);
+    let serving: u32 = 'views: loop {
+        if end <= low {
+            break 'views c.v;
+        }
+        let w = end - 1;
+        let row = place_at(c, w);
+        let tally = tally_at(c, w);
+        let some = tally.some;
+        let mut claimers = tally.every;
+        let mut r: usize = 0;
+        'reporters: loop {
+            if r == some {
+                if is_blocking(claimers, c.f) {
+                    break 'views w;
+                }
+                break 'reporters;
+            }
+            claimers += same(plans[row + r], p);
+            r += 1;
+        }
+        end = w;
+    };
+    serving
+}
+
+// ---- the search over locks
 
 // A span that is not above w, 0 for one that is.
 fn span_to(t: u32, w: u32) -> u32
@@ -130,7 +215,7 @@ fn span_to(t: u32, w: u32) -> u32
 
 // The highest span that is not above w.
 fn highest_to<'a>(spans: &'a [u32], n: usize, w: u32) -> u32
-    requires { ⌜ (n ≤ 64) × (length (now spans) ≡ 64) ⌝ }
+    requires { ⌜ (n ≤ column) × (length (now spans) ≡ column) ⌝ }
     ensures { λ t. ⌜ t ≡ highestTo (now (spans .entry)) w n ⌝ }
 {
     let mut best: u32 = 0;
@@ -142,39 +227,39 @@ fn highest_to<'a>(spans: &'a [u32], n: usize, w: u32) -> u32
     best
 }
 
-// What a reporter adds to the claimers at view w.
-fn claim_share(t: u32, w: u32) -> usize
+// What a vault adds to those that have a lock above view w.
+fn lock_share(t: u32, w: u32) -> u32
     ensures { λ c. ⌜ c ≡ cond (ltb w t) 1 0 ⌝ }
 {
     if w < t { 1 } else { 0 }
 }
 
-// The search over candidate views, downwards: the lowest view that fewer than f + 1 of the spans cover.
+// The lowest view that fewer than f + 1 of the spans cover, downwards from v: some quorum has no lock above it.
 // Between two ends of spans the same spans cover a view, so the candidates are the ends.
-pub fn serving_view<'a>(spans: &'a [u32], n: usize, f: usize, v: u32) -> u32
-    requires { ⌜ (n ≤ 64) × (length (now spans) ≡ 64) × Within (now spans) n v ⌝ }
-    ensures { λ t. ⌜ t ≡ reached (now (spans .entry)) n f v ⌝ }
+pub fn lowest_cleared<'a>(spans: &'a [u32], n: usize, f: usize, v: u32) -> u32
+    requires { ⌜ (n ≤ column) × (length (now spans) ≡ column) × Within (now spans) n v ⌝ }
+    ensures { λ t. ⌜ t ≡ coveredViews (now (spans .entry)) n f v ⌝ }
 {
     let mut last: u32 = v;
-    let serving: u32 = 'views: loop {
+    let cleared: u32 = 'views: loop {
         let t = highest_to(spans, n, last);
         if t == 0 {
             break 'views 0;
         }
         let w = t - 1;
-        let mut claim: usize = 0;
+        let mut locks: u32 = 0;
         let mut r: usize = 0;
         'reporters: loop {
             if r == n {
+                if is_blocking(wide(locks), f) {
+                    break 'views t;
+                }
                 break 'reporters;
             }
-            claim += claim_share(spans[r], w);
+            locks += lock_share(spans[r], w);
             r += 1;
-            if is_blocking(claim, f) {
-                break 'views t;
-            }
         }
         last = w;
     };
-    serving
+    cleared
 }

@@ -1,15 +1,77 @@
 -- `claims::claim_share` meets its contract.
--- What a reporter adds to the claimers at view w is 1 exactly if w is one of the views of its span.
+-- The previous vote claims every plan (`claimsEvery`), else the highest vote its own (`claimsOne`).
 -- Assumes nothing.
-use borrow.Author.Tests.{lt-ltb, le-ltb}
+use mathlib.Core.Path.{refl, sym, _∙_}
+use borrow.Author.Needs.{needs}
+use Rattle.claims.proofs.Rows.{claimsEvery, claimsOne, claimsNone, silent}
+use Rattle.claims.specs.Rows.{forAll, forOne, forNone}
+use Rattle.rules.specs.Rules.{claims}
 use Rattle.claims.proofs.claim_share.Statement.{statement}
 use Rattle.claims.proofs.claim_share.Tie as tie
 
+reported-requires : tie.Need-reported-requires
+reported-requires c κs = search needs
+
+add-is-at : tie.Need-add-is-at
+add-is-at c = search needs
+
+mul-is-at : tie.Need-mul-is-at
+mul-is-at c = search needs
+
+shared-slice-read-is-at : tie.Need-shared-slice-read-is-at
+shared-slice-read-is-at c = search needs
+
+is-at-requires : tie.Need-is-at-requires
+is-at-requires c κs = search needs
+
 returns : tie.Need-returns
-returns c = simp (lt-ltb _ _ (c .if1 .taken))
+returns c =
+    let a = c .before .before .before .before .before .before .args in
+    forAll refl refl (claimsEvery (a .table .now) (a .r) (a .w) (sym (c .before .before .before .before .reported .ensures) ∙ c .before .before .before .if1 .taken) (sym (c .before .is-at .ensures) ∙ c .if2 .taken))
+
+add-is-at-2 : tie.Need-add-is-at-2
+add-is-at-2 c = search needs
+
+mul-is-at-2 : tie.Need-mul-is-at-2
+mul-is-at-2 c = search needs
+
+shared-slice-read-is-at-2 : tie.Need-shared-slice-read-is-at-2
+shared-slice-read-is-at-2 c = search needs
+
+is-at-requires-2 : tie.Need-is-at-requires-2
+is-at-requires-2 c κs = search needs
 
 returns-2 : tie.Need-returns-2
-returns-2 c = simp (le-ltb _ _ (c .if1 .left))
+returns-2 c =
+    let a = c .before .before .before .before .before .before .before .before .before .args in
+    forOne refl refl (claimsOne (a .table .now) (a .r) (a .w) (sym (c .before .before .before .before .before .before .before .reported .ensures) ∙ c .before .before .before .before .before .before .if1 .taken)
+    (sym (c .before .before .before .before .is-at .ensures) ∙ c .before .before .before .if2 .left) (sym (c .before .is-at2 .ensures) ∙ c .if3 .taken))
+
+returns-3 : tie.Need-returns-3
+returns-3 c =
+    let a = c .before .before .before .before .before .before .before .before .before .args in
+    forNone refl refl (claimsNone (a .table .now) (a .r) (a .w) (sym (c .before .before .before .before .before .before .before .reported .ensures) ∙ c .before .before .before .before .before .before .if1 .taken)
+    (sym (c .before .before .before .before .is-at .ensures) ∙ c .before .before .before .if2 .left) (sym (c .before .is-at2 .ensures) ∙ c .if3 .left))
+
+returns-4 : tie.Need-returns-4
+returns-4 c =
+    let a = c .before .before .before .args in
+    forNone refl refl (λ p. silent (a .table .now) (a .r) (claims p (a .w)) (sym (c .before .reported .ensures) ∙ c .if1 .left))
 
 pub claim-share-spec : {M : Type 1} → statement M
-claim-share-spec = tie.close (tie.spec returns returns-2)
+claim-share-spec =
+    tie.close
+    (tie.spec
+    reported-requires
+    add-is-at
+    mul-is-at
+    shared-slice-read-is-at
+    is-at-requires
+    returns
+    add-is-at-2
+    mul-is-at-2
+    shared-slice-read-is-at-2
+    is-at-requires-2
+    returns-2
+    returns-3
+    returns-4)

@@ -5,7 +5,7 @@ use Prim.Native.Nat.{_≤_, _-_}
 use mathlib.Core.Path.{_≡_, sym, _∙_, ap}
 use native.Mathlib.Omega.{arith}
 use borrow.Author.Needs.{needs}
-use Rattle.claims.proofs.Laws.{highestMore, highestNone}
+use Rattle.claims.proofs.Spans.{highestMore, highestNone}
 use Rattle.claims.specs.Spans.{highestTo}
 use Rattle.claims.proofs.highest_to.Statement.{statement}
 use Rattle.claims.proofs.highest_to.Tie as tie

@@ -1,66 +1,101 @@
 -- `claims::serving_view` meets its contract.
--- The search over candidate views. Outer invariant: too few claim at the last view tried. Inner invariant: the count is that of the
--- claimers among the first r, and is at most f. A candidate that f + 1 claim is the highest view with enough (`searchFound`);
--- without a candidate left no view has enough (`searchNone`).
+-- The search over candidate views. Outer invariant: no view tried so far serves. Inner invariant: the count is that of the claimers
+-- among those that are for every plan and the first r of the row. A view that f + 1 claim serves (`walkFound`); else the next is tried.
 -- Assumes nothing.
 use Prim.Native.Nat.{_+_, _-_, _≤_}
-use mathlib.Core.Path.{_≡_, sym, _∙_, ap}
+use mathlib.Core.Path.{_≡_, refl, sym, _∙_, ap}
 use native.Mathlib.Omega.{arith}
 use borrow.Author.Needs.{needs}
-use borrow.Author.Tests.{leb-true, leb-false}
-use Rattle.claims.proofs.Laws.{claiming, highestLow, nobodyAt, searchFound, searchNone}
-use Rattle.claims.specs.Spans.{claimers}
-use Rattle.quorum.proofs.Laws.{weighNone, weighStep, weighPrefix, shareMost}
-use Rattle.quorum.specs.Sets.{weigh}
+use lib.Dec.{eqb}
+use lib.ListN.{getD}
+use Rattle.claims.proofs.Rows.{countNone, claimersMore, rowFits, Below, walkOver, walkFound, walkOn}
+use Rattle.claims.specs.Rows.{countOf, claimedIn, endOf, servingView}
+use Rattle.quorum.proofs.Laws.{shareMost}
 use Rattle.claims.proofs.serving_view.Statement.{statement}
 use Rattle.claims.proofs.serving_view.Tie as tie
 
 abbrev Inv-reporters : tie.InvT-reporters
-Inv-reporters spans n f v last t w claim₀ r₀ claim r = (r ≤ n) × (claim ≤ r) × (claim ≤ f) × (claim ≡ weigh (λ i. 1) (claimers spans w) r)
+Inv-reporters plans c low p end w row some claimers₀ r₀ claimers r = (r ≤ some) × (claimers ≤ claimers₀ + r) × (claimers ≡ claimers₀ + countOf plans row r p)
 
 abbrev μ-reporters : tie.MeasureT-reporters
-μ-reporters spans n f v last t w claim₀ r₀ claim r = n - r
+μ-reporters plans c low p end w row some claimers₀ r₀ claimers r = some - r
 
 abbrev Inv-views : tie.InvT-views
-Inv-views spans n f v last₀ last = (last ≤ v) × (claiming spans n f last ≤ f)
+Inv-views plans c low p end₀ end = Below plans c low p end
 
 abbrev μ-views : tie.MeasureT-views
-μ-views spans n f v last₀ last = last
+μ-views plans c low p end₀ end = end
+
+end-of-requires : tie.Need-end-of-requires Inv-reporters μ-reporters Inv-views μ-views
+end-of-requires c κs = search needs
 
 views-holds : tie.Need-views-holds Inv-reporters μ-reporters Inv-views μ-views
-views-holds c = let a = c .before .args in (omega arith, nobodyAt (a .spans .now) (a .n) (a .f) (a .v) (c .before .pre .2))
-
-highest-to-requires : tie.Need-highest-to-requires Inv-reporters μ-reporters Inv-views μ-views
-highest-to-requires c κs = search needs
+views-holds c =
+    let a = c .before .before .args in
+    ap (servingView (claimedIn (a .plans .now) (a .c) (a .p)) (a .low) (a .c .v)) (sym (c .end-of .ensures))
 
 sub-w : tie.Need-sub-w Inv-reporters μ-reporters Inv-views μ-views
 sub-w c = search needs
 
+place-at-requires : tie.Need-place-at-requires Inv-reporters μ-reporters Inv-views μ-views
+place-at-requires c κs = search needs
+
+tally-at-requires : tie.Need-tally-at-requires Inv-reporters μ-reporters Inv-views μ-views
+tally-at-requires c κs = search needs
+
 reporters-holds : tie.Need-reporters-holds Inv-reporters μ-reporters Inv-views μ-views
-reporters-holds c = (omega arith, omega arith, omega arith, sym (weighNone _ _))
-
-mul-claim-share : tie.Need-mul-claim-share Inv-reporters μ-reporters Inv-views μ-views
-mul-claim-share c = search needs
-
-shared-slice-read-claim-share :
-    tie.Need-shared-slice-read-claim-share Inv-reporters μ-reporters Inv-views μ-views
-shared-slice-read-claim-share c = search needs
-
-claim-share-requires : tie.Need-claim-share-requires Inv-reporters μ-reporters Inv-views μ-views
-claim-share-requires c κs = search needs
-
-add-claim : tie.Need-add-claim Inv-reporters μ-reporters Inv-views μ-views
-add-claim c =
-    let a = c .before .before .before .before .before .before .before .before .args in
-    let t = c .before .before .before .before .before .highest-to in
-    let at = c .before .before .before .reporters in
-    omega (arith, shareMost (claimers (a .spans .now) (t .result - 1) (at .r)) 1 (c .claim-share .result) (c .claim-share .ensures))
-
-add-r : tie.Need-add-r Inv-reporters μ-reporters Inv-views μ-views
-add-r c = search needs
+reporters-holds c =
+    let a = c .before .before .before .before .before .before .args in
+    (omega arith, omega arith, omega (arith, countNone (a .plans .now) (c .before .place-at .result) (a .p)))
 
 is-blocking-requires : tie.Need-is-blocking-requires Inv-reporters μ-reporters Inv-views μ-views
 is-blocking-requires c κs = search needs
+
+add-same : tie.Need-add-same Inv-reporters μ-reporters Inv-views μ-views
+add-same c =
+    let row = c .before .before .before .place-at in
+    let t = c .before .before .tally-at in
+    let pre = c .before .before .before .before .before .before .before .before .pre in
+    let (low, fits) = rowFits (c .before .before .before .before .before .before .before .before .args .c) (c .before .before .before .before .before .views .end - 1) (row .result) (t .result) (row .ensures) (t .ensures) (pre .2) (pre .3) in
+    omega arith
+
+mul-same : tie.Need-mul-same Inv-reporters μ-reporters Inv-views μ-views
+mul-same c =
+    let row = c .before .before .before .place-at in
+    let t = c .before .before .tally-at in
+    let pre = c .before .before .before .before .before .before .before .before .pre in
+    let (low, fits) = rowFits (c .before .before .before .before .before .before .before .before .args .c) (c .before .before .before .before .before .views .end - 1) (row .result) (t .result) (row .ensures) (t .ensures) (pre .2) (pre .3) in
+    omega arith
+
+shared-slice-read-same :
+    tie.Need-shared-slice-read-same Inv-reporters μ-reporters Inv-views μ-views
+shared-slice-read-same c =
+    let row = c .before .before .before .before .place-at in
+    let t = c .before .before .before .tally-at in
+    let pre = c .before .before .before .before .before .before .before .before .before .pre in
+    let (low, fits) = rowFits (c .before .before .before .before .before .before .before .before .before .args .c) (c .before .before .before .before .before .before .views .end - 1) (row .result) (t .result) (row .ensures) (t .ensures) (pre .2) (pre .3) in
+    omega arith
+
+same-requires : tie.Need-same-requires Inv-reporters μ-reporters Inv-views μ-views
+same-requires c κs = search needs
+
+add-claimers : tie.Need-add-claimers Inv-reporters μ-reporters Inv-views μ-views
+add-claimers c =
+    let a = c .before .before .before .before .before .before .before .before .before .before .args in
+    let at = c .before .before .before .reporters in
+    let row = c .before .before .before .before .before .place-at in
+    let t = c .before .before .before .before .tally-at in
+    let pre = c .before .before .before .before .before .before .before .before .before .before .pre in
+    let (low, fits) = rowFits (c .before .before .before .before .before .before .before .before .before .before .args .c) (c .before .before .before .before .before .before .before .views .end - 1) (row .result) (t .result) (row .ensures) (t .ensures) (pre .2) (pre .3) in
+    omega (arith, shareMost (eqb (getD (a .plans .now) (row .result + at .r) 0) (a .p)) 1 (c .same .result) (c .same .ensures))
+
+add-r : tie.Need-add-r Inv-reporters μ-reporters Inv-views μ-views
+add-r c =
+    let row = c .before .before .before .before .before .place-at in
+    let t = c .before .before .before .before .tally-at in
+    let pre = c .before .before .before .before .before .before .before .before .before .before .pre in
+    let (low, fits) = rowFits (c .before .before .before .before .before .before .before .before .before .before .args .c) (c .before .before .before .before .before .before .before .views .end - 1) (row .result) (t .result) (row .ensures) (t .ensures) (pre .2) (pre .3) in
+    omega arith
 
 reporters-less : tie.Need-reporters-less Inv-reporters μ-reporters Inv-views μ-views
 reporters-less c = search needs
@@ -68,57 +103,43 @@ reporters-less c = search needs
 reporters-again : tie.Need-reporters-again Inv-reporters μ-reporters Inv-views μ-views
 reporters-again c =
     let a = c .before .before .before .before .before .before .before .before .before .before .args in
-    let t = c .before .before .before .before .before .before .before .highest-to in
-    let at = c .before .before .before .before .before .reporters in
-    let share = c .before .before .claim-share in
-    let flag = c .before .is-blocking in
-    let most : share .result ≤ 1 = shareMost (claimers (a .spans .now) (t .result - 1) (at .r)) 1 (share .result) (share .ensures) in (
+    let at = c .before .before .before .reporters in
+    let t = c .before .before .before .before .tally-at .result in
+    let row = c .before .before .before .before .before .place-at .result in
+    let most = shareMost (eqb (getD (a .plans .now) (row + at .r) 0) (a .p)) 1 (c .same .result) (c .same .ensures) in (
       omega arith,
-      omega arith,
-      omega (arith, leb-false (a .f + 1) (at .claim + share .result) (sym (flag .ensures) ∙ c .if2 .left)),
-      weighStep (λ i. 1) (claimers (a .spans .now) (t .result - 1)) (at .r) (at .claim) (share .result) (at .inv .3) (share .ensures),
+      omega (arith, most),
+      claimersMore (a .plans .now) row (at .r) (a .p) (t .every) (at .claimers) (c .same .result) (at .inv .2) (c .same .ensures),
     )
 
 views-less : tie.Need-views-less Inv-reporters μ-reporters Inv-views μ-views
-views-less c =
-    let a = c .before .before .before .before .before .before .args in
-    let t = c .before .before .before .highest-to in
-    let last = c .before .before .before .before .views .last in
-    omega (arith, t .ensures, highestLow (a .spans .now) (a .n) (a .f) last (a .n))
+views-less c = search needs
 
 views-again : tie.Need-views-again Inv-reporters μ-reporters Inv-views μ-views
 views-again c =
-    let a = c .before .before .before .before .before .before .args in
-    let t = c .before .before .before .highest-to in
-    let last = c .before .before .before .before .views .last in
-    let at = c .before .reporters in
-    let e : at .r ≡ a .n = omega arith in (
-      omega (arith, t .ensures, highestLow (a .spans .now) (a .n) (a .f) last (a .n)),
-      omega (arith, ap (weigh (λ i. 1) (claimers (a .spans .now) (t .result - 1))) e),
-    )
+    let a = c .before .before .before .before .before .before .before .before .before .before .args in
+    let at = c .before .before .before .reporters in
+    let t = c .before .before .before .before .tally-at in
+    let row = c .before .before .before .before .before .place-at in
+    let last = c .before .before .before .before .before .before .before .views in
+    walkOn (a .plans .now) (a .c) (a .low) (a .p) (last .end) _ _ _ _ _ (last .inv) (c .before .before .before .before .before .before .if1 .left) refl (row .ensures) (t .ensures) (c .before .before .if2 .taken) (at .inv .2)
+    (sym (c .before .is-blocking .ensures) ∙ c .if3 .left)
 
 returns : tie.Need-returns Inv-reporters μ-reporters Inv-views μ-views
 returns c =
     let a = c .before .before .before .before .args in
-    let last = c .before .before .views in
-    let t = c .before .highest-to in
-    searchNone (a .spans .now) (a .n) (a .f) (a .v) (last .last) (t .result) (last .inv .0) (last .inv .1) (t .ensures) (c .if1 .taken)
+    let last = c .before .views in
+    walkOver (a .plans .now) (a .c) (a .low) (a .p) (last .end) (last .inv) (c .if1 .taken)
 
 returns-2 : tie.Need-returns-2 Inv-reporters μ-reporters Inv-views μ-views
 returns-2 c =
     let a = c .before .before .before .before .before .before .before .before .before .before .args in
-    let last = c .before .before .before .before .before .before .before .before .views in
-    let t = c .before .before .before .before .before .before .before .highest-to in
-    let at = c .before .before .before .before .before .reporters in
-    let share = c .before .before .claim-share in
-    let step = weighStep (λ i. 1) (claimers (a .spans .now) (t .result - 1)) (at .r) (at .claim) (share .result) (at .inv .3) (share .ensures) in
-    searchFound (a .spans .now) (a .n) (a .f) (a .v) (last .last) (t .result) (last .inv .0) (last .inv .1) (t .ensures) (c .before .before .before .before .before .before .if1 .left)
-    (omega (
-      arith,
-      step,
-      leb-true (a .f + 1) (at .claim + share .result) (sym (c .before .is-blocking .ensures) ∙ c .if2 .taken),
-      weighPrefix (λ i. 1) (claimers (a .spans .now) (t .result - 1)) (at .r + 1) (a .n) (omega arith),
-    ))
+    let at = c .before .before .before .reporters in
+    let t = c .before .before .before .before .tally-at in
+    let row = c .before .before .before .before .before .place-at in
+    let last = c .before .before .before .before .before .before .before .views in
+    walkFound (a .plans .now) (a .c) (a .low) (a .p) (last .end) _ _ _ _ _ (last .inv) (c .before .before .before .before .before .before .if1 .left) refl (row .ensures) (t .ensures) (c .before .before .if2 .taken) (at .inv .2)
+    (sym (c .before .is-blocking .ensures) ∙ c .if3 .taken)
 
 pub serving-view-spec : {M : Type 1} → statement M
 serving-view-spec =
@@ -128,16 +149,19 @@ serving-view-spec =
     μ-reporters
     Inv-views
     μ-views
+    end-of-requires
     views-holds
-    highest-to-requires
     sub-w
+    place-at-requires
+    tally-at-requires
     reporters-holds
-    mul-claim-share
-    shared-slice-read-claim-share
-    claim-share-requires
-    add-claim
-    add-r
     is-blocking-requires
+    add-same
+    mul-same
+    shared-slice-read-same
+    same-requires
+    add-claimers
+    add-r
     reporters-less
     reporters-again
     views-less

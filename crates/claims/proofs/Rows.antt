@@ -1,0 +1,242 @@
+-- The laws of rows and of the search over candidate views (document 01, 'When a plan is safe'; step C: 'The search over candidate views
+-- ends at the first one that serves the plan'). A report is for every plan, for one, or for none; so a count of equal plans, with those
+-- that are for every plan, tells how many are for a plan (`rowMore`).
+-- Assumes nothing.
+use Prim.Native.Nat.{ℕ, zero, suc, _+_, _-_, _*_, _≤_, _<_, max}
+use mathlib.Core.Path.{_≡_, refl, sym, _∙_, ap}
+use mathlib.Core.Bool.{Bool, true, false, cond}
+use mathlib.Core.Logic.{_≢_}
+use mathlib.Core.List.{List}
+use mathlib.Core.Option.{none, some}
+use native.Mathlib.Omega.{arith}
+use native.Mathlib.Decide.{ℕ-discrete, decLt}
+use lib.Dec.{leb, ltb, eqb}
+use lib.ListN.{length, getD, set}
+use lib.Seq.{getD-set-same, getD-set-other}
+use borrow.Author.Tests.{leb-true, leb-false, le-leb, lt-leb, lt-ltb, le-ltb, eq-eqb, ne-eqb, eqb-true}
+use Rattle.quorum.specs.Sets.{weigh}
+use Rattle.quorum.proofs.Laws.{weighNone, weighMore, weighSame, outside}
+use Rattle.rules.specs.Rules.{Report, Reports, viewOf, viewFor, reach, claims, reporting}
+use Rattle.claims.specs.declared.Search.{Search}
+use Rattle.claims.specs.declared.Tally.{Tally}
+use Rattle.claims.specs.Rows.{countOf, forPlan, Fits, Stance, forAll, forOne, forNone, Tells, SameBelow, tallyAt, placeAt, claimedIn, endOf, servingView}
+use Rattle.claims.specs.Table.{column, voteOf, reporter, reportsIn}
+
+-- ---- votes of the table
+
+-- A vote counts with its view, and as 0 where it is absent.
+pub viewIn : (above plan : ℕ) → viewOf (voteOf above plan) ≡ above - 1
+unfolding voteOf
+viewIn above plan = go (ℕ-discrete above 0)
+  where
+    go : Dec (above ≡ 0) → viewOf (cond (eqb above 0) none (some (record { view = above - 1; plan = plan }))) ≡ above - 1
+    go (yes absent) = rw (eq-eqb above 0 absent) (omega arith)
+    go (no there) = rw (ne-eqb above 0 there)
+
+-- The same of a vote that is for plan p.
+viewForIn : (p above plan : ℕ) → viewFor p (voteOf above plan) ≡ cond (eqb plan p) (above - 1) 0
+unfolding voteOf
+viewForIn p above plan = go (ℕ-discrete above 0)
+  where
+    nothing : (b : Bool) → above - 1 ≡ 0 → 0 ≡ cond b (above - 1) 0
+    nothing true e = sym e
+    nothing false e = refl
+
+    go : Dec (above ≡ 0) → viewFor p (cond (eqb above 0) none (some (record { view = above - 1; plan = plan }))) ≡ cond (eqb plan p) (above - 1) 0
+    go (yes absent) = let e : above - 1 ≡ 0 = omega arith in rw (eq-eqb above 0 absent) (nothing (eqb plan p) e)
+    go (no there) = rw (ne-eqb above 0 there)
+
+-- Above view 0 a vote is at a view or later exactly if its view + 1 is above it.
+pub atAbove : (above w : ℕ) → w ≢ 0 → ltb w above ≡ leb w (above - 1)
+atAbove above w there = go (decLt w above)
+  where
+    go : Dec (w < above) → ltb w above ≡ leb w (above - 1)
+    go (yes less) = lt-ltb w above less ∙ sym (le-leb w (above - 1) (omega arith))
+    go (no more) = le-ltb w above (omega arith) ∙ sym (lt-leb w (above - 1) (omega arith))
+
+-- ---- what one report claims
+
+module _ (t : List ℕ) (r w : ℕ) where
+  abbrev high : ℕ
+  high = getD t (column * 1 + r) 0
+
+  abbrev plan : ℕ
+  plan = getD t (column * 2 + r) 0
+
+  abbrev previous : ℕ
+  previous = getD t (column * 3 + r) 0
+
+  -- Where the vault has reported, its claims go by the two views.
+  claimsIn : (p : ℕ) → reporter t r ≡ true → reporting (reportsIn t) (claims p w) r ≡ leb w (max (cond (eqb plan p) (high - 1) 0) (previous - 1))
+  unfolding reportsIn claims reach
+  claimsIn p h = rw (h, viewForIn p high plan, viewIn previous (getD t (column * 4 + r) 0))
+
+  pub claimsEvery : reporter t r ≡ true → leb w (previous - 1) ≡ true → (p : ℕ) → reporting (reportsIn t) (claims p w) r ≡ true
+  claimsEvery h low p = claimsIn p h ∙ le-leb w _ (omega (arith, leb-true w (previous - 1) low))
+
+  pub claimsOne : reporter t r ≡ true → leb w (previous - 1) ≡ false → leb w (high - 1) ≡ true → (p : ℕ) → reporting (reportsIn t) (claims p w) r ≡ eqb plan p
+  claimsOne h few low p = claimsIn p h ∙ go (eqb plan p)
+    where
+      go : (b : Bool) → leb w (max (cond b (high - 1) 0) (previous - 1)) ≡ b
+      go true = le-leb w _ (omega (arith, leb-true w (high - 1) low))
+      go false = lt-leb w _ (omega (arith, leb-false w (previous - 1) few))
+
+  pub claimsNone : reporter t r ≡ true → leb w (previous - 1) ≡ false → leb w (high - 1) ≡ false → (p : ℕ) → reporting (reportsIn t) (claims p w) r ≡ false
+  claimsNone h few less p = claimsIn p h ∙ go (eqb plan p)
+    where
+      go : (b : Bool) → leb w (max (cond b (high - 1) 0) (previous - 1)) ≡ false
+      go true = lt-leb w _ (omega (arith, leb-false w (previous - 1) few, leb-false w (high - 1) less))
+      go false = lt-leb w _ (omega (arith, leb-false w (previous - 1) few))
+
+-- A vault that has not reported passes no test.
+pub silent : (t : List ℕ) (r : ℕ) (test : Report → Bool) → reporter t r ≡ false → reporting (reportsIn t) test r ≡ false
+unfolding reportsIn
+silent t r test h = rw h
+
+-- ---- rows
+
+pub countNone : (plans : List ℕ) (at p : ℕ) → countOf plans at 0 p ≡ 0
+unfolding countOf
+countNone plans at p = weighNone _ _
+
+-- One plan more.
+pub countMore : (plans : List ℕ) (at k p : ℕ) → countOf plans at (k + 1) p ≡ countOf plans at k p + cond (eqb (getD plans (at + k) 0) p) 1 0
+unfolding countOf
+countMore plans at k p = weighMore _ _ k
+
+pub countSame : (before after : List ℕ) (at k p : ℕ) → ((r : ℕ) → r < k → getD after (at + r) 0 ≡ getD before (at + r) 0) → countOf after at k p ≡ countOf before at k p
+unfolding countOf
+countSame before after at k p same = weighSame _ _ _ k (λ r low. ap (λ (x : ℕ). eqb x p) (same r low))
+
+-- A plan that is counted stands in the row.
+pub countWhere : (plans : List ℕ) (at k p : ℕ) → 0 < countOf plans at k p → (r : ℕ) × (r < k) × (getD plans (at + r) 0 ≡ p)
+unfolding countOf weigh
+countWhere plans at zero p more = absurd (omega arith)
+countWhere plans at (suc k) p more = go (ℕ-discrete (getD plans (at + k) 0) p) (countWhere plans at k p)
+  where
+    go : Dec (getD plans (at + k) 0 ≡ p)
+        → (0 < weigh (λ r. 1) (λ r. eqb (getD plans (at + r) 0) p) k → (r : ℕ) × (r < k) × (getD plans (at + r) 0 ≡ p))
+        → (r : ℕ) × (r < suc k) × (getD plans (at + r) 0 ≡ p)
+    go (yes is) rest = (k, omega arith, is)
+    go (no off) rest =
+        let less : 0 < weigh (λ r. 1) (λ r. eqb (getD plans (at + r) 0) p) k + 0 = rw (ne-eqb (getD plans (at + k) 0) p off) at more in
+        let (r, low, is) = rest (omega arith) in
+        (r, omega arith, is)
+
+-- One report more: its plan is written behind the row, and counts where the report is for that plan only.
+module _ (plans : List ℕ) (at k x : ℕ) (low : at + k < length plans) where
+  abbrev after : List ℕ
+  after = set plans (at + k) x
+
+  kept : (p : ℕ) → countOf after at k p ≡ countOf plans at k p
+  kept p = countSame plans after at k p (λ r less. getD-set-other plans (at + k) (at + r) x 0 (λ (e : at + r ≡ at + k). omega arith))
+
+  more : (p : ℕ) → countOf after at (k + 1) p ≡ countOf plans at k p + cond (eqb x p) 1 0
+  more p = countMore after at k p ∙ ap (λ (c : ℕ). c + cond (eqb (getD after (at + k) 0) p) 1 0) (kept p)
+      ∙ ap (λ (y : ℕ). countOf plans at k p + cond (eqb y p) 1 0) (getD-set-same plans (at + k) x 0 low)
+
+  module _ (rs : Reports) (test : ℕ → Report → Bool) (i all every some : ℕ) where
+    abbrev Grown : Type 0
+    Grown = Tells rs (i + 1) test after at (record { every = all + every; some = k + some })
+
+    abbrev weighed : ℕ → ℕ → ℕ
+    weighed p j = weigh (λ i. 1) (reporting rs (test p)) j
+
+    pub rowMore : Stance (λ p. reporting rs (test p) i) x every some → Tells rs i test plans at (record { every = all; some = k }) → Grown
+    rowMore (forAll e s pass) row = record { most = omega (arith, row .most); tells = λ p. tell p }
+      where
+        tell : (p : ℕ) → all + every + countOf after at (k + some) p ≡ weighed p (i + 1)
+        tell p =
+            let grown : weighed p (i + 1) ≡ weighed p i + cond (reporting rs (test p) i) 1 0 = weighMore _ _ i in
+            let same : k + some ≡ k = omega arith in
+            rw (same, kept p, grown, pass p) (omega (arith, row .tells p))
+    rowMore (forOne e s pass) row = record { most = omega (arith, row .most); tells = λ p. tell p }
+      where
+        tell : (p : ℕ) → all + every + countOf after at (k + some) p ≡ weighed p (i + 1)
+        tell p =
+            let grown : weighed p (i + 1) ≡ weighed p i + cond (reporting rs (test p) i) 1 0 = weighMore _ _ i in
+            let same : k + some ≡ k + 1 = omega arith in
+            rw (same, more p, grown, pass p) (omega (arith, row .tells p))
+    rowMore (forNone e s pass) row = record { most = omega (arith, row .most); tells = λ p. tell p }
+      where
+        tell : (p : ℕ) → all + every + countOf after at (k + some) p ≡ weighed p (i + 1)
+        tell p =
+            let grown : weighed p (i + 1) ≡ weighed p i + cond (reporting rs (test p) i) 1 0 = weighMore _ _ i in
+            let same : k + some ≡ k = omega arith in
+            rw (same, kept p, grown, pass p) (omega (arith, row .tells p))
+
+-- An empty row tells of no report.
+pub rowNone : (rs : Reports) (test : ℕ → Report → Bool) (plans : List ℕ) (at : ℕ) → Tells rs 0 test plans at (record { every = 0; some = 0 })
+rowNone rs test plans at = record { most = omega arith; tells = λ p. tell p }
+  where
+    tell : (p : ℕ) → 0 + countOf plans at 0 p ≡ weigh (λ i. 1) (reporting rs (test p)) 0
+    tell p = rw (countNone plans at p, weighNone (λ i. 1) (reporting rs (test p)))
+
+-- A report counts once at most.
+pub shareFits : (test : ℕ → Bool) (x every one : ℕ) → Stance test x every one → every + one ≤ 1
+shareFits test x every one (forAll e s pass) = omega arith
+shareFits test x every one (forOne e s pass) = omega arith
+shareFits test x every one (forNone e s pass) = omega arith
+
+-- What is written at a place leaves what lies below it.
+pub writtenAbove : (first plans : List ℕ) (at k x : ℕ) → at ≤ k → SameBelow first plans at → SameBelow first (set plans k x) at
+writtenAbove first plans at k x high same i low = getD-set-other plans k i x 0 (λ (e : i ≡ k). omega arith) ∙ same i low
+
+-- A row stays where what lies behind it is written.
+pub rowKept : (rs : Reports) (n : ℕ) (test : ℕ → Report → Bool) (before after : List ℕ) (at end : ℕ) (t : Tally) → SameBelow before after end → at + t .some ≤ end
+    → Tells rs n test before at t → Tells rs n test after at t
+rowKept rs n test before after at end t same low row = record {
+  most = row .most;
+  tells = λ p. ap (λ (c : ℕ). t .every + c) (countSame before after at (t .some) p (λ r (less : r < t .some). same (at + r) (omega arith))) ∙ row .tells p;
+}
+
+-- ---- the search over candidate views
+
+-- A row and its tally lie within the rows.
+pub rowFits : (c : Search) (w row : ℕ) (t : Tally) → row ≡ placeAt c w → t ≡ tallyAt c w → Fits (c .here) → Fits (c .next) → (row ≤ column) × Fits t
+rowFits c w row t at is here next = rw (at, is) (go (eqb w (c .u)))
+  where
+    go : (b : Bool) → (cond b 0 column ≤ column) × Fits (cond b (c .here) (c .next))
+    go true = (omega arith, here)
+    go false = (omega arith, next)
+
+-- One plan more is counted.
+pub claimersMore : (plans : List ℕ) (row k p every claimers share : ℕ) → claimers ≡ every + countOf plans row k p
+    → share ≡ cond (eqb (getD plans (row + k) 0) p) 1 0 → claimers + share ≡ every + countOf plans row (k + 1) p
+claimersMore plans row k p every claimers share e is = omega (arith, countMore plans row k p)
+
+module _ (plans : List ℕ) (c : Search) (low p : ℕ) where
+  abbrev serves : ℕ → ℕ
+  serves end = servingView (claimedIn plans c p) low (c .v) end
+
+  -- No view from `end` on serves: what the search finds, it finds below.
+  abbrev pub Below : ℕ → Type 0
+  Below end = serves (endOf c) ≡ serves end
+
+  -- Views below low are not tried.
+  pub walkOver : (end : ℕ) → Below end → end ≤ low → c .v ≡ serves (endOf c)
+  unfolding servingView
+  walkOver end was over = go end over ∙ sym was
+    where
+      go : (end : ℕ) → end ≤ low → c .v ≡ serves end
+      go zero over = refl
+      go (suc w) over = rw (lt-ltb w low (omega arith))
+
+  -- All claimers of p at the next view w are counted.
+  module _ (end w row k claimers : ℕ) (t : Tally) (was : Below end) (above : low < end) (is : w ≡ end - 1)
+      (at : row ≡ placeAt c w) (tally : t ≡ tallyAt c w) (all : k ≡ t .some) (count : claimers ≡ t .every + countOf plans row k p) where
+    claimersTell : leb (c .f + 1) claimers ≡ claimedIn plans c p w
+    unfolding claimedIn
+    claimersTell = rw (← tally, ← at, ← all) (ap (leb (c .f + 1)) count)
+
+    step : serves end ≡ cond (claimedIn plans c p w) w (serves w)
+    unfolding servingView
+    step = let e : end ≡ suc w = omega arith in rw (e, le-ltb w low (omega arith))
+
+    -- They are enough: w serves.
+    pub walkFound : leb (c .f + 1) claimers ≡ true → w ≡ serves (endOf c)
+    walkFound enough = sym (was ∙ step ∙ ap (λ (b : Bool). cond b w (serves w)) (sym claimersTell ∙ enough))
+
+    -- They are not: the view below it is tried.
+    pub walkOn : leb (c .f + 1) claimers ≡ false → Below w
+    walkOn few = was ∙ step ∙ ap (λ (b : Bool). cond b w (serves w)) (sym claimersTell ∙ few)

@@ -1,0 +1,132 @@
+-- Candidate views of the lock search are exact. Between a view that too few spans cover and the highest span not above it the same spans
+-- cover, so no view there is covered by enough; so the last view of that span is the next candidate, and the first candidate with enough
+-- is the highest view with enough.
+-- Assumes nothing.
+use Prim.Native.Nat.{ℕ, zero, suc, _+_, _-_, _≤_, _<_, max}
+use mathlib.Core.Path.{_≡_, refl, sym, _∙_, ap}
+use mathlib.Core.Bool.{Bool, true, false, cond}
+use mathlib.Core.Logic.{_≢_, _↔_}
+use mathlib.Core.List.{List}
+use native.Mathlib.Omega.{arith}
+use native.Mathlib.Numerals.{add-one}
+use native.Mathlib.Decide.{ℕ-discrete, decLe}
+use lib.Dec.{leb, ltb}
+use lib.ListN.{length, getD, set}
+use lib.Seq.{getD-set-same, getD-set-other}
+use borrow.Author.Tests.{le-leb, lt-leb, ltb-true, lt-ltb}
+use Rattle.quorum.specs.Sets.{equals, weigh, isBlocking}
+use Rattle.quorum.proofs.Bools.{notTrue}
+use Rattle.quorum.proofs.Laws.{weighMono, weighSame, blockingWeighs}
+use Rattle.rules.specs.Views.{views}
+use Rattle.rules.proofs.Views.{Falls, viewsAre}
+use Rattle.claims.specs.Spans.{covering, covered, coveredViews, highestTo, Within, AreSpans}
+
+-- One span more.
+pub highestMore : (spans : List ℕ) (w k : ℕ) → highestTo spans w (k + 1) ≡ max (highestTo spans w k) (cond (leb (getD spans k 0) w) (getD spans k 0) 0)
+unfolding highestTo
+highestMore spans w k = rw add-one
+
+pub highestNone : (spans : List ℕ) (w : ℕ) → highestTo spans w 0 ≡ 0
+unfolding highestTo
+highestNone spans w = refl
+
+module _ (spans : List ℕ) (n f : ℕ) where
+  -- How many cover view u.
+  abbrev pub covers : ℕ → ℕ
+  covers u = weigh (λ i. 1) (covering spans u) n
+
+  pub coveredIff : (u : ℕ) → (covered spans n f u ≡ true) ↔ (f < covers u)
+  unfolding covered
+  coveredIff u = blockingWeighs (equals n f) (covering spans u)
+
+  -- Those who cover view u cover w too, where no span ends in between.
+  pub coverMono : (u w : ℕ) → ((i : ℕ) → i < n → u < getD spans i 0 → w < getD spans i 0) → covers u ≤ covers w
+  coverMono u w to =
+      weighMono (λ i. 1) (covering spans u) (covering spans w) n (λ i low h. lt-ltb w (getD spans i 0) (to i low (ltb-true u (getD spans i 0) h)))
+
+  coveredFalls : Falls (covered spans n f)
+  coveredFalls u w le h =
+      coveredIff w .1 (omega (arith, coveredIff u .0 h, coverMono u w (λ i low (l : u < getD spans i 0). omega arith)))
+
+  highestAt : (w k i : ℕ) → i < k → getD spans i 0 ≤ w → getD spans i 0 ≤ highestTo spans w k
+  unfolding highestTo
+  highestAt w zero i low le = absurd (omega arith)
+  highestAt w (suc k) i low le = go (ℕ-discrete i k) (highestAt w k i)
+    where
+      go : Dec (i ≡ k) → (i < k → getD spans i 0 ≤ w → getD spans i 0 ≤ highestTo spans w k)
+          → getD spans i 0 ≤ max (highestTo spans w k) (cond (leb (getD spans k 0) w) (getD spans k 0) 0)
+      go (yes same) rest =
+          let at : getD spans k 0 ≤ w = rw same at le in
+          rw (same, le-leb (getD spans k 0) w at) (omega arith)
+      go (no differ) rest = omega (arith, rest (omega arith) le)
+
+  pub highestLow : (w k : ℕ) → highestTo spans w k ≤ w
+  unfolding highestTo
+  highestLow w zero = omega arith
+  highestLow w (suc k) = omega (arith, highestLow w k, share (getD spans k 0) (decLe (getD spans k 0) w))
+    where
+      share : (x : ℕ) → Dec (x ≤ w) → cond (leb x w) x 0 ≤ w
+      share x (yes le) = rw (le-leb x w le) le
+      share x (no above) = rw (lt-leb x w (omega arith)) (omega arith)
+
+  -- The view at the highest span not above w is covered by no more than w: view by view in between, the same spans cover.
+  pub candidatesExact : (w : ℕ) → covers (highestTo spans w n) ≤ covers w
+  candidatesExact w = coverMono (highestTo spans w n) w (λ i low above. go i low above (decLe (getD spans i 0) w))
+    where
+      go : (i : ℕ) → i < n → highestTo spans w n < getD spans i 0 → Dec (getD spans i 0 ≤ w) → w < getD spans i 0
+      go i low above (yes le) = absurd (omega (arith, highestAt w n i low le))
+      go i low above (no high) = omega arith
+
+  -- All spans are at most v: none covers v.
+  pub nobodyAt : (v : ℕ) → Within spans n v → covers v ≤ f
+  unfolding weigh
+  nobodyAt v within = omega (arith, weighMono (λ i. 1) (covering spans v) (λ i. false) n (λ i low h. absurd (omega (arith, ltb-true v (getD spans i 0) h, within i low))), nothing n)
+    where
+      nothing : (k : ℕ) → weigh (λ i. 1) (λ i. false) k ≡ 0
+      nothing zero = refl
+      nothing (suc k) = omega (arith, nothing k)
+
+  -- The candidate after view last, which too few cover: t views, the span that ends highest below last.
+  module _ (v last t : ℕ) (low : last ≤ v) (few : covers last ≤ f) (is : t ≡ highestTo spans last n) where
+    fewAfter : covers t ≤ f
+    fewAfter = rw is (omega (arith, candidatesExact last))
+
+    -- Enough cover its last view: that is the highest view with enough.
+    pub searchFound : t ≢ 0 → f < covers (t - 1) → t ≡ coveredViews spans n f v
+    unfolding coveredViews
+    searchFound there enough = sym (viewsAre (covered spans n f) coveredFalls v t (omega (arith, highestLow last n))
+        (λ u (same : u + 1 ≡ t). at u (omega arith)) (λ below. notTrue (covered spans n f t) (λ h. omega (arith, coveredIff t .0 h, fewAfter))))
+      where
+        at : (u : ℕ) → u ≡ t - 1 → covered spans n f u ≡ true
+        at u same = rw same (coveredIff (t - 1) .1 enough)
+
+    -- There is no candidate left: too few cover view 0.
+    pub searchNone : t ≡ 0 → 0 ≡ coveredViews spans n f v
+    unfolding coveredViews
+    searchNone absent = sym (viewsAre (covered spans n f) coveredFalls v 0 (omega arith) (λ u (same : u + 1 ≡ 0). absurd (omega arith))
+        (λ below. notTrue (covered spans n f 0) (λ h. over (coveredIff 0 .0 h))))
+      where
+        over : f < covers 0 → ⊥
+        over more = let h : covers 0 ≤ f = rw absent at fewAfter in omega arith
+
+-- ---- the spans of the vaults
+
+module _ (spans : List ℕ) (n : ℕ) (span : ℕ → ℕ) (are : AreSpans spans n span) where
+  pub spansWithin : (v : ℕ) → ((i : ℕ) → span i ≤ v) → Within spans n v
+  spansWithin v most i low = rw (are i low) (most i)
+
+  -- A test of views that asks for a blocking set passes in as many views as the spans say.
+  pub spansReach : (f v : ℕ) (test : ℕ → Bool) → ((u : ℕ) → u < v → test u ≡ isBlocking (equals n f) (λ i. ltb u (span i))) → coveredViews spans n f v ≡ views test v
+  unfolding coveredViews covered isBlocking
+  spansReach f v test asks = weighSame (λ u. 1) (covered spans n f) test v (λ u low. ap (leb (f + 1)) (same u) ∙ sym (asks u low))
+    where
+      same : (u : ℕ) → weigh (λ i. 1) (covering spans u) n ≡ weigh (λ i. 1) (λ i. ltb u (span i)) n
+      same u = weighSame (λ i. 1) (covering spans u) (λ i. ltb u (span i)) n (λ i low. ap (λ (t : ℕ). ltb u t) (are i low))
+
+-- One span more is written.
+pub spansMore : (spans : List ℕ) (r t : ℕ) (span : ℕ → ℕ) → r < length spans → t ≡ span r → AreSpans spans r span → AreSpans (set spans r t) (r + 1) span
+spansMore spans r t span low is are i below = go (ℕ-discrete i r)
+  where
+    go : Dec (i ≡ r) → getD (set spans r t) i 0 ≡ span i
+    go (yes same) = rw same (getD-set-same spans r t 0 low ∙ is)
+    go (no differ) = getD-set-other spans r i t 0 differ ∙ are i (omega arith)
