@@ -15,4 +15,5 @@ pub mod Proper
 pub mod ReadsBack
 pub mod Settled
 pub mod Lasting
+pub mod Sent
 pub mod Tested
