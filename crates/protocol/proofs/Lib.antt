@@ -16,4 +16,6 @@ pub mod ReadsBack
 pub mod Settled
 pub mod Lasting
 pub mod Sent
+pub mod Scripts
+pub mod Shown
 pub mod Tested
