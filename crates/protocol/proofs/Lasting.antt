@@ -41,7 +41,7 @@ pub record Lasting (l : List Item) : Type 0 where
 
 module _ (c : Setting) where
   -- What a call of the run brings, to the record that it meets.
-  feeds : {l : List Item} → Inv c (λ p. Unit {0}) l → (i : ℕ) (a : Call) → Brings a → Fair c l i a → Fed (recordAt l i) a
+  pub feeds : {l : List Item} → Inv c (λ p. Unit {0}) l → (i : ℕ) (a : Call) → Brings a → Fair c l i a → Fed (recordAt l i) a
   feeds {l} v i a brings fair = go a (recordAt l i) refl brings fair
     where
       go : (a : Call) (b : Option Record) → recordAt l i ≡ b → Brings a → Fair c l i a → Fed b a

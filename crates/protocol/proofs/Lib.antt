@@ -15,4 +15,7 @@ pub mod Proper
 pub mod ReadsBack
 pub mod Settled
 pub mod Lasting
+pub mod Sent
+pub mod Scripts
+pub mod Shown
 pub mod Tested

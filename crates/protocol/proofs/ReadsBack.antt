@@ -18,56 +18,63 @@ use Rattle.frame.specs.declared.Frame.{Frame}
 use Rattle.frame.specs.declared.Reading.the-variants.{Accepted, Refused}
 use Rattle.frame.specs.Format.{Valid, encode}
 use Rattle.frame.specs.Refusal.{first, leaderOf, misled, linkRows, contentRows, leaderRows, readFrame}
-use Rattle.frame.proofs.Theorems.{read-back}
 use Rattle.entry.specs.declared.Entry.{Entry}
 use Rattle.entry.specs.declared.Entry.the-variants.{ForAll, ForOne, Timer, Decision}
 use Rattle.settings.specs.declared.Settings.{Settings}
 use Rattle.settings.specs.Settings.{settingRows}
 use Rattle.protocol.specs.Record.{Record, leader, leads, changeFrame, voteFrame, reportFrame}
 use Rattle.protocol.specs.Pass.{Act, ask, enter, cast, decide, does, timerEntry, suggestEntry, writes, Out, Step, taken, onward, pass}
-use Rattle.protocol.specs.Calls.{recordRows, timerRows, fresh, started, keep, heard, wanted, rung, Call, start, frame, timer, short, accepted, answer}
+use Rattle.protocol.specs.Calls.{recordRows, timerRows, fresh, started, keep, heard, wanted, rung, Readable}
+use Rattle.protocol.specs.Calls.{Call, start, frame, timer, short, accepted, answer}
 use Rattle.protocol.specs.Sound.{Sound, Ranged, Fed}
 use Rattle.protocol.specs.Runs.{_∈_}
-use Rattle.protocol.specs.ReadsBack.{AlwaysReadsBack}
+use Rattle.protocol.specs.ReadsBack.{IsFor, AlwaysReadsBack}
 use Rattle.protocol.proofs.May.{May, Sure, done, and, sureC, sureA}
 use Rattle.protocol.proofs.Good.{doesSet}
 use Rattle.protocol.proofs.Went.{noneGiven, unlessAccepted, wantedMay}
 use Rattle.protocol.proofs.Slots.{Sendable}
 use Rattle.protocol.proofs.Sound.{Whole, actWhole, idBelow, changeGoes, voteGoes, leadsFirst, reportGoes, wishWidth}
-use Rattle.protocol.proofs.Proper.{freshWhole, heardWhole, callProper}
+use Rattle.protocol.proofs.Read.{readableAccepted}
+use Rattle.protocol.proofs.Proper.{freshWhole, heardWhole}
 
 -- ---- what is written
 
--- A frame of the own number that passes 13 to 15 at vault j, and has bytes.
-record Goes (s : Settings) (j : ℕ) (x : Frame) : Type 0 where
+-- A frame of vault i of n that has bytes and passes 13 to 15 at vault j.
+pub record Goes (n i j : ℕ) (x : Frame) : Type 0 where
+  pub below : i < n
+  pub sender : x .sender ≡ i
   pub valid : Valid x
-  pub sender : x .sender ≡ s .id
   pub content : first (contentRows x) ≡ 0
-  pub leader : first (leaderRows x (s .n) j) ≡ 0
+  pub leader : first (leaderRows x n j) ≡ 0
 
--- The frame of an entry passes at whom it is for.
-abbrev Right : Settings → Entry → Type 0
-Right s (ForAll x) = (j : ℕ) → Goes s j x
-Right s (ForOne j x) = Goes s j x
-Right s (Timer v m) = Unit {0}
-Right s (Decision v p) = Unit {0}
+-- The frame of vault i's entry passes at whom it is for.
+abbrev pub Right : ℕ → ℕ → Entry → Type 0
+Right n i (ForAll x) = (j : ℕ) → Goes n i j x
+Right n i (ForOne j x) = Goes n i j x
+Right n i (Timer v m) = Unit {0}
+Right n i (Decision v p) = Unit {0}
 
-abbrev AllRight : Settings → List Entry → Type 0
-AllRight s [] = Unit {0}
-AllRight s (e ∷ es) = Right s e × AllRight s es
+abbrev pub AllRight : ℕ → ℕ → List Entry → Type 0
+AllRight n i [] = Unit {0}
+AllRight n i (e ∷ es) = Right n i e × AllRight n i es
 
-rightJoin : (s : Settings) (es fs : List Entry) → AllRight s es → AllRight s fs → AllRight s (es ++ fs)
-rightJoin s [] fs a b = b
-rightJoin s (e ∷ es) fs (v, a) b = (v, rightJoin s es fs a b)
+module _ (n i : ℕ) where
+  pub rightJoin : (es fs : List Entry) → AllRight n i es → AllRight n i fs → AllRight n i (es ++ fs)
+  rightJoin [] fs a b = b
+  rightJoin (e ∷ es) fs (v, a) b = (v, rightJoin es fs a b)
 
-rightAt : (s : Settings) (es : List Entry) → AllRight s es → (e : Entry) → e ∈ es → Right s e
-rightAt s [] all e at = elim at [ ]
-rightAt s (d ∷ es) (this, rest) e at = ⊎-elim (λ is. subst (Right s) (sym is) this) (rightAt s es rest e) (List·Memᴰ·cases-cons at)
+  rightAt : (es : List Entry) → AllRight n i es → (e : Entry) → e ∈ es → Right n i e
+  rightAt [] all e at = elim at [ ]
+  rightAt (d ∷ es) (this, rest) e at = ⊎-elim (λ is. subst (Right n i) (sym is) this) (rightAt es rest e) (List·Memᴰ·cases-cons at)
+
+  pub goesFor : (es : List Entry) → AllRight n i es → (j : ℕ) (x : Frame) → IsFor j x es → Goes n i j x
+  goesFor es all j x for = ⊎-elim (λ at. rightAt es all (ForAll x) at j) (rightAt es all (ForOne j x)) for
 
 -- ---- rows 11 to 15
 
 -- Row 15, where a proposal is from its view's leader and a suggest is for it.
-ledRight : (x : Frame) (n j : ℕ) → (x .kind ≡ 1 → leaderOf (x .view) n ≡ x .sender) → (x .kind ≡ 7 → leaderOf (x .view) n ≡ j) → first (leaderRows x n j) ≡ 0
+ledRight : (x : Frame) (n j : ℕ) → (x .kind ≡ 1 → leaderOf (x .view) n ≡ x .sender) → (x .kind ≡ 7 → leaderOf (x .view) n ≡ j)
+    → first (leaderRows x n j) ≡ 0
 unfolding misled
 ledRight x n j first-led last-led = go (which (eqb (x .kind) 1)) (which (eqb (x .kind) 7))
   where
@@ -81,28 +88,42 @@ ledRight x n j first-led last-led = go (which (eqb (x .kind) 1)) (which (eqb (x 
 linkRight : (i n j : ℕ) → i < n → j ≢ i → first (linkRows i i n j) ≡ 0
 linkRight i n j low other = rw (lt-leb n i low, ne-eqb i j (λ (e : i ≡ j). other (sym e)), eq-eqb i i refl)
 
-goesRead : (s : Settings) (j : ℕ) (x : Frame) → s .id < s .n → j ≢ s .id → Goes s j x → readFrame (encode x) (s .id) (s .n) j ≡ Accepted x
-goesRead s j x low other g = read-back x (s .id) (s .n) j (g .valid)
-    (subst (λ (i : ℕ). first (linkRows i (s .id) (s .n) j) ≡ 0) (sym (g .sender)) (linkRight (s .id) (s .n) j low other)) (g .content) (g .leader)
+-- So the reader of vault j accepts it.
+pub goesReadable : (n i j : ℕ) (x : Frame) → Goes n i j x → j ≢ i → Readable n j x
+goesReadable n i j x g other = record {
+  valid = g .valid;
+  link = subst (λ (k : ℕ). first (linkRows k k n j) ≡ 0) (sym (g .sender)) (linkRight i n j (g .below) other);
+  content = g .content;
+  leader = g .leader;
+}
 
 -- ---- the acts
 
-module _ {r : Record} (w : Whole r) where
-  goes : (x : Frame) (j : ℕ) → x .sender ≡ r .set .id → Sendable (r .set .n) (r .set .id) x
-      → (x .kind ≡ 1 → leaderOf (x .view) (r .set .n) ≡ x .sender) → (x .kind ≡ 7 → leaderOf (x .view) (r .set .n) ≡ j) → Goes (r .set) j x
-  goes x j own ok one seven = record { valid = ok .valid; sender = own; content = ok .content; leader = ledRight x (r .set .n) j one seven }
+abbrev OwnRight : Settings → List Entry → Type 0
+OwnRight s es = AllRight (s .n) (s .id) es
 
-  actRight : (a : Act) → May r a → AllRight (r .set) (writes r a)
+module _ {r : Record} (w : Whole r) where
+  goes : (x : Frame) (j : ℕ) → x .sender ≡ r .set .id → Sendable (r .set .n) (r .set .id) x → (x .kind ≡ 1 → leaderOf (x .view) (r .set .n) ≡ x .sender)
+      → (x .kind ≡ 7 → leaderOf (x .view) (r .set .n) ≡ j) → Goes (r .set .n) (r .set .id) j x
+  goes x j own ok one seven = record {
+    below = idBelow (r .set) (w .sound .settings);
+    sender = own;
+    valid = ok .valid;
+    content = ok .content;
+    leader = ledRight x (r .set .n) j one seven;
+  }
+
+  actRight : (a : Act) → May r a → OwnRight (r .set) (writes r a)
   unfolding writes
   actRight (ask v) may =
       (λ j. goes (changeFrame r v) j refl (changeGoes w v may) (λ (e : 6 ≡ 1). absurd (omega arith)) (λ (e : 6 ≡ 7). absurd (omega arith)), tt)
   actRight (enter v) may = (tt, (λ j. report rule3 j (λ (e : 8 ≡ 1). absurd (omega arith)) (λ (e : 8 ≡ 7). absurd (omega arith)), rest (leads r v)))
     where
       report : (rule : Rule) (j : ℕ) → (reportFrame r rule v .kind ≡ 1 → leaderOf v (r .set .n) ≡ r .set .id)
-          → (reportFrame r rule v .kind ≡ 7 → leaderOf v (r .set .n) ≡ j) → Goes (r .set) j (reportFrame r rule v)
+          → (reportFrame r rule v .kind ≡ 7 → leaderOf v (r .set .n) ≡ j) → Goes (r .set .n) (r .set .id) j (reportFrame r rule v)
       report rule j = goes (reportFrame r rule v) j refl (reportGoes w v (may .0) (wishWidth w v (may .1)) rule)
 
-      rest : (b : Bool) → AllRight (r .set) (suggestEntry r v b)
+      rest : (b : Bool) → OwnRight (r .set) (suggestEntry r v b)
       rest true = tt
       rest false = (report rule1 (leader r v) (λ (e : 7 ≡ 1). absurd (omega arith)) (λ e. refl), tt)
   actRight (cast k p) may = (
@@ -117,11 +138,11 @@ module _ {r : Record} (w : Whole r) where
 -- What is left has these settings, and what is written passes at whom it is for.
 record Keeps (s : Settings) (o : Out) : Type 0 where
   pub stays : o .left .set ≡ s
-  pub right : AllRight s (o .wrote)
+  pub right : OwnRight s (o .wrote)
 
-keepsMore : (s : Settings) (es : List Entry) {t : Settings} {o : Out} → t ≡ s → AllRight s es → Keeps t o → Keeps s (onward es o)
+keepsMore : (s : Settings) (es : List Entry) {t : Settings} {o : Out} → t ≡ s → OwnRight s es → Keeps t o → Keeps s (onward es o)
 keepsMore s es {t} {o} same all k =
-    record { stays = k .stays ∙ same; right = rightJoin s es (o .wrote) all (subst (λ (t : Settings). AllRight t (o .wrote)) same (k .right)) }
+    record { stays = k .stays ∙ same; right = rightJoin (s .n) (s .id) es (o .wrote) all (subst (λ (t : Settings). OwnRight t (o .wrote)) same (k .right)) }
 
 passKeeps : {steps : List Step} → Sure steps → (r : Record) → Whole r → Keeps (r .set) (pass steps r)
 unfolding pass
@@ -134,12 +155,12 @@ passKeeps (and {s = s} {l = rest} law sure) r w =
     go none e then = keepsMore (r .set) [] refl tt (then r w)
     go (some a) e then = keepsMore (r .set) (writes r a) (doesSet r a) (actRight w a (law .may r a e)) (then (does r a) (actWhole w a (law .may r a e)))
 
-ownRight : {s : Settings} {o u : Out} → o ≡ u → Keeps s o → AllRight (u .left .set) (u .wrote)
+ownRight : {s : Settings} {o u : Out} → o ≡ u → Keeps s o → OwnRight (u .left .set) (u .wrote)
 ownRight {s} {o} same k =
-    subst (λ (u : Out). AllRight (u .left .set) (u .wrote)) same (subst (λ (t : Settings). AllRight t (o .wrote)) (sym (k .stays)) (k .right))
+    subst (λ (u : Out). OwnRight (u .left .set) (u .wrote)) same (subst (λ (t : Settings). OwnRight t (o .wrote)) (sym (k .stays)) (k .right))
 
-callRight : (b : Option Record) (a : Call) → ((r : Record) → b ≡ some r → Sound r × Ranged r) → Fed b a
-    → (o : Out) → answer b a ≡ accepted o → AllRight (o .left .set) (o .wrote)
+pub callRight : (b : Option Record) (a : Call) → ((r : Record) → b ≡ some r → Sound r × Ranged r) → Fed b a
+    → (o : Out) → answer b a ≡ accepted o → OwnRight (o .left .set) (o .wrote)
 unfolding answer started heard rung
 callRight b short was fed o e = let z : _≡_ {A = ℕ} 0 1 = cc in absurd (omega arith)
 callRight none (frame x) was fed o e = let z : _≡_ {A = ℕ} 0 1 = cc in absurd (omega arith)
@@ -163,14 +184,11 @@ callRight (some r) (timer v) was fed o e =
 
 -- Each frame that an accepted call writes is accepted, as itself, by every vault that it is for.
 pub callReadsBack : AlwaysReadsBack
-callReadsBack b a was fed o e j x low other for =
-    goesRead s j x own other (⊎-elim (λ at. rightAt s (o .wrote) right (ForAll x) at j) (rightAt s (o .wrote) right (ForOne j x)) for)
+callReadsBack b a was fed o e j x low other for = subst (λ (i : ℕ). readFrame (encode x) i (s .n) j ≡ Accepted x) (g .sender)
+    (readableAccepted (s .n) j x (goesReadable (s .n) (s .id) j x g other))
   where
     s : Settings
     s = o .left .set
 
-    own : s .id < s .n
-    own = idBelow s (callProper b a was fed o e .sound .settings)
-
-    right : AllRight s (o .wrote)
-    right = callRight b a was fed o e
+    g : Goes (s .n) (s .id) j x
+    g = goesFor (s .n) (s .id) (o .wrote) (callRight b a was fed o e) j x for

@@ -1,0 +1,155 @@
+-- Scripts: what happens in a run of four vaults of which one may break the rules, and the calls that this is (document 01, 'Runs,
+-- as demand 3 means them'). A script names whom a vault hears and which of the entries that this one wrote, so every list of calls
+-- that a script gives is a run (`scriptRuns`): each frame was sent, and its vault's reader accepts it (`runReadable`). A vault that
+-- breaks the rules says any frame at all. So runs in which something happens can be shown by computation.
+-- Assumes nothing.
+use Prim.Native.Nat.{ℕ, zero, suc, _^_, _-_, _≤_}
+use mathlib.Core.Path.{_≡_, refl, sym, subst}
+use mathlib.Core.Logic.{_≢_, inl, inr}
+use mathlib.Core.Bool.{Bool, true, false, cond, not, _&&_}
+use mathlib.Core.List.{List, [], _∷_, List·Memᴰ·head, List·Memᴰ·tail}
+use mathlib.Core.Option.{Option, none, some}
+use lib.Dec.{ltb, eqb}
+use borrow.Author.Tests.{ltb-true, eqb-true, eqb-false, not-true}
+use Rattle.quorum.specs.Sets.{Set, equals, size, total}
+use Rattle.quorum.proofs.Bools.{bothSplit, clash}
+use Rattle.agreement.proofs.Reports.{none≢some}
+use Rattle.frame.specs.declared.Frame.{Frame}
+use Rattle.frame.specs.declared.Reading.{Reading}
+use Rattle.frame.specs.declared.Reading.the-variants.{Accepted, Refused}
+use Rattle.frame.specs.Format.{encode}
+use Rattle.frame.specs.Refusal.{readFrame}
+use Rattle.frame.proofs.Theorems.{encode-bytes}
+use Rattle.entry.specs.declared.Entry.{Entry}
+use Rattle.entry.specs.declared.Entry.the-variants.{ForAll, ForOne, Timer, Decision}
+use Rattle.settings.specs.declared.Settings.{Settings}
+use Rattle.protocol.specs.Calls.{Call, start, frame, timer, short}
+use Rattle.protocol.specs.Runs.{_∈_, Setting, Item, written, Fair, Run, nothingYet, andThen}
+use Rattle.protocol.specs.ReadsBack.{IsFor}
+use Rattle.protocol.proofs.Read.{acceptedReadable}
+use Rattle.protocol.proofs.Lasting.{Brings, Wide}
+use Rattle.protocol.proofs.Sent.{runReadable}
+
+-- Vault i starts with plan p; vault i hears the frame of entry k that vault j wrote; vault i's timer for view v; vault i hears x from
+-- a vault that breaks the rules.
+pub data Move : Type 0 where
+  begin : ℕ → ℕ → Move
+  hear : ℕ → ℕ → ℕ → Move
+  ring : ℕ → ℕ → Move
+  lie : ℕ → Frame → Move
+
+-- Entry k of a list, from 0.
+abbrev pub pick : ℕ → List Entry → Option Entry
+pick k [] = none
+pick zero (e ∷ es) = some e
+pick (suc k) (e ∷ es) = pick k es
+
+pub pickIn : (k : ℕ) (es : List Entry) {e : Entry} → pick k es ≡ some e → e ∈ es
+pickIn k [] is = absurd (none≢some is)
+pickIn zero (d ∷ es) {e} is = let same : e ≡ d = cc in List·Memᴰ·head same
+pickIn (suc k) (d ∷ es) is = List·Memᴰ·tail (pickIn k es is)
+
+-- The settings of vault i of four, with link class 2.
+abbrev pub four : ℕ → Settings
+four i = record { n = 4; f = 1; id = i; class = 2 }
+
+-- What vault i hears of an entry: a frame for all or for i, and nothing of others.
+abbrev pub heardOf : ℕ → Option Entry → Call
+heardOf i none = short
+heardOf i (some (ForAll x)) = frame (Accepted x)
+heardOf i (some (ForOne j x)) = cond (eqb j i) (frame (Accepted x)) short
+heardOf i (some (Timer v m)) = short
+heardOf i (some (Decision v p)) = short
+
+abbrev pub callOf : List Item → Move → Item
+callOf l (begin i p) = record { at = i; call = start (four i) p }
+callOf l (hear i j k) = record { at = i; call = heardOf i (pick k (written l j)) }
+callOf l (ring i v) = record { at = i; call = timer v }
+callOf l (lie i x) = record { at = i; call = frame (readFrame (encode x) (x .sender) 4 i) }
+
+-- The calls of a script, the newest first in both.
+unfoldable pub calls : List Move → List Item
+calls [] = []
+calls (m ∷ ms) = callOf (calls ms) m ∷ calls ms
+
+module _ (keeps : Set) where
+  -- Rule-keepers are called, with plans of 64 bits; they hear others; and only vaults that break the rules lie.
+  abbrev pub isFair : Move → Bool
+  isFair (begin i p) = keeps i && ltb p (2 ^ 64)
+  isFair (hear i j k) = keeps i && not (eqb i j)
+  isFair (ring i v) = keeps i
+  isFair (lie i x) = keeps i && not (keeps (x .sender))
+
+  abbrev pub allFair : List Move → Bool
+  allFair [] = true
+  allFair (m ∷ ms) = isFair m && allFair ms
+
+module _ (keeps : Set) (most : total (equals 4 1) - 1 ≤ size (equals 4 1) keeps) where
+  -- Four vaults, of which one may break the rules.
+  abbrev pub ofFour : Setting
+  ofFour = record { vaults = equals 4 1; keeps = keeps; most = most }
+
+  -- What a script gives is a run whose starts bring 64-bit plans.
+  pub record Runs (l : List Item) : Type 0 where
+    pub run : Run ofFour l
+    pub wide : Wide l
+
+  -- One more call of a run.
+  record Next (l : List Item) (x : Item) : Type 0 where
+    pub called : keeps (x .at) ≡ true
+    pub fair : Fair ofFour l (x .at) (x .call)
+    pub brings : Brings (x .call)
+
+  module _ {l : List Item} (so : Runs l) where
+    -- A frame for vault i that vault j wrote may come.
+    sentFair : (i j : ℕ) (x : Frame) → i ≢ j → IsFor i x (written l j) → Fair ofFour l i (frame (Accepted x))
+    sentFair i j x other for =
+        let (own, can) = runReadable ofFour (so .run) (so .wide) i j x other for in
+        (can, λ rules. subst (λ (k : ℕ). IsFor i x (written l k)) (sym own) for)
+
+    hearNext : (i j : ℕ) (o : Option Entry) → keeps i ≡ true → i ≢ j → ((e : Entry) → o ≡ some e → e ∈ written l j)
+        → Next l (record { at = i; call = heardOf i o })
+    hearNext i j none rules other has = record { called = rules; fair = tt; brings = tt }
+    hearNext i j (some (ForAll x)) rules other has = record { called = rules; fair = sentFair i j x other (inl (has (ForAll x) refl)); brings = tt }
+    hearNext i j (some (ForOne k x)) rules other has = go (eqb k i) refl
+      where
+        go : (b : Bool) → eqb k i ≡ b → Next l (record { at = i; call = cond b (frame (Accepted x)) short })
+        go true is = record {
+          called = rules;
+          fair = sentFair i j x other (inr (subst (λ (m : ℕ). ForOne m x ∈ written l j) (eqb-true k i is) (has (ForOne k x) refl)));
+          brings = tt;
+        }
+        go false is = record { called = rules; fair = tt; brings = tt }
+    hearNext i j (some (Timer v m)) rules other has = record { called = rules; fair = tt; brings = tt }
+    hearNext i j (some (Decision v p)) rules other has = record { called = rules; fair = tt; brings = tt }
+
+    -- Of a vault that breaks the rules anything may come.
+    lieNext : (i : ℕ) (x : Frame) → keeps i ≡ true → keeps (x .sender) ≡ false → Next l (callOf l (lie i x))
+    lieNext i x rules lies = go (readFrame (encode x) (x .sender) 4 i) refl
+      where
+        go : (y : Reading) → readFrame (encode x) (x .sender) 4 i ≡ y → Next l (record { at = i; call = frame y })
+        go (Refused k) read = record { called = rules; fair = tt; brings = tt }
+        go (Accepted y) read =
+            let (own, can) = acceptedReadable (encode x) (x .sender) 4 i y (encode-bytes x) read in
+            record { called = rules; fair = (can, λ bad. absurd (clash (subst (λ (j : ℕ). keeps j ≡ true) own bad) lies)); brings = tt }
+
+    moveNext : (m : Move) → isFair keeps m ≡ true → Next l (callOf l m)
+    moveNext (begin i p) ok =
+        let (rules, low) = bothSplit (keeps i) (ltb p (2 ^ 64)) ok in
+        record { called = rules; fair = λ o is. (refl, refl); brings = ltb-true p (2 ^ 64) low }
+    moveNext (hear i j k) ok =
+        let (rules, other) = bothSplit (keeps i) (not (eqb i j)) ok in
+        hearNext i j (pick k (written l j)) rules (eqb-false i j (not-true (eqb i j) other)) (λ e is. pickIn k (written l j) is)
+    moveNext (ring i v) ok = record { called = ok; fair = tt; brings = tt }
+    moveNext (lie i x) ok =
+        let (rules, lies) = bothSplit (keeps i) (not (keeps (x .sender))) ok in
+        lieNext i x rules (not-true (keeps (x .sender)) lies)
+
+  pub scriptRuns : (ms : List Move) → allFair keeps ms ≡ true → Runs (calls ms)
+  unfolding calls
+  scriptRuns [] ok = record { run = nothingYet; wide = tt }
+  scriptRuns (m ∷ ms) ok =
+      let (this, rest) = bothSplit (isFair keeps m) (allFair keeps ms) ok in
+      let so : Runs (calls ms) = scriptRuns ms rest in
+      let next = moveNext so m this in
+      record { run = andThen (so .run) (next .called) (next .fair); wide = (next .brings, so .wide) }

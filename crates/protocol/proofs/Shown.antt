@@ -1,0 +1,110 @@
+-- Three runs of four vaults, by computation: one in which all four decide; one with a vault that says different votes to different
+-- vaults, and the others decide all the same; and one in which nothing is decided in view 0, and all decide in view 1 the plan for
+-- which they are locked, which is not the leader's own (document 01, 'Runs, as demand 3 means them'). Each is a script, so it is a
+-- run (`scriptRuns`), and what its vaults write is computed. The newest move stands first.
+-- Assumes nothing.
+use Prim.Native.Nat.{ℕ, suc, _+_}
+use mathlib.Core.Path.{_≡_, refl}
+use mathlib.Core.Bool.{true, not, cond}
+use mathlib.Core.List.{List, [], _∷_, _++_}
+use mathlib.Core.Option.{Option, some}
+use lib.Dec.{eqb}
+use Rattle.wire.specs.Digits.{numberAt, digits}
+use Rattle.quorum.specs.Sets.{Set, weigh, isQuorum, isBlocking}
+use Rattle.quorum.specs.Bools.{any}
+use Rattle.rules.specs.Rules.{reach, claims, unlocked, allows}
+use Rattle.rules.specs.Counts.{claimed, free, allowed, twoSets, backed, safe, smallest, choice}
+use Rattle.frame.specs.declared.Body.the-variants.{Plan}
+use Rattle.frame.specs.declared.Frame.{Frame}
+use Rattle.frame.specs.Format.{within, lengthOf, encode, bodyAs, decode}
+use Rattle.frame.specs.Refusal.{badForm, tooHigh, badPrevious, viewMissing, misled, refusal, readFrame}
+use Rattle.entry.specs.declared.Entry.{Entry}
+use Rattle.entry.specs.declared.Entry.the-variants.{Decision}
+use Rattle.settings.specs.Settings.{delayOf}
+use Rattle.protocol.specs.Record.{highest}
+use Rattle.protocol.specs.Pass.{does, writes, agreed, pass, stepA, stepB, stepC, stepD, stepVote, stepH}
+use Rattle.protocol.specs.Calls.{answer, started, keep, heard, rung}
+use Rattle.protocol.specs.Runs.{recordAt, written}
+use Rattle.protocol.proofs.Scripts.{Move, begin, hear, ring, lie, pick, calls, allFair}
+
+-- ---- moves
+
+-- Vault i hears entry k of vault j; the leader of view 0 has written its proposal besides, so its entries stand one further.
+abbrev says : ℕ → ℕ → ℕ → Move
+says i j k = hear i j (k + cond (eqb j 0) 1 0)
+
+-- Vaults 0 to 2 hear each other's entry k; or all four do.
+abbrev three : ℕ → List Move
+three k = says 0 1 k ∷ says 0 2 k ∷ says 1 0 k ∷ says 1 2 k ∷ says 2 0 k ∷ says 2 1 k ∷ []
+
+abbrev all : ℕ → List Move
+all k = says 0 3 k ∷ says 1 3 k ∷ says 2 3 k ∷ says 3 0 k ∷ says 3 1 k ∷ says 3 2 k ∷ three k
+
+-- Each vault starts with a plan of its own, and the proposal of vault 0 comes to all.
+abbrev begun : List Move
+begun = hear 1 0 1 ∷ hear 2 0 1 ∷ hear 3 0 1 ∷ begin 3 6 ∷ begin 2 9 ∷ begin 1 8 ∷ begin 0 7 ∷ []
+
+abbrev everyone : Set
+everyone i = true
+
+-- ---- a decision
+
+-- Four rounds of votes.
+abbrev pub plain : List Move
+plain = all 4 ++ (all 3 ++ (all 2 ++ (all 1 ++ begun)))
+
+plainFair : allFair everyone plain ≡ true
+plainFair = refl
+
+-- What each vault wrote last.
+plainDecides : (pick 6 (written (calls plain) 0) ≡ some (Decision 0 7))
+    × (pick 5 (written (calls plain) 1) ≡ some (Decision 0 7))
+    × (pick 5 (written (calls plain) 2) ≡ some (Decision 0 7))
+    × (pick 5 (written (calls plain) 3) ≡ some (Decision 0 7))
+unfolding delayOf answer started keep heard rung pass stepA stepB stepC stepD stepVote stepH does writes agreed highest safe free allowed claimed
+    twoSets backed choice smallest any weigh isQuorum isBlocking reach claims unlocked allows recordAt written calls
+plainDecides = (refl, refl, refl, refl)
+
+-- ---- a vault that lies
+
+-- All but vault 3.
+abbrev pub butOne : Set
+butOne i = not (eqb i 3)
+
+-- Vote-1 of vault 3 in view 0.
+abbrev pub vote3 : ℕ → Frame
+vote3 p = record { kind = 2; sender = 3; view = 0; body = Plan p }
+
+-- Vault 3 says vote-1 for 7 to vaults 0 and 1, and for 9 to vault 2; the others take four rounds of votes.
+abbrev pub lied : List Move
+lied = three 4 ++ (three 3 ++ (three 2 ++ (three 1
+    ++ (lie 0 (vote3 7) ∷ lie 1 (vote3 7) ∷ lie 2 (vote3 9) ∷ hear 1 0 1 ∷ hear 2 0 1 ∷ begin 2 9 ∷ begin 1 8 ∷ begin 0 7 ∷ []))))
+
+liedFair : allFair butOne lied ≡ true
+liedFair = refl
+
+-- ---- a decision in view 1
+
+-- Two rounds of votes in view 0, so that all have sent vote-3 for 7; all timers; view-changes; proofs to all, and suggests to vault 1.
+abbrev locked : List Move
+locked = says 1 0 7 ∷ says 1 2 7 ∷ says 1 3 7 ∷ all 6 ++ (all 4 ++ (ring 0 0 ∷ ring 1 0 ∷ ring 2 0 ∷ ring 3 0 ∷ all 2 ++ (all 1 ++ begun)))
+
+-- Then the proposal of vault 1, and four rounds of votes in view 1.
+abbrev pub later : List Move
+later = all 11 ++ (all 10 ++ (all 9 ++ (all 8 ++ (hear 0 1 7 ∷ hear 2 1 7 ∷ hear 3 1 7 ∷ locked))))
+
+laterFair : allFair everyone later ≡ true
+laterFair = refl
+
+liedDecides : (pick 6 (written (calls lied) 0) ≡ some (Decision 0 7))
+    × (pick 5 (written (calls lied) 1) ≡ some (Decision 0 7))
+    × (pick 5 (written (calls lied) 2) ≡ some (Decision 0 7))
+unfolding delayOf answer started keep heard rung pass stepA stepB stepC stepD stepVote stepH does writes agreed highest safe free allowed claimed twoSets backed choice smallest any weigh isQuorum isBlocking reach claims unlocked allows recordAt written calls within lengthOf encode bodyAs decode badForm tooHigh badPrevious viewMissing misled refusal readFrame numberAt digits
+liedDecides = (refl, refl, refl)
+
+laterDecides : (pick 13 (written (calls later) 0) ≡ some (Decision 1 7))
+    × (pick 12 (written (calls later) 1) ≡ some (Decision 1 7))
+    × (pick 12 (written (calls later) 2) ≡ some (Decision 1 7))
+    × (pick 12 (written (calls later) 3) ≡ some (Decision 1 7))
+unfolding delayOf answer started keep heard rung pass stepA stepB stepC stepD stepVote stepH does writes agreed highest safe free allowed claimed twoSets backed choice smallest any weigh isQuorum isBlocking reach claims unlocked allows recordAt written calls
+laterDecides = (refl, refl, refl, refl)
