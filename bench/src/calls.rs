@@ -2,11 +2,12 @@
 
 use std::hint::black_box;
 
-use crate::case::{Case, SPACE};
-use crate::cases;
+use comparison::case::Case;
+use comparison::cases;
+use comparison::sides::{InPlace, Rattle, Reference, Side};
+
 use crate::clock::{race, Clock, Contender, Group};
-use crate::plain;
-use crate::sides::{Rattle, Reference, Side};
+use crate::summary::{Aim, Summary};
 use crate::table;
 
 const ROUNDS: u32 = 150;
@@ -25,41 +26,33 @@ fn caller<'a, S: Side>(clock: &'a Clock, case: &'a Case) -> Contender<'a> {
     }
 }
 
-/// The least work of the case's call, by plain loops over the Rattle record.
-fn least<'a>(clock: &'a Clock, case: &'a Case) -> Contender<'a> {
-    let mut lent = case.lend::<Rattle>();
-    assert_eq!(plain::least(&case.call, &mut lent), !case.unsound(), "{}", case.name);
-    clock.repeated(lent, |rec| {
-        black_box(plain::least(black_box(&case.call), black_box(rec)));
-    })
-}
-
 /// A copy of a record's bytes.
 fn copier<S: Side>(clock: &Clock) -> Contender<'_> {
     let (from, to) = (vec![1u8; S::RECORD_LEN], vec![0u8; S::RECORD_LEN]);
     clock.repeated(to, move |to| black_box(to).copy_from_slice(black_box(&from)))
 }
 
-fn group<'a>(clock: &'a Clock, case: &'a Case) -> Group<'a> {
-    // Where the output is refused nobody looks at the record.
-    let plain = (case.space >= SPACE).then(|| least(clock, case));
+pub fn group<'a>(clock: &'a Clock, case: &'a Case) -> Group<'a> {
     Group {
-        rattle: caller::<Rattle>(clock, case),
+        library: caller::<Rattle>(clock, case),
+        in_place: caller::<InPlace>(clock, case),
         reference: caller::<Reference>(clock, case),
-        plain,
     }
 }
 
-pub fn print(clock: &Clock, n: u8, f: u8) {
+pub fn print(clock: &Clock, summary: &mut Summary, n: u8, f: u8) {
     let cases = cases::all(n, f);
     cases.iter().for_each(Case::check);
-    let (rattle, reference) = (copier::<Rattle>(clock), copier::<Reference>(clock));
-    let mut names = vec!["floor: a copy of the record's bytes"];
-    let mut groups = vec![Group { rattle, reference, plain: None }];
-    names.extend(cases.iter().map(|case| case.name));
+    let mut groups = vec![Group {
+        library: copier::<Rattle>(clock),
+        in_place: copier::<InPlace>(clock),
+        reference: copier::<Reference>(clock),
+    }];
     groups.extend(cases.iter().map(|case| group(clock, case)));
-    table::head(&format!("1. Single calls, n = {n}, f = {f}"), "nanoseconds a call", true);
-    for (name, times) in names.iter().zip(race(ROUNDS, groups)) {
-        table::row(name, times);
+    let times = race(ROUNDS, groups);
+    table::head(&format!("1. Single calls, n = {n}, f = {f}"), "nanoseconds a call");
+    table::row("floor: a copy of the record's bytes", times[0]);
+    for (case, &times) in cases.iter().zip(&times[1..]) {
+        summary.row(Aim::of(case), &format!("n = {n}: "), &case.name, times);
     }
 }

@@ -1,4 +1,4 @@
-//! Timed sections, and races between both sides and the plain loops.
+//! Timed sections, and races between the library, the in-place vault and the reference.
 
 use std::time::Instant;
 
@@ -95,32 +95,43 @@ impl Contender<'_> {
 
 /// Who does the same work.
 pub struct Group<'a> {
-    pub rattle: Contender<'a>,
+    pub library: Contender<'a>,
+    pub in_place: Contender<'a>,
     pub reference: Contender<'a>,
-    pub plain: Option<Contender<'a>>,
 }
 
 impl Group<'_> {
     fn round(&mut self) {
-        self.rattle.round();
+        self.library.round();
+        self.in_place.round();
         self.reference.round();
-        if let Some(plain) = &mut self.plain {
-            plain.round();
-        }
     }
 
     fn times(&self) -> Times {
-        let plain = self.plain.as_ref().map(|plain| plain.best);
-        Times { rattle: self.rattle.best, reference: self.reference.best, plain }
+        let Group { library, in_place, reference } = self;
+        Times { library: library.best, in_place: in_place.best, reference: reference.best }
     }
 }
 
 /// The best round of each, in nanoseconds a call.
 #[derive(Clone, Copy)]
 pub struct Times {
-    pub rattle: f64,
+    pub library: f64,
+    pub in_place: f64,
     pub reference: f64,
-    pub plain: Option<f64>,
+}
+
+/// Below this a time can't be told well, and no ratio to it is given.
+const LEAST_NANOS: f64 = 5.0;
+
+impl Times {
+    pub fn to_in_place(self) -> Option<f64> {
+        (self.in_place >= LEAST_NANOS).then(|| self.library / self.in_place)
+    }
+
+    pub fn to_reference(self) -> Option<f64> {
+        (self.reference >= LEAST_NANOS).then(|| self.library / self.reference)
+    }
 }
 
 /// Rounds take turns, so that a busy time of the machine hits all alike, and all have rounds in its

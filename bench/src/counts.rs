@@ -3,11 +3,12 @@
 use std::path::{Path, PathBuf};
 use std::process::{Command, Stdio};
 
-use crate::case::Case;
-use crate::cases;
+use comparison::case::Case;
+use comparison::cases;
+use comparison::sides::{Answer, Call, InPlace, Rattle, Reference, Side};
+
 use crate::clock::Times;
 use crate::folder::Folder;
-use crate::sides::{Answer, Call, Rattle, Reference, Side};
 use crate::table;
 
 /// The cases that are counted, by their names in part 1.
@@ -32,12 +33,19 @@ const SIZES: [(u8, u8); 2] = [(4, 1), (64, 21)];
 
 /// The functions that callgrind watches: a call, and nothing besides.
 const RATTLE: &str = "counted_rattle_call";
+const IN_PLACE: &str = "counted_in_place_call";
 const REFERENCE: &str = "counted_reference_call";
 
 #[no_mangle]
 #[inline(never)]
 pub fn counted_rattle_call(call: &Call, rec: &mut [u8], out: &mut [u8]) -> Answer {
     call.on::<Rattle>(rec, out)
+}
+
+#[no_mangle]
+#[inline(never)]
+pub fn counted_in_place_call(call: &Call, rec: &mut [u8], out: &mut [u8]) -> Answer {
+    call.on::<InPlace>(rec, out)
 }
 
 #[no_mangle]
@@ -51,7 +59,9 @@ fn counted() -> Vec<(u8, Case)> {
     let mut counted = Vec::new();
     for (n, f) in SIZES {
         let cases = cases::all(n, f).into_iter();
-        counted.extend(cases.filter(|case| COUNTED.contains(&case.name)).map(|case| (n, case)));
+        counted.extend(
+            cases.filter(|case| COUNTED.contains(&case.name.as_str())).map(|case| (n, case)),
+        );
     }
     assert_eq!(counted.len(), COUNTED.len() * SIZES.len(), "every counted case is there");
     counted
@@ -67,6 +77,7 @@ fn record_file(folder: &Path, number: usize) -> PathBuf {
 pub fn call_each(watched: &str, folder: &Path) {
     let call = match watched {
         RATTLE => counted_rattle_call,
+        IN_PLACE => counted_in_place_call,
         REFERENCE => counted_reference_call,
         _ => panic!("nothing is called {watched}"),
     };
@@ -123,15 +134,18 @@ pub fn print() {
     let title =
         "6. Instructions of one call, by callgrind: they do not depend on the machine's load
    The C library copies and fills without string instructions, which count once for each byte";
-    table::head(title, "instructions", false);
+    table::head(title, "instructions");
     if !valgrind_runs() {
         return println!("skipped: there is no valgrind on this machine");
     }
     let cases = counted();
-    let rattle = instructions::<Rattle>(RATTLE, &cases);
+    let library = instructions::<Rattle>(RATTLE, &cases);
+    let in_place = instructions::<InPlace>(IN_PLACE, &cases);
     let reference = instructions::<Reference>(REFERENCE, &cases);
     for (number, (n, case)) in cases.iter().enumerate() {
-        let counts = Times { rattle: rattle[number], reference: reference[number], plain: None };
+        let [library, in_place, reference] =
+            [&library, &in_place, &reference].map(|counts| counts[number]);
+        let counts = Times { library, in_place, reference };
         table::row(&format!("n = {n}: {}", case.name), counts);
     }
 }

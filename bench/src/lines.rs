@@ -7,6 +7,7 @@ use std::process::Command;
 use std::time::Instant;
 
 use crate::folder::Folder;
+use crate::summary::{Aim, Summary};
 
 const RATTLE: &str = concat!(env!("CARGO_MANIFEST_DIR"), "/../target/bin/vaultlines");
 const REFERENCE: &str =
@@ -78,7 +79,7 @@ fn run(program: &str, folder: &Path) -> (Vec<u8>, Seconds) {
     (std::fs::read(&output).expect("the output is there"), seconds)
 }
 
-pub fn print() {
+pub fn print(summary: &mut Summary) {
     let folder = Folder::new("lines");
     std::fs::write(folder.path().join(INPUT), text()).expect("a place for the input");
     let never = Seconds { clock: f64::INFINITY, processor: f64::INFINITY };
@@ -102,15 +103,17 @@ pub fn print() {
     );
     let head = ["seconds", "lines/s", "CPU seconds", "lines/CPU s"];
     println!("{:12} {:>12} {:>12} {:>12} {:>12}", "", head[0], head[1], head[2], head[3]);
-    for (name, Seconds { clock, processor }) in [("Rattle", rattle), ("reference", reference)] {
+    for (name, Seconds { clock, processor }) in [("vaultlines", rattle), ("reference", reference)] {
         let [by_clock, by_processor] = [clock, processor].map(|seconds| f64::from(LINES) / seconds);
         println!("{name:12} {clock:>12.2} {by_clock:>12.0} {processor:>12.2} {by_processor:>12.0}");
     }
-    let by_clock = rattle.clock / reference.clock;
+    let by_processor = reference.processor / rattle.processor;
     println!(
-        "{:12} {by_clock:>12.2} {:>12} {:>12.2}",
+        "{:12} {:>12} {:>12.2} {:>12} {by_processor:>12.2}",
         "ratio",
         "",
-        rattle.processor / reference.processor
+        reference.clock / rattle.clock,
+        ""
     );
+    summary.add_ratio(Aim::Lines, String::from("by the processor's seconds"), by_processor);
 }

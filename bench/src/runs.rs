@@ -8,12 +8,16 @@ use reference::entry::{parse_entries, Entry};
 use reference::frame::write;
 use reference::record::Settings;
 
-use crate::case::SPACE;
+use comparison::case::SPACE;
+use comparison::sides::{Answer, Call, InPlace, Rattle, Reference, Side};
+
 use crate::clock::Times;
-use crate::sides::{Answer, Call, Rattle, Reference, Side};
+use crate::summary::{Aim, Summary};
 use crate::table;
 
-const ROUNDS: u32 = 5;
+const ROUNDS: usize = 5;
+/// A short run has more rounds.
+const LEAST_CALLS: usize = 10_000;
 /// Calls that are timed together. The best round of each piece counts: a whole run is long enough
 /// to meet other processes in every round.
 const PIECE: usize = 50;
@@ -137,32 +141,33 @@ impl Best {
     }
 }
 
-fn print_run(name: &str, n: u8, f: u8, first: u8) {
+fn print_run(summary: &mut Summary, name: &str, n: u8, f: u8, first: u8) {
     let run = Network::run(n, f, first);
     let expected = answers::<Reference>(n, &run);
     assert!(answers::<Rattle>(n, &run) == expected, "{name}: the answers differ");
+    assert!(answers::<InPlace>(n, &run) == expected, "{name}: the answers differ");
     let accepted = expected.iter().filter(|answer| answer.is_ok()).count();
-    let none = vec![f64::INFINITY; run.chunks(PIECE).count()];
-    let (mut rattle, mut reference) = (Best(none.clone()), Best(none));
-    for _ in 0..ROUNDS {
-        rattle.round::<Rattle>(n, &run);
+    let best = || Best(vec![f64::INFINITY; run.chunks(PIECE).count()]);
+    let (mut library, mut in_place, mut reference) = (best(), best(), best());
+    let rounds = ROUNDS.max(LEAST_CALLS / run.len());
+    for _ in 0..rounds {
+        library.round::<Rattle>(n, &run);
+        in_place.round::<InPlace>(n, &run);
         reference.round::<Reference>(n, &run);
     }
-    let row = |name: &str, parts: f64| {
-        let [rattle, reference] =
-            [&rattle, &reference].map(|best| best.0.iter().sum::<f64>() / parts);
-        table::row(name, Times { rattle, reference, plain: None });
-    };
-    row(&format!("{name}: the whole run"), 1.0);
-    row(&format!("    {} calls, {accepted} accepted: a call", run.len()), run.len() as f64);
+    let a_call = |best: &Best| best.0.iter().sum::<f64>() / run.len() as f64;
+    let [library, in_place, reference] = [&library, &in_place, &reference].map(a_call);
+    let times = Times { library, in_place, reference };
+    summary.row(Aim::Run, "", &format!("{name}: {} calls, {accepted} accepted", run.len()), times);
 }
 
-pub fn print(sizes: &[(u8, u8)]) {
-    let title = "4. Whole runs to a decision of every vault; frames arrive in the order of sending";
-    let unit = format!("nanoseconds, the best of each {PIECE} calls summed");
-    table::head(title, &unit, false);
+pub fn print(summary: &mut Summary, sizes: &[(u8, u8)]) {
+    let title = "4. Whole runs to a decision of every vault; frames arrive in the order of sending
+   A run to view 1 has a silent vault 0";
+    let unit = format!("nanoseconds a call, the best of each {PIECE} calls");
+    table::head(title, &unit);
     for &(n, f) in sizes {
-        print_run(&format!("n = {n}, view 0"), n, f, 0);
-        print_run(&format!("n = {n}, vault 0 silent, view 1"), n, f, 1);
+        print_run(summary, &format!("n = {n}, view 0"), n, f, 0);
+        print_run(summary, &format!("n = {n}, view 1"), n, f, 1);
     }
 }

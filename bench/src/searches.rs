@@ -1,15 +1,24 @@
-//! Part 2: the searches for safe plans, on bad report sets.
+//! Part 2: the searches for safe plans, on bad report sets: apart from the calls, and in whole
+//! calls.
 
 use std::hint::black_box;
 
+use comparison::case::{Before, Case, Expected, Harm, SPACE};
+use comparison::records::spell;
 use comparison::rows::{random, rows, Reports, Rows};
+use comparison::scenes::heard;
 use comparison::{choose_plan, safe_plan};
+use inplace::Search;
+use reference::frame::{Frame, PROOF, PROPOSAL, SUGGEST, VOTE_3};
+use reference::record::{Record, Settings};
 use reference::rng::Rng;
 use reference::rules::{self, Rule};
+use reference::vault::Step;
 
-use crate::clock::{race, Clock, Contender, Group, Times};
-use crate::plain::Search;
+use crate::calls;
+use crate::clock::{race, Clock, Group, Times};
 use crate::shapes::{Shape, ASKED, VIEW};
+use crate::summary::{Aim, Summary};
 use crate::table;
 
 /// Enough to find the bad sets, and to time those well.
@@ -18,20 +27,30 @@ const ROUNDS: u32 = 40;
 /// How many of the worst sets are timed well.
 const FINALISTS: usize = 5;
 const RANDOM_SETS: u64 = 40;
+/// The vaults of the summary's slowest search.
+const LARGE: usize = 64;
 
-/// A report set in the forms of both sides, and what is asked of it.
+/// A report set in the forms of all sides, and what is asked of it.
 struct Input {
     name: String,
     n: usize,
     f: usize,
     reports: Reports,
     flat: Rows,
+    /// The in-place vault's record, with the reports of the current view.
+    rec: Vec<u8>,
     rule: Rule,
     plan: u64,
 }
 
 impl Input {
-    fn rattle(&self) -> Option<u64> {
+    fn new(name: String, n: usize, f: usize, reports: Reports, rule: Rule, plan: u64) -> Input {
+        let flat = rows(&mut Rng(9), VIEW, &reports);
+        let rec = spell(&kept(n, f, &reports, rule, plan));
+        Input { name, n, f, reports, flat, rec, rule, plan }
+    }
+
+    fn library(&self) -> Option<u64> {
         let Input { n, f, flat, plan, .. } = self;
         match self.rule {
             Rule::One => choose_plan(flat, *n, *f, VIEW, *plan),
@@ -47,38 +66,80 @@ impl Input {
         }
     }
 
-    fn plain(&self) -> Option<u64> {
-        let search = Search { n: self.n, f: self.f, reports: &self.reports };
-        match self.rule {
-            Rule::One => search.choose(self.plan),
-            Rule::Three => search.safe(self.plan).then_some(self.plan),
+    /// The in-place search. Who reports is found beforehand, as the library's rows are.
+    fn in_place(&self) -> impl Fn() -> Option<u64> + '_ {
+        let search = match self.rule {
+            Rule::One => Search::of_suggests(&self.rec),
+            Rule::Three => Search::of_proofs(&self.rec),
+        };
+        let search = search.expect("the record is sound");
+        move || match self.rule {
+            Rule::One => black_box(&search).choose(self.plan),
+            Rule::Three => black_box(&search).safe(self.plan).then_some(self.plan),
         }
     }
 
     /// All three find the same.
     fn check(&self) {
         let answer = self.reference();
-        assert_eq!(self.rattle(), answer, "{}", self.name);
-        assert_eq!(self.plain(), answer, "{}", self.name);
-    }
-
-    fn contender<'a>(
-        &'a self,
-        clock: &'a Clock,
-        search: fn(&Input) -> Option<u64>,
-    ) -> Contender<'a> {
-        clock.repeated((), move |()| {
-            black_box(search(black_box(self)));
-        })
+        assert_eq!(self.library(), answer, "{}", self.name);
+        assert_eq!(self.in_place()(), answer, "{}", self.name);
     }
 
     fn group<'a>(&'a self, clock: &'a Clock) -> Group<'a> {
+        let in_place = self.in_place();
         Group {
-            rattle: self.contender(clock, Input::rattle),
-            reference: self.contender(clock, Input::reference),
-            plain: Some(self.contender(clock, Input::plain)),
+            library: clock.repeated((), move |()| {
+                black_box(black_box(self).library());
+            }),
+            in_place: clock.repeated((), move |()| {
+                black_box(in_place());
+            }),
+            reference: clock.repeated((), move |()| {
+                black_box(black_box(self).reference());
+            }),
         }
     }
+
+    /// A vote of a later view, after which C or D searches.
+    fn whole_call(&self) -> Case {
+        let expected: &[Step] = match (self.rule, self.reference()) {
+            (_, None) => &[],
+            (Rule::One, Some(_)) => &[Step::C],
+            (Rule::Three, Some(_)) => &[Step::D],
+        };
+        let record = kept(self.n, self.f, &self.reports, self.rule, self.plan);
+        Case {
+            name: String::from("    the same in a whole call"),
+            before: Before::Contents(Box::new(record)),
+            searches: true,
+            harm: Harm::None,
+            call: heard(Frame::with_plan(VOTE_3, 2, VIEW + 1, 0)),
+            space: SPACE,
+            expected: Expected::Steps(expected),
+        }
+    }
+}
+
+/// The contents of a vault in VIEW that has these reports: of the leader, which is vault 0 (Rule
+/// 1), or of vault 1 with the leader's proposal of the plan (Rule 3).
+fn kept(n: usize, f: usize, reports: &Reports, rule: Rule, plan: u64) -> Record {
+    let (id, kind) = match rule {
+        Rule::One => (0, SUGGEST),
+        Rule::Three => (1, PROOF),
+    };
+    let settings = Settings { n: n as u8, f: f as u8, id, class: 2 };
+    let mut record = Record::new(settings, plan);
+    record.view = VIEW;
+    for (sender, told) in (0..).zip(reports) {
+        if let Some(told) = told {
+            record.keep(Frame::with_reports(kind, sender, VIEW, *told));
+        }
+    }
+    if id != 0 {
+        record.keep(Frame::with_plan(PROPOSAL, 0, VIEW, plan));
+    }
+    record
 }
 
 /// Every shape and some random sets, with the plans that are worth asking for.
@@ -98,40 +159,39 @@ fn inputs(rule: Rule, n: usize, f: usize) -> Vec<Input> {
     for (name, reports) in sets {
         for &(plan, whose) in asked {
             let name = format!("{name}; {whose}");
-            let flat = rows(&mut rng, VIEW, &reports);
-            inputs.push(Input { name, n, f, reports: reports.clone(), flat, rule, plan });
+            inputs.push(Input::new(name, n, f, reports.clone(), rule, plan));
         }
     }
     inputs
 }
 
 /// What can be bad about a set.
-#[derive(Clone, Copy)]
+#[derive(Clone, Copy, PartialEq)]
 enum Bad {
-    ForRattle,
+    ForLibrary,
+    ForInPlace,
     ForReference,
     Ratio,
-    RatioToPlain,
 }
 
 impl Bad {
-    const ALL: [Bad; 4] = [Bad::ForRattle, Bad::ForReference, Bad::Ratio, Bad::RatioToPlain];
+    const ALL: [Bad; 4] = [Bad::ForLibrary, Bad::ForInPlace, Bad::ForReference, Bad::Ratio];
 
     fn name(self) -> &'static str {
         match self {
-            Bad::ForRattle => "slowest for Rattle",
+            Bad::ForLibrary => "slowest for the library",
+            Bad::ForInPlace => "slowest in place",
             Bad::ForReference => "slowest for the reference",
-            Bad::Ratio => "worst ratio",
-            Bad::RatioToPlain => "worst ratio to plain",
+            Bad::Ratio => "worst ratio to in-place",
         }
     }
 
     fn measure(self, times: Times) -> f64 {
         match self {
-            Bad::ForRattle => times.rattle,
+            Bad::ForLibrary => times.library,
+            Bad::ForInPlace => times.in_place,
             Bad::ForReference => times.reference,
-            Bad::Ratio => times.rattle / times.reference,
-            Bad::RatioToPlain => times.rattle / times.plain.unwrap_or(f64::INFINITY),
+            Bad::Ratio => times.to_in_place().unwrap_or(0.0),
         }
     }
 
@@ -147,8 +207,9 @@ fn timed<'a>(clock: &Clock, rounds: u32, inputs: Vec<&'a Input>) -> Vec<(&'a Inp
     inputs.into_iter().zip(times).collect()
 }
 
-/// The worst few of a quick race are timed well, and the worst of these is printed.
-fn print_worst(clock: &Clock, rule: Rule, n: usize, f: usize) {
+/// The worst few of a quick race are timed well, and the worst of these is printed, with a whole
+/// call.
+fn print_worst(clock: &Clock, summary: &mut Summary, rule: Rule, n: usize, f: usize) {
     let inputs = inputs(rule, n, f);
     inputs.iter().for_each(Input::check);
     let mut found = timed(&clock.quick(), QUICK_ROUNDS, inputs.iter().collect());
@@ -162,16 +223,26 @@ fn print_worst(clock: &Clock, rule: Rule, n: usize, f: usize) {
         let mut finalists = timed(clock, ROUNDS, finalists);
         bad.sort(&mut finalists);
         let (input, times) = finalists[0];
-        table::row(&format!("{step}, n = {n}: {}", bad.name()), times);
+        let name = format!("{step}, n = {n}: {}", bad.name());
+        let whole = input.whole_call();
+        whole.check();
+        let whole_times = race(ROUNDS, vec![calls::group(clock, &whole)])[0];
+        if n == LARGE && bad == Bad::ForLibrary {
+            summary.row(Aim::Search, "", &name, times);
+            summary.row(Aim::Search, &format!("{name}: "), &whole.name, whole_times);
+        } else {
+            table::row(&name, times);
+            table::row(&whole.name, whole_times);
+        }
         println!("    {}", input.name);
     }
 }
 
-pub fn print(clock: &Clock, sizes: &[(u8, u8)]) {
-    table::head("2. Searches for safe plans in bad cases", "nanoseconds a search", true);
+pub fn print(clock: &Clock, summary: &mut Summary, sizes: &[(u8, u8)]) {
+    table::head("2. Searches for safe plans in bad cases", "nanoseconds a search");
     for rule in [Rule::One, Rule::Three] {
         for &(n, f) in sizes {
-            print_worst(clock, rule, usize::from(n), usize::from(f));
+            print_worst(clock, summary, rule, usize::from(n), usize::from(f));
         }
     }
 }

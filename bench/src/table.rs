@@ -5,30 +5,22 @@ use crate::clock::Times;
 /// The width of what stands before the numbers.
 const NAME: usize = 52;
 
-/// A table's title and the names of its columns: both sides and their ratio, and where there are
-/// plain loops these and the ratio to them.
-pub fn head(title: &str, unit: &str, plain: bool) {
+/// A table's title and the names of its columns.
+pub fn head(title: &str, unit: &str) {
     println!();
     println!("{title}");
-    let sides = format!("{:>11} {:>11} {:>8}", "Rattle", "reference", "ratio");
-    let plain = if plain { format!(" {:>11} {:>8}", "plain", "ratio") } else { String::new() };
-    println!("{unit:NAME$} {sides}{plain}");
+    let in_place = format!("{:>11} {:>11} {:>8}", "library", "in-place", "ratio");
+    println!("{unit:NAME$} {in_place} {:>11} {:>8}", "reference", "ratio");
 }
 
-/// One line. A ratio is Rattle's number over the other's: below 1 Rattle is the better.
+/// One line. A ratio is the library's number over the other's: below 1 the library is the better.
 pub fn row(name: &str, times: Times) {
-    let Times { rattle, reference, plain } = times;
-    let sides = format!("{rattle:>11.0} {reference:>11.0} {}", ratio(rattle, reference));
-    match plain {
-        Some(plain) => println!("{name:NAME$} {sides} {plain:>11.0} {}", ratio(rattle, plain)),
-        None => println!("{name:NAME$} {sides}"),
-    }
+    let Times { library, in_place, reference } = times;
+    let [to_in_place, to_reference] = [times.to_in_place(), times.to_reference()].map(ratio);
+    let sides = format!("{library:>11.0} {in_place:>11.0} {to_in_place:>8}");
+    println!("{name:NAME$} {sides} {reference:>11.0} {to_reference:>8}");
 }
 
-/// None where the other number is too small to be told well.
-fn ratio(rattle: f64, other: f64) -> String {
-    if other < 5.0 {
-        return format!("{:>8}", "-");
-    }
-    format!("{:>8.2}", rattle / other)
+pub fn ratio(ratio: Option<f64>) -> String {
+    ratio.map_or_else(|| String::from("-"), |ratio| format!("{ratio:.2}"))
 }

@@ -1,8 +1,13 @@
 //! The exported Rattle functions, each behind a safe function. A slice passes as a pointer and then a length.
 //! Nothing checks these declarations against the Rattle source, so they are few and plain.
+pub mod case;
+pub mod cases;
 pub mod frames;
+pub mod random;
 pub mod records;
 pub mod rows;
+pub mod scenes;
+pub mod sides;
 pub mod vaults;
 
 use records::Class;
@@ -47,7 +52,6 @@ mod sys {
             out_len: usize,
         ) -> u32;
         pub fn record_class(bytes: *const u8, len: usize) -> u32;
-        pub fn record_again(bytes: *mut u8, len: usize) -> u32;
     }
 }
 
@@ -133,9 +137,4 @@ pub fn record_class(bytes: &[u8]) -> Class {
         2 => Class::Unsound,
         answer => panic!("no such answer: {answer}"),
     }
-}
-
-/// Decodes a record and encodes it again; false where the length is wrong.
-pub fn record_again(bytes: &mut [u8]) -> bool {
-    unsafe { sys::record_again(bytes.as_mut_ptr(), bytes.len()) == 1 }
 }

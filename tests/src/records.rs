@@ -1,67 +1,93 @@
-//! Records by contents, in the byte layout of the Rattle vault: 11,703 bytes, big-endian.
-//! n, f, id, class (1 each), view (4), starting plan (8), then 899 marks (1 each), 899 views (4 each), 899 plans (8 each).
-//! Slots: the kept frame of kind k and sender s at (k - 1) * 64 + s; report j of a kept suggest or proof at
-//! 512 + (k - 7) * 192 + j * 64 + s; the own previous vote-1 and vote-2 at 896 and 897; the decision at 898.
+//! Records by contents, in the byte layout of the Rattle vault: 11,703 bytes, big-endian, in two parts with a head of 8 bytes each.
+//! The shared part: n, f, id, class (1 each), view (4), then slots 0 to 63. The block: starting plan (8), then slots 64 to 898.
+//! A slot has 13 bytes: mark (1), view (4), plan (8). The kept frame of kind k and sender s is slot (k + 2) mod 8 * 64 + s, so that the
+//! view-changes come first; report j of a kept suggest or proof is slot 512 + (k - 7) * 192 + j * 64 + s; the own previous vote-1 and
+//! vote-2 are slots 896 and 897, the decision is slot 898.
 use reference::frame::{Body, Frame, Report};
 use reference::record::{Record, Settings};
 use reference::{calls, record, scripts};
 
 pub const LEN: usize = 11_703;
 pub const SLOTS: usize = 899;
-pub const MARKS: usize = 16;
-pub const VIEWS: usize = MARKS + SLOTS;
-pub const PLANS: usize = VIEWS + 4 * SLOTS;
+pub const ROWS: usize = 64;
+pub const HEAD: usize = 8;
+pub const SLOT: usize = 13;
+/// The length of the shared part: the block begins here, with the starting plan.
+pub const SHARED: usize = HEAD + ROWS * SLOT;
+/// The slots of the own previous vote-1 and vote-2.
+pub const PREVIOUS: [usize; 2] = [896, 897];
+pub const DECISION: usize = 898;
 
 pub fn frame_slot(kind: usize, sender: usize) -> usize {
-    (kind - 1) * 64 + sender
+    (kind + 2) % 8 * ROWS + sender
 }
 
 pub fn report_slot(kind: usize, which: usize, sender: usize) -> usize {
-    512 + (kind - 7) * 192 + which * 64 + sender
+    512 + (kind - 7) * 192 + which * ROWS + sender
 }
 
-fn put(bytes: &mut [u8], slot: usize, view: u32, plan: u64) {
-    bytes[MARKS + slot] = 1;
-    bytes[VIEWS + 4 * slot..][..4].copy_from_slice(&view.to_be_bytes());
-    bytes[PLANS + 8 * slot..][..8].copy_from_slice(&plan.to_be_bytes());
+/// Where a slot's bytes stand: mark, view, plan.
+pub fn place(slot: usize) -> usize {
+    if slot < ROWS {
+        HEAD + SLOT * slot
+    } else {
+        SHARED + HEAD + SLOT * (slot - ROWS)
+    }
+}
+
+pub fn put(bytes: &mut [u8], slot: usize, mark: u8, view: u32, plan: u64) {
+    let bytes = &mut bytes[place(slot)..][..SLOT];
+    bytes[0] = mark;
+    bytes[1..5].copy_from_slice(&view.to_be_bytes());
+    bytes[5..].copy_from_slice(&plan.to_be_bytes());
+}
+
+/// A slot's mark, view and plan.
+pub fn get(bytes: &[u8], slot: usize) -> (u8, u32, u64) {
+    let bytes = &bytes[place(slot)..][..SLOT];
+    (bytes[0], u32::from_be_bytes(bytes[1..5].try_into().unwrap()), u64::from_be_bytes(bytes[5..].try_into().unwrap()))
+}
+
+/// The settings, current view, starting plan of a record in which nothing is kept.
+pub fn fresh([n, f, id, class]: [u8; 4], view: u32, plan: u64) -> Vec<u8> {
+    let mut bytes = vec![0; LEN];
+    bytes[..4].copy_from_slice(&[n, f, id, class]);
+    bytes[4..8].copy_from_slice(&view.to_be_bytes());
+    bytes[SHARED..][..8].copy_from_slice(&plan.to_be_bytes());
+    bytes
 }
 
 fn put_report(bytes: &mut [u8], slot: usize, report: Option<Report>) {
     if let Some(report) = report {
-        put(bytes, slot, report.view, report.plan);
+        put(bytes, slot, 1, report.view, report.plan);
     }
 }
 
 /// The bytes that spell the contents.
 pub fn spell(record: &Record) -> Vec<u8> {
-    let mut bytes = vec![0; LEN];
     let Settings { n, f, id, class } = record.settings;
-    bytes[..4].copy_from_slice(&[n, f, id, class]);
-    bytes[4..8].copy_from_slice(&record.view.to_be_bytes());
-    bytes[8..16].copy_from_slice(&record.start_plan.to_be_bytes());
+    let mut bytes = fresh([n, f, id, class], record.view, record.start_plan);
     for (sender, row) in record.rows.iter().enumerate() {
         for (place, frame) in row.iter().enumerate() {
             let Some(frame) = frame else { continue };
             let kind = place + 1;
-            put(&mut bytes, frame_slot(kind, sender), frame.view, frame.plan().unwrap_or(0));
+            put(&mut bytes, frame_slot(kind, sender), 1, frame.view, frame.plan().unwrap_or(0));
             for (which, report) in frame.reports().into_iter().flatten().enumerate() {
                 put_report(&mut bytes, report_slot(kind, which, sender), report);
             }
         }
     }
-    put_report(&mut bytes, 896, record.previous_vote1);
-    put_report(&mut bytes, 897, record.previous_vote2);
-    put_report(&mut bytes, 898, record.decision);
+    put_report(&mut bytes, PREVIOUS[0], record.previous_vote1);
+    put_report(&mut bytes, PREVIOUS[1], record.previous_vote2);
+    put_report(&mut bytes, DECISION, record.decision);
     bytes
 }
 
 /// A slot's contents; None where its mark is neither 0 nor 1, or it is absent with a nonzero byte.
 fn slot(bytes: &[u8], at: usize) -> Option<Option<Report>> {
-    let view = u32::from_be_bytes(bytes[VIEWS + 4 * at..][..4].try_into().unwrap());
-    let plan = u64::from_be_bytes(bytes[PLANS + 8 * at..][..8].try_into().unwrap());
-    match bytes[MARKS + at] {
-        0 if view == 0 && plan == 0 => Some(None),
-        1 => Some(Some(Report { view, plan })),
+    match get(bytes, at) {
+        (0, 0, 0) => Some(None),
+        (1, view, plan) => Some(Some(Report { view, plan })),
         _ => None,
     }
 }
@@ -89,16 +115,16 @@ fn kept(bytes: &[u8], kind: usize, sender: usize) -> Option<Option<Frame>> {
 /// The contents that bytes of the right length spell; None where some slot spells nothing.
 pub fn contents(bytes: &[u8]) -> Option<Record> {
     let settings = Settings { n: bytes[0], f: bytes[1], id: bytes[2], class: bytes[3] };
-    let mut record = Record::new(settings, u64::from_be_bytes(bytes[8..16].try_into().unwrap()));
+    let mut record = Record::new(settings, u64::from_be_bytes(bytes[SHARED..][..8].try_into().unwrap()));
     record.view = u32::from_be_bytes(bytes[4..8].try_into().unwrap());
     for kind in 1..=8 {
-        for sender in 0..64 {
+        for sender in 0..ROWS {
             record.rows[sender][kind - 1] = kept(bytes, kind, sender)?;
         }
     }
-    record.previous_vote1 = slot(bytes, 896)?;
-    record.previous_vote2 = slot(bytes, 897)?;
-    record.decision = slot(bytes, 898)?;
+    record.previous_vote1 = slot(bytes, PREVIOUS[0])?;
+    record.previous_vote2 = slot(bytes, PREVIOUS[1])?;
+    record.decision = slot(bytes, DECISION)?;
     Some(record)
 }
 

@@ -1,6 +1,7 @@
 //! The vault's calls through the static library against the reference by contents: the answer, and every byte of record and output.
 use comparison::frames::{offered, plan, reports, view};
-use comparison::records::{class, contents, reached, spell, Class, LEN};
+use comparison::records::{class, contents, place, reached, spell, Class, HEAD, LEN, SLOTS};
+use comparison::sides::{Call, Rattle};
 use comparison::vaults;
 use reference::frame::{write, Body, Frame};
 use reference::record::{Record, Settings};
@@ -10,12 +11,6 @@ use reference::vault::{self, Done};
 const ROUNDS: u32 = 100_000;
 /// Records that calls are made on in turn.
 const POOL: u64 = 100;
-
-enum Call {
-    Start { settings: Settings, plan: u64 },
-    Frame { link: u8, bytes: Vec<u8> },
-    Timer { view: u32 },
-}
 
 /// A record to lend: sound, or blank with any contents, or damaged, or of a wrong length.
 fn lent(rng: &mut Rng, record: &Record) -> Vec<u8> {
@@ -29,11 +24,11 @@ fn lent(rng: &mut Rng, record: &Record) -> Vec<u8> {
         }
         3 => {
             let at = match rng.below(3) {
-                0 => rng.below(16),
-                1 => 16 + rng.below(899),
-                _ => rng.below(LEN as u64),
+                0 => rng.below(HEAD as u64) as usize,
+                1 => place(rng.below(SLOTS as u64) as usize),
+                _ => rng.below(LEN as u64) as usize,
             };
-            bytes[at as usize] = rng.next() as u8;
+            bytes[at] = rng.next() as u8;
         }
         4 => {
             let len = match rng.below(4) {
@@ -112,14 +107,6 @@ fn expected(rec: &[u8], call: &Call, space: usize) -> Result<Done, u8> {
     }
 }
 
-fn made(rec: &mut [u8], call: &Call, out: &mut [u8]) -> Result<usize, u8> {
-    match call {
-        &Call::Start { settings: Settings { n, f, id, class }, plan } => vaults::start(rec, n, f, id, class, plan, out),
-        Call::Frame { link, bytes } => vaults::frame(rec, *link, bytes, out),
-        &Call::Timer { view } => vaults::timer(rec, view, out),
-    }
-}
-
 #[test]
 fn every_byte_is_as_document_01_says() {
     let all = reached(7, 60);
@@ -138,7 +125,7 @@ fn every_byte_is_as_document_01_says() {
         rng.fill(&mut out);
         let call = call(&mut rng, &rec);
         let (rec_before, out_before) = (rec.clone(), out.clone());
-        let answer = made(&mut rec, &call, &mut out);
+        let answer = call.on::<Rattle>(&mut rec, &mut out);
         match expected(&rec_before, &call, out_before.len()) {
             Ok(done) => {
                 let written: Vec<u8> = done.entries.iter().flat_map(|entry| entry.bytes()).collect();

@@ -14,6 +14,7 @@ mod record {
 }
 
 #[allow(dead_code)]
+#[rustfmt::skip]
 #[path = "../../reference/src/sim.rs"]
 mod sim;
 

@@ -1,6 +1,5 @@
-//! Both vaults behind one interface: the same calls, each over records in its own layout.
-
-use comparison::{records, vaults};
+//! The vaults behind one interface: the same calls, each over records in its own layout.
+use crate::{records, vaults};
 use reference::calls;
 use reference::record::{self, Record, Settings};
 
@@ -24,6 +23,9 @@ pub trait Side {
 /// The proved vault, through its C functions.
 pub struct Rattle;
 
+/// The vault in plain Rust, in place on the Rattle vault's records.
+pub struct InPlace;
+
 /// The independent vault in Rust.
 pub struct Reference;
 
@@ -41,6 +43,31 @@ impl Side for Rattle {
 
     fn timer(rec: &mut [u8], view: u32, out: &mut [u8]) -> Answer {
         vaults::timer(rec, view, out)
+    }
+
+    fn contents(rec: &[u8]) -> Option<Record> {
+        records::contents(rec)
+    }
+
+    fn spell(record: &Record) -> Vec<u8> {
+        records::spell(record)
+    }
+}
+
+impl Side for InPlace {
+    const RECORD_LEN: usize = records::LEN;
+
+    fn start(rec: &mut [u8], settings: Settings, plan: u64, out: &mut [u8]) -> Answer {
+        let Settings { n, f, id, class } = settings;
+        inplace::start(rec, [n, f, id, class], plan, out)
+    }
+
+    fn frame(rec: &mut [u8], link: u8, bytes: &[u8], out: &mut [u8]) -> Answer {
+        inplace::frame(rec, link, bytes, out)
+    }
+
+    fn timer(rec: &mut [u8], view: u32, out: &mut [u8]) -> Answer {
+        inplace::timer(rec, view, out)
     }
 
     fn contents(rec: &[u8]) -> Option<Record> {
@@ -77,7 +104,7 @@ impl Side for Reference {
     }
 }
 
-/// One call, the same for both sides.
+/// One call, the same for all sides.
 pub enum Call {
     Start { settings: Settings, plan: u64 },
     Frame { link: u8, bytes: Vec<u8> },

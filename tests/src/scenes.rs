@@ -1,11 +1,9 @@
 //! What a vault goes through before a timed call.
 
-use reference::frame::{
-    self, leader, Frame, Report, PROOF, PROPOSAL, SUGGEST, VIEW_CHANGE, VOTE_1,
-};
+use reference::frame::{self, leader, Frame, Report, PROOF, PROPOSAL, SUGGEST, VIEW_CHANGE, VOTE_1};
 use reference::record::Settings;
 
-use crate::case::{Case, Expected, Harm, SPACE};
+use crate::case::{Before, Case, Expected, Harm, SPACE};
 use crate::sides::Call;
 
 const CLASS: u8 = 2;
@@ -67,12 +65,13 @@ impl Scene {
         (0..).zip(&senders[..count]).fold(self, |scene, (i, &sender)| scene.hear(frame(sender, i)))
     }
 
-    pub fn case(self, name: &'static str, call: Call, expected: Expected) -> Case {
-        Case { name, before: self.calls, harm: Harm::None, call, space: SPACE, expected }
+    pub fn case(self, name: &str, call: Call, expected: Expected) -> Case {
+        let before = Before::Calls(self.calls);
+        Case { name: name.into(), before, searches: false, harm: Harm::None, call, space: SPACE, expected }
     }
 
     /// The last of the calls is the one to time.
-    pub fn last(mut self, name: &'static str, expected: Expected) -> Case {
+    pub fn last(mut self, name: &str, expected: Expected) -> Case {
         let call = self.calls.pop().expect("there is a call");
         self.case(name, call, expected)
     }
@@ -103,12 +102,7 @@ pub const BACKED_PLAN: u64 = u64::MAX;
 
 /// A vault that has heard reports from n - f - 1 others: with its own they are a quorum from the
 /// last one on. `reports` gets a sender's place among them.
-pub fn quorum_reports(
-    scene: Scene,
-    kind: u8,
-    view: u32,
-    reports: impl Fn(u32) -> [Option<Report>; 3],
-) -> Scene {
+pub fn quorum_reports(scene: Scene, kind: u8, view: u32, reports: impl Fn(u32) -> [Option<Report>; 3]) -> Scene {
     let count = scene.quorum() - 1;
     scene.hear_some(count, |sender, i| Frame::with_reports(kind, sender, view, reports(i)))
 }
@@ -176,7 +170,5 @@ pub fn voting(n: u8, f: u8, kind: u8) -> Scene {
     let proposal = Frame::with_plan(PROPOSAL, 0, 0, START_PLAN);
     let scene = Scene::started(n, f, 1).hear(proposal);
     let count = scene.quorum() - 1;
-    (VOTE_1..=kind).fold(scene, |scene, kind| {
-        scene.hear_some(count, |sender, _| Frame::with_plan(kind, sender, 0, START_PLAN))
-    })
+    (VOTE_1..=kind).fold(scene, |scene, kind| scene.hear_some(count, |sender, _| Frame::with_plan(kind, sender, 0, START_PLAN)))
 }

@@ -1,14 +1,11 @@
-//! The timed calls of part 1.
-
+//! The calls to time and to measure: of every kind, accepted and refused, with nothing kept and with all.
 use reference::frame::{Frame, PROOF, PROPOSAL, SUGGEST, VOTE_1, VOTE_2, VOTE_3, VOTE_4};
+use reference::record::Settings;
 use reference::rules::Clause;
 use reference::vault::Step;
 
 use crate::case::{Case, Expected, Harm, SPACE};
-use crate::scenes::{
-    contested_view, full, heard, lone, one_set, quorum_reports, report, two_sets, voting, Scene,
-    BACKED_PLAN,
-};
+use crate::scenes::{contested_view, full, heard, lone, one_set, quorum_reports, report, two_sets, voting, Scene, BACKED_PLAN};
 use crate::sides::Call;
 
 /// Starts, and frames after which no step acts.
@@ -17,24 +14,21 @@ fn quiet(n: u8, f: u8) -> Vec<Case> {
     let all = usize::from(n) - 1;
     let none = || Expected::Steps(&[]);
     let vote = |view| heard(Frame::with_plan(VOTE_1, 2, view, 5));
-    let leader_waits = Scene::entered(n, f, 1, view)
-        .hear_some(all, |sender, i| Frame::with_reports(SUGGEST, sender, view, lone(i)));
+    let leader_waits = Scene::entered(n, f, 1, view).hear_some(all, |sender, i| Frame::with_reports(SUGGEST, sender, view, lone(i)));
     let voter_waits = Scene::entered(n, f, n - 1, view)
         .hear(Frame::with_plan(PROPOSAL, 1, view, BACKED_PLAN))
         .hear_some(all, |sender, i| Frame::with_reports(PROOF, sender, view, lone(i)));
     let (leads, follows) = (Scene::blank(n, f, 0), Scene::blank(n, f, 1));
     let (start_leading, start) = (leads.start(), follows.start());
     vec![
-        leads.case(
-            "start, leads view 0: C, D",
-            start_leading,
-            Expected::Steps(&[Step::C, Step::D]),
-        ),
+        leads.case("start, leads view 0: C, D", start_leading, Expected::Steps(&[Step::C, Step::D])),
         follows.case("start, does not lead view 0", start, none()),
         Scene::started(n, f, 1).case("vote, nothing kept", vote(0), none()),
         full(n, f).case("vote, all kept", vote(20_000), none()),
-        leader_waits.case("vote, C searches n suggests in vain", vote(view), none()),
-        voter_waits.case("vote, D searches n proofs in vain", vote(view), none()),
+        full(n, f).case("view-change, all kept", heard(Frame::view_change(2, 20_000)), none()),
+        full(n, f).case("proof, all kept", heard(Frame::with_reports(PROOF, 2, 20_000, lone(0))), none()),
+        Case { searches: true, ..leader_waits.case("vote, C searches n suggests in vain", vote(view), none()) },
+        Case { searches: true, ..voter_waits.case("vote, D searches n proofs in vain", vote(view), none()) },
     ]
 }
 
@@ -86,24 +80,35 @@ fn stepping(n: u8, f: u8) -> Vec<Case> {
     ]
 }
 
-/// Refused frames, and timers.
+/// Timers, and starts, frames and timers that are refused.
 fn refusals(n: u8, f: u8) -> Vec<Case> {
     let vote = |sender, view| heard(Frame::with_plan(VOTE_1, sender, view, 5));
     let empty = || Call::Frame { link: 0, bytes: Vec::new() };
+    let short = Call::Frame { link: 0, bytes: vec![VOTE_1, 0] };
     let same_plan = [report(5, 1), report(4, 1), report(3, 2)];
     let bad_report = heard(Frame::with_reports(PROOF, 0, 20_000, same_plan));
+    let not_leader = heard(Frame::with_plan(PROPOSAL, 0, 20_000 * u32::from(n) + 1, 5));
     let refused = Expected::Refused;
     let none = || Expected::Steps(&[]);
+    let (blank, last_view) = (Scene::blank(n, f, 1), Scene::entered(n, f, 1, u32::MAX));
+    let start = || blank.start();
+    let class = Call::Start { settings: Settings { n, f, id: 1, class: 8 }, plan: 5 };
     vec![
-        Scene::started(n, f, 1).case("frame refused 9 (empty), nothing kept", empty(), refused(9)),
-        full(n, f).case("frame refused 9 (empty), all kept", empty(), refused(9)),
-        full(n, f).case("frame refused 11 (sender n), all kept", vote(n, 20_000), refused(11)),
-        full(n, f).case("frame refused 14 (previous), all kept", bad_report, refused(14)),
-        full(n, f).case("frame refused 16 (view over), all kept", vote(0, 1), refused(16)),
-        full(n, f).case("frame refused 17 (kept), all kept", vote(0, 10_000), refused(17)),
         Scene::started(n, f, 1).case("timer, nothing kept", Call::Timer { view: 0 }, none()),
         full(n, f).case("timer, all kept", Call::Timer { view: 2 }, none()),
+        Scene::blank(n, f, 1).case("frame refused 2 (blank record)", vote(0, 0), refused(2)),
+        full(n, f).case("start refused 4 (started), all kept", start(), refused(4)),
+        Scene::blank(n, f, 1).case("start refused 8 (class)", class, refused(8)),
+        Scene::started(n, f, 1).case("frame refused 9 (empty), nothing kept", empty(), refused(9)),
+        full(n, f).case("frame refused 9 (empty), all kept", empty(), refused(9)),
+        full(n, f).case("frame refused 10 (length), all kept", short, refused(10)),
+        full(n, f).case("frame refused 11 (sender n), all kept", vote(n, 20_000), refused(11)),
+        full(n, f).case("frame refused 14 (previous), all kept", bad_report, refused(14)),
+        full(n, f).case("frame refused 15 (leader), all kept", not_leader, refused(15)),
+        full(n, f).case("frame refused 16 (view over), all kept", vote(0, 1), refused(16)),
+        full(n, f).case("frame refused 17 (kept), all kept", vote(0, 10_000), refused(17)),
         full(n, f).case("timer refused 18, all kept", Call::Timer { view: 0 }, refused(18)),
+        last_view.case("timer refused 19, view-changes kept", Call::Timer { view: u32::MAX }, refused(19)),
     ]
 }
 
@@ -122,7 +127,6 @@ fn on_the_way_in(n: u8, f: u8) -> Vec<Case> {
 }
 
 pub fn all(n: u8, f: u8) -> Vec<Case> {
-    let groups =
-        [quiet(n, f), searching(n, f), stepping(n, f), refusals(n, f), on_the_way_in(n, f)];
+    let groups = [quiet(n, f), searching(n, f), stepping(n, f), refusals(n, f), on_the_way_in(n, f)];
     groups.into_iter().flatten().collect()
 }

@@ -1,11 +1,10 @@
-//! A timed call of part 1: the calls that make its record, and what must come of it.
-
+//! A call to time or to measure: the calls that make its record, and what must come of it.
 use reference::frame::Report;
 use reference::record::{Record, Settings};
 use reference::rules::Clause;
 use reference::vault::{self, Step};
 
-use crate::sides::{Answer, Call, Rattle, Reference, Side};
+use crate::sides::{Answer, Call, InPlace, Rattle, Reference, Side};
 
 /// The least space that is not refused.
 pub const SPACE: usize = 256;
@@ -30,10 +29,29 @@ pub enum Expected {
     Refused(u8),
 }
 
+/// What a call is compared with others by.
+#[derive(Clone, Copy, PartialEq, Eq, Debug)]
+pub enum Class {
+    /// Accepted, and no step acts.
+    Quiet,
+    Refused,
+    /// Some step acts.
+    Acting,
+}
+
+/// What makes the record that a call is lent.
+pub enum Before {
+    /// Calls at a blank record, all accepted.
+    Calls(Vec<Call>),
+    /// Contents that no calls need lead to.
+    Contents(Box<Record>),
+}
+
 pub struct Case {
-    pub name: &'static str,
-    /// The calls that make the record, all accepted.
-    pub before: Vec<Call>,
+    pub name: String,
+    pub before: Before,
+    /// C or D searches the reports for a safe plan, and no step acts.
+    pub searches: bool,
     pub harm: Harm,
     pub call: Call,
     /// The length of the output.
@@ -44,10 +62,10 @@ pub struct Case {
 impl Case {
     /// The record that the call is lent, made by the side's own calls.
     pub fn lend<S: Side>(&self) -> Vec<u8> {
-        let mut rec = vec![0; S::RECORD_LEN];
-        for call in &self.before {
-            call.on::<S>(&mut rec, &mut [0; SPACE]).expect("the record's calls are accepted");
-        }
+        let mut rec = match &self.before {
+            Before::Calls(calls) => made::<S>(calls),
+            Before::Contents(record) => S::spell(record),
+        };
         match self.harm {
             Harm::None => {}
             Harm::Length => rec.truncate(S::RECORD_LEN - 1),
@@ -60,21 +78,26 @@ impl Case {
         rec
     }
 
+    pub fn class(&self) -> Class {
+        match self.expected {
+            Expected::Refused(_) => Class::Refused,
+            Expected::Steps([]) => Class::Quiet,
+            _ => Class::Acting,
+        }
+    }
+
     /// A refused call leaves the record as it was, so many may follow each other on one copy.
     pub fn refused(&self) -> bool {
-        matches!(self.expected, Expected::Refused(_))
+        self.class() == Class::Refused
     }
 
-    pub fn unsound(&self) -> bool {
-        !matches!(self.harm, Harm::None)
-    }
-
-    /// Both sides are lent the same contents, do what the case is named for, and leave the same
-    /// contents and output bytes: the table then compares equal work.
+    /// All sides are lent the same contents, do what the case is named for, and leave the same contents and output bytes: a table then
+    /// compares equal work.
     pub fn check(&self) {
+        self.check_in_place();
         let (mut ours, mut theirs) = (self.lend::<Rattle>(), self.lend::<Reference>());
         let known = !matches!(self.harm, Harm::Length);
-        let before = known.then(|| same_contents(&ours, &theirs, self.name));
+        let before = known.then(|| same_contents(&ours, &theirs, &self.name));
         let (mut our_out, mut their_out) = (vec![0xa5; self.space], vec![0xa5; self.space]);
         let answer = self.call.on::<Rattle>(&mut ours, &mut our_out);
         assert_eq!(answer, self.call.on::<Reference>(&mut theirs, &mut their_out), "{}", self.name);
@@ -86,19 +109,27 @@ impl Case {
                 assert!(theirs == self.lend::<Reference>(), "{}: the record changed", self.name);
             }
             _ => {
-                same_contents(&ours, &theirs, self.name);
+                same_contents(&ours, &theirs, &self.name);
                 self.check_steps(&before.expect("an accepted call's record is sound"), answer);
             }
         }
+    }
+
+    /// The in-place vault and the library leave the same bytes.
+    fn check_in_place(&self) {
+        let (mut library, mut in_place) = (self.lend::<Rattle>(), self.lend::<InPlace>());
+        assert!(library == in_place, "{}: the records lent differ", self.name);
+        let (mut library_out, mut out) = (vec![0xa5; self.space], vec![0xa5; self.space]);
+        let answer = self.call.on::<Rattle>(&mut library, &mut library_out);
+        assert_eq!(self.call.on::<InPlace>(&mut in_place, &mut out), answer, "{}", self.name);
+        assert!(library == in_place && library_out == out, "{}: the bytes left differ", self.name);
     }
 
     /// The steps that act are those that the case is named for.
     fn check_steps(&self, before: &Record, answer: Answer) {
         assert!(answer.is_ok(), "{}: {answer:?}", self.name);
         let done = match &self.call {
-            &Call::Start { settings: Settings { n, f, id, class }, plan } => {
-                vault::start(n, f, id, class, plan)
-            }
+            &Call::Start { settings: Settings { n, f, id, class }, plan } => vault::start(n, f, id, class, plan),
             Call::Frame { link, bytes } => vault::frame(before, *link, bytes),
             Call::Timer { view } => vault::timer(before, *view),
         };
@@ -114,6 +145,15 @@ impl Case {
             Expected::Refused(_) => unreachable!("checked as a refusal"),
         }
     }
+}
+
+/// The record that calls leave.
+fn made<S: Side>(calls: &[Call]) -> Vec<u8> {
+    let mut rec = vec![0; S::RECORD_LEN];
+    for call in calls {
+        call.on::<S>(&mut rec, &mut [0; SPACE]).expect("the record's calls are accepted");
+    }
+    rec
 }
 
 fn changed<S: Side>(rec: &[u8], change: impl FnOnce(&mut Record)) -> Vec<u8> {

@@ -1,0 +1,95 @@
+//! How many bytes a call copies and fills by memcpy, memmove and memset. This program has its own ones, which count: the library's
+//! calls come here. A record by value where none is needed, by our own slip or a compiler's, shows as a record more.
+use std::cell::Cell;
+
+use comparison::case::{Case, Class};
+use comparison::cases;
+use comparison::records::LEN;
+use comparison::sides::Rattle;
+
+/// The most that a call copies, in bytes.
+const MOST_QUIET: usize = LEN;
+const MOST_ACTING: usize = 6 * LEN;
+/// A start writes a record.
+const MOST_FILLED: usize = 2 * LEN;
+
+thread_local! {
+    /// The bytes copied and filled by this thread.
+    static COPIED: Cell<usize> = const { Cell::new(0) };
+    static FILLED: Cell<usize> = const { Cell::new(0) };
+}
+
+// Volatile accesses: a compiler makes a plain loop a call of the very function that it stands in.
+
+#[no_mangle]
+unsafe extern "C" fn memcpy(to: *mut u8, from: *const u8, count: usize) -> *mut u8 {
+    COPIED.set(COPIED.get() + count);
+    for i in 0..count {
+        to.add(i).write_volatile(from.add(i).read_volatile());
+    }
+    to
+}
+
+#[no_mangle]
+unsafe extern "C" fn memmove(to: *mut u8, from: *const u8, count: usize) -> *mut u8 {
+    if to.cast_const() <= from {
+        return memcpy(to, from, count);
+    }
+    COPIED.set(COPIED.get() + count);
+    for i in (0..count).rev() {
+        to.add(i).write_volatile(from.add(i).read_volatile());
+    }
+    to
+}
+
+#[no_mangle]
+unsafe extern "C" fn memset(to: *mut u8, byte: i32, count: usize) -> *mut u8 {
+    FILLED.set(FILLED.get() + count);
+    for i in 0..count {
+        to.add(i).write_volatile(byte as u8);
+    }
+    to
+}
+
+/// The bytes that the case's call copies, and those that it fills.
+fn counted(case: &Case) -> (usize, usize) {
+    let (mut rec, mut out) = (case.lend::<Rattle>(), vec![0; case.space]);
+    let before = (COPIED.get(), FILLED.get());
+    let answer = case.call.on::<Rattle>(&mut rec, &mut out);
+    let counted = (COPIED.get() - before.0, FILLED.get() - before.1);
+    assert_eq!(answer.is_ok(), case.class() != Class::Refused, "{}", case.name);
+    counted
+}
+
+/// The measure itself: what this program copies is counted.
+#[test]
+fn a_copy_and_a_fill_show() {
+    let (from, mut to) = (vec![1u8; 5_000], vec![0u8; 5_000]);
+    let before = (COPIED.get(), FILLED.get());
+    std::hint::black_box(&mut to).copy_from_slice(std::hint::black_box(&from));
+    std::hint::black_box(&mut to)[..3_000].fill(std::hint::black_box(7));
+    assert_eq!((COPIED.get() - before.0, FILLED.get() - before.1), (5_000, 3_000));
+}
+
+/// The most that a call of a class copies and fills.
+fn most(class: Class) -> (usize, usize) {
+    (if class == Class::Acting { MOST_ACTING } else { MOST_QUIET }, MOST_FILLED)
+}
+
+#[test]
+fn a_quiet_call_copies_at_most_one_record() {
+    let mut slips = Vec::new();
+    for (n, f) in [(4, 1), (64, 21)] {
+        let cases = cases::all(n, f);
+        let mut counts: Vec<_> = cases.iter().map(|case| (counted(case), n, case.class(), &case.name)).collect();
+        counts.sort_by_key(|count| count.0);
+        for class in [Class::Quiet, Class::Refused, Class::Acting] {
+            let ((copied, filled), .., name) = counts.iter().rfind(|count| count.2 == class).expect("a case of the class");
+            let records = *copied as f64 / LEN as f64;
+            println!("{copied:>7} bytes copied ({records:.2} records), {filled} filled, n = {n}, {class:?}: {name}");
+        }
+        counts.retain(|&((copied, filled), _, class, _)| copied > most(class).0 || filled > most(class).1);
+        slips.extend(counts.iter().map(|count| format!("{count:?}")));
+    }
+    assert!(slips.is_empty(), "too many bytes, copied and filled: {slips:#?}");
+}

@@ -1,0 +1,95 @@
+//! How deep the stack of a call gets: each call runs on a painted stack of its own, and the paint that is left tells. A thread of a small
+//! C library has 128 KB, and a call may take at most 48 KB of it.
+#![cfg(target_arch = "x86_64")]
+use std::arch::asm;
+use std::ffi::c_void;
+
+use comparison::case::{Case, Class};
+use comparison::cases;
+use comparison::sides::Rattle;
+
+const MOST: usize = 48 * 1024;
+/// Far more than a call takes.
+const STACK: usize = 1 << 20;
+/// What is painted. A call may leave such a byte itself, but hardly both.
+const PAINTS: [u8; 2] = [0xa7, 0x58];
+
+extern "C" fn work_of(work: *mut c_void) {
+    // SAFETY: `on_stack` hands over such a pointer, and nobody else calls this.
+    let work = unsafe { &mut *work.cast::<&mut dyn FnMut()>() };
+    work();
+}
+
+/// Runs the work on the stack that ends before `top`.
+fn on_stack(top: *mut u8, mut work: &mut dyn FnMut()) {
+    let work: *mut &mut dyn FnMut() = &mut work;
+    // SAFETY: the stack is large enough and aligned; the old one comes back before anything looks at it. A panic ends the program.
+    unsafe {
+        asm!(
+            "mov r12, rsp",
+            "mov rsp, {top}",
+            "call {call}",
+            "mov rsp, r12",
+            top = in(reg) top,
+            call = in(reg) work_of as extern "C" fn(*mut c_void),
+            in("rdi") work,
+            out("r12") _,
+            clobber_abi("C"),
+        );
+    }
+}
+
+/// The bytes of stack between the caller of the work and the deepest that was written.
+fn depth(paint: u8, work: &mut dyn FnMut()) -> usize {
+    let mut stack = vec![paint; STACK];
+    let end = stack.as_mut_ptr_range().end;
+    let top = end.wrapping_sub(end as usize % 64);
+    on_stack(top, work);
+    let deepest = stack.iter().position(|&byte| byte != paint).unwrap_or(STACK);
+    assert!(deepest > 0, "the stack is too small");
+    STACK - deepest
+}
+
+fn depth_of(case: &Case) -> usize {
+    let lent = case.lend::<Rattle>();
+    let once = |paint| {
+        let (mut rec, mut out) = (lent.clone(), vec![0; case.space]);
+        let mut answer = Err(0);
+        let bytes = depth(paint, &mut || answer = case.call.on::<Rattle>(&mut rec, &mut out));
+        assert_eq!(answer.is_ok(), case.class() != Class::Refused, "{}", case.name);
+        bytes
+    };
+    PAINTS.map(once).into_iter().max().expect("two paints")
+}
+
+/// The measure itself: an array of known size shows.
+#[test]
+fn a_written_array_shows() {
+    #[inline(never)]
+    fn written<const N: usize>() {
+        std::hint::black_box(&mut [1u8; N]);
+    }
+    let small = depth(PAINTS[0], &mut || written::<1_000>());
+    let large = depth(PAINTS[0], &mut || written::<101_000>());
+    assert!((1_000..2_000).contains(&small), "{small}");
+    assert!((99_000..101_000).contains(&(large - small)), "{small} {large}");
+}
+
+#[test]
+fn no_call_takes_more_than_48_kilobytes() {
+    let mut all = Vec::new();
+    for (n, f) in [(4, 1), (64, 21)] {
+        let cases = cases::all(n, f);
+        cases.iter().for_each(Case::check);
+        let mut depths: Vec<_> = cases.iter().map(|case| (depth_of(case), n, case.class(), case.name.clone())).collect();
+        depths.sort_by_key(|depth| depth.0);
+        for class in [Class::Quiet, Class::Refused, Class::Acting] {
+            let (bytes, .., name) = depths.iter().rfind(|depth| depth.2 == class).expect("a case of the class");
+            println!("{bytes:>7} bytes of stack, n = {n}, {class:?}: {name}");
+        }
+        all.append(&mut depths);
+    }
+    println!("the deepest call takes {} bytes of stack", all.iter().map(|depth| depth.0).max().expect("a call"));
+    all.retain(|depth| depth.0 > MOST);
+    assert!(all.is_empty(), "more than {MOST} bytes of stack: {all:#?}");
+}
