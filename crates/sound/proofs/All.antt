@@ -16,7 +16,7 @@ use Rattle.wire.specs.Digits.{numberAt}
 use Rattle.frame.proofs.Laws.{both}
 use Rattle.sound.specs.Sound.{all}
 
-pub andAssoc : (a b c : Bool) → ((a && b) && c) ≡ (a && (b && c))
+andAssoc : (a b c : Bool) → ((a && b) && c) ≡ (a && (b && c))
 andAssoc true b c = refl
 andAssoc false b c = refl
 

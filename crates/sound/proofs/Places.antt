@@ -21,7 +21,7 @@ use Rattle.sound.proofs.All.{allSame, allSplit, allPieces, numberZero}
 -- ---- places
 
 -- slots of one part lie end to end
-pub placeOn : (from i : ℕ) → (from < rows → from + i < rows) → place (from + i) ≡ place from + slotSize * i
+placeOn : (from i : ℕ) → (from < rows → from + i < rows) → place (from + i) ≡ place from + slotSize * i
 placeOn from i h = go (ltb from rows) refl
   where
     go : (t : Bool) → ltb from rows ≡ t → place (from + i) ≡ place from + slotSize * i
