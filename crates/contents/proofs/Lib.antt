@@ -8,3 +8,5 @@ pub mod Widths
 pub mod Tests
 pub mod Sound
 pub mod Ready
+pub mod Stays
+pub mod Spelling

@@ -1,7 +1,6 @@
--- One call on bytes is one call by contents. Where a vault's bytes hold contents (`Held`), a call that is not refused is the
--- accepted call by contents that its bytes say (`carried`), and what it leaves holds the contents that this leaves, with output
--- bytes that read as its entries (`leftWell`). Of the layout this uses that written contents are held
--- (`heldBack`, `lentBack` of contents).
+-- One call on bytes is one call by contents. Where a vault's bytes spell contents, a call that is not refused is the accepted call
+-- by contents that its bytes say (`carried`), and what it leaves spells the contents that this leaves, with output bytes that read
+-- as its entries (`leftWell`). Of the layout this uses that it loses nothing (`callFine`, `fineSpells` of contents).
 -- Assumes nothing.
 use Prim.Native.Nat.{ℕ, _+_, _≤_}
 use mathlib.Core.Path.{_≡_, refl, _∙_, ap, subst}
@@ -22,33 +21,19 @@ use Rattle.entry.specs.declared.Entry.{Entry}
 use Rattle.entry.specs.Layout.{layout, AllValid, entriesOf}
 use Rattle.entry.proofs.Theorems.{entries-read-back}
 use Rattle.layout.specs.Layout.{decodeRecord}
-use Rattle.sound.specs.declared.Lent.{Lent}
-use Rattle.sound.specs.declared.Lent.the-variants.{Blank, Sound}
 use Rattle.sound.specs.Sound.{lentIs}
 use Rattle.protocol.specs.Record.{Record}
 use Rattle.protocol.specs.Pass.{Out}
 use Rattle.protocol.specs.Calls as by
 use Rattle.protocol.specs.Calls.{Readable, Answer, refused, accepted, answer}
-use Rattle.protocol.specs.Sound as content
 use Rattle.protocol.specs.Sound.{Fed}
 use Rattle.protocol.proofs.Read.{acceptedReadable}
 use Rattle.protocol.proofs.Proper.{callProper}
 use Rattle.contents.specs.Contents.{contents}
-use Rattle.contents.specs.Calls.{Left, wrote, gave, after, onLent, called, startLeft, frameLeft, timerLeft}
-use Rattle.contents.proofs.Slotted.{Placed}
-use Rattle.contents.proofs.Sound.{heldBack, lentBack}
+use Rattle.contents.specs.Calls.{Left, gave, after, onLent, called, startLeft, frameLeft, timerLeft}
+use Rattle.contents.specs.Spelling.{Holds, Spells}
+use Rattle.contents.proofs.Spelling.{Fine, callFine, fineSpells, onSpelled, calledRoom}
 use Rattle.runs.specs.Runs.{Call, start, frame, timer, InWidth, leaves, recordIn, entriesIn}
-use Rattle.runs.proofs.Stays.{callPlaced}
-
--- The bytes of a record hold contents r.
-pub record Holds (rec : List ℕ) (r : Record) : Type 0 where
-  pub sound : lentIs rec ≡ Sound
-  pub holds : contents (decodeRecord rec) ≡ r
-
--- The bytes of a vault's record, blank or with contents.
-abbrev pub Held : List ℕ → Option Record → Type 0
-Held rec none = lentIs rec ≡ Blank
-Held rec (some r) = Holds rec r
 
 -- ---- the call that bytes say
 
@@ -59,16 +44,12 @@ said rec (timer view) = by.timer view
 
 -- A call by contents was refused, with record and output unchanged, or accepted, with what `after` says.
 abbrev pub Comes : List ℕ → List ℕ → Option Record → by.Call → Left → Type 0
-Comes rec out b a left = ((k : ℕ) × (left ≡ gave k rec out)) ⊎ ((o : Out) × (256 ≤ length out) × (answer b a ≡ accepted o) × (left ≡ after rec out (accepted o)))
+Comes rec out b a left =
+    ((k : ℕ) × (left ≡ gave k rec out)) ⊎ ((o : Out) × (256 ≤ length out) × (answer b a ≡ accepted o) × (left ≡ after rec out (accepted o)))
 
-onHeld : (rec : List ℕ) (b : Option Record) (k : ℕ) (a : by.Call) → Held rec b → onLent (lentIs rec) k (contents (decodeRecord rec)) a ≡ answer b a
-onHeld rec none k a h = ap (λ (t : Lent). onLent t k (contents (decodeRecord rec)) a) h
-onHeld rec (some r) k a h =
-    ap (λ (t : Lent). onLent t k (contents (decodeRecord rec)) a) (h .sound) ∙ ap (λ (z : Record). answer (some z) a) (h .holds)
-
-calledComes : (k : ℕ) (rec out : List ℕ) (b : Option Record) (a : by.Call) → Held rec b → Comes rec out b a (called k rec out a)
+calledComes : (k : ℕ) (rec out : List ℕ) (b : Option Record) (a : by.Call) → Spells rec b → Comes rec out b a (called k rec out a)
 unfolding called
-calledComes k rec out b a h = go (ltb (length out) 256) (answer b a) refl refl (onHeld rec b k a h)
+calledComes k rec out b a h = go (ltb (length out) 256) (answer b a) refl refl (onSpelled k rec b a h)
   where
     go : (t : Bool) (u : Answer) → ltb (length out) 256 ≡ t → answer b a ≡ u → onLent (lentIs rec) k (contents (decodeRecord rec)) a ≡ answer b a
         → Comes rec out b a (cond t (gave 1 rec out) (after rec out (onLent (lentIs rec) k (contents (decodeRecord rec)) a)))
@@ -77,11 +58,24 @@ calledComes k rec out b a h = go (ltb (length out) 256) (answer b a) refl refl (
     go false (accepted o) room is e = inr (o, ltb-false (length out) 256 room, is, ap (after rec out) (e ∙ is))
 
 -- A call on bytes that hold contents comes to a call on the contents.
-pub carried : (rec out : List ℕ) (b : Option Record) (a : Call) → Held rec b → Comes rec out b (said rec a) (leaves rec a out)
+pub carried : (rec out : List ℕ) (b : Option Record) (a : Call) → Spells rec b → Comes rec out b (said rec a) (leaves rec a out)
 unfolding startLeft frameLeft timerLeft
 carried rec out b (start set plan) h = calledComes 4 rec out b (said rec (start set plan)) h
 carried rec out b (frame link bytes) h = calledComes 3 rec out b (said rec (frame link bytes)) h
 carried rec out b (timer view) h = calledComes 3 rec out b (said rec (timer view)) h
+
+-- Where there is room, it comes to what the call on contents answers.
+pub leavesRoom : (rec out : List ℕ) (b : Option Record) (a : Call) → Spells rec b → 256 ≤ length out → leaves rec a out ≡ after rec out (answer b (said rec a))
+unfolding startLeft frameLeft timerLeft
+leavesRoom rec out b (start set plan) h room = calledRoom 4 rec out b (said rec (start set plan)) h room
+leavesRoom rec out b (frame link bytes) h room = calledRoom 3 rec out b (said rec (frame link bytes)) h room
+leavesRoom rec out b (timer view) h room = calledRoom 3 rec out b (said rec (timer view)) h room
+
+-- The frame reader of a vault has the n and the number that its bytes spell.
+pub saidFrame : (rec : List ℕ) (r : Record) (link : ℕ) (bytes : List ℕ) → Holds rec r
+    → said rec (frame link bytes) ≡ by.frame (readFrame bytes link (r .set .n) (r .set .id))
+unfolding contents
+saidFrame rec r link bytes h = ap (λ (z : Record). by.frame (readFrame bytes link (z .set .n) (z .set .id))) (h .holds)
 
 -- ---- what a call brings
 
@@ -97,10 +91,11 @@ readSaid rec r link bytes h low (Accepted x) read =
     subst (λ (k : ℕ). Readable k (r .set .id) x) n-is (subst (λ (k : ℕ). Readable (decodeRecord rec .set .n) k x) id-is can)
 
 -- A call whose numbers have their widths feeds the call on contents.
-pub fedSaid : (rec : List ℕ) (b : Option Record) (a : Call) → Held rec b → InWidth a → Fed b (said rec a)
+pub fedSaid : (rec : List ℕ) (b : Option Record) (a : Call) → Spells rec b → InWidth a → Fed b (said rec a)
 fedSaid rec b (start set plan) h low = low
 fedSaid rec none (frame link bytes) h low = tt
-fedSaid rec (some r) (frame link bytes) h low = readSaid rec r link bytes h low (readFrame bytes link (decodeRecord rec .set .n) (decodeRecord rec .set .id)) refl
+fedSaid rec (some r) (frame link bytes) h low =
+    readSaid rec r link bytes h low (readFrame bytes link (decodeRecord rec .set .n) (decodeRecord rec .set .id)) refl
 fedSaid rec none (timer view) h low = tt
 fedSaid rec (some r) (timer view) h low = tt
 
@@ -111,16 +106,10 @@ readBack : (out : List ℕ) (es : List Entry) → AllValid es → entriesOf (tak
 unfolding placed
 readBack out es valid = ap entriesOf (take-at (layout es) (drop (0 + length (layout es)) out) (length (layout es)) refl) ∙ entries-read-back es valid
 
--- A record by contents that a vault may have.
-pub record Fine (r : Record) : Type 0 where
-  pub sound : content.Sound r
-  pub ranged : content.Ranged r
-  pub placed : Placed r
-
 -- What an accepted call leaves: bytes that hold the new contents, and an output that says its entries.
 pub record LeftWell (rec out : List ℕ) (o : Out) : Type 0 where
   pub fine : Fine (o .left)
-  pub held : Held (recordIn (after rec out (accepted o))) (some (o .left))
+  pub held : Spells (recordIn (after rec out (accepted o))) (some (o .left))
   pub entries : entriesIn (after rec out (accepted o)) ≡ o .wrote
   pub valid : AllValid (o .wrote)
   pub short : length (layout (o .wrote)) ≤ 256
@@ -129,10 +118,10 @@ pub leftWell : (rec out : List ℕ) (b : Option Record) (a : by.Call) → ((r : 
     → (o : Out) → answer b a ≡ accepted o → LeftWell rec out o
 leftWell rec out b a fine fed o is =
     let proper = callProper b a (λ r e. (fine r e .sound, fine r e .ranged)) fed o is in
-    let apart = callPlaced b a (λ r e. fine r e .placed) o is in
+    let left = callFine b a fine fed o is in
     record {
-      fine = record { sound = proper .sound; ranged = proper .ranged; placed = apart };
-      held = record { sound = lentBack (o .left) (proper .sound) (proper .ranged) apart; holds = heldBack (o .left) (proper .sound) (proper .ranged) apart };
+      fine = left;
+      held = fineSpells (o .left) left;
       entries = readBack out (o .wrote) (proper .valid);
       valid = proper .valid;
       short = proper .fits;

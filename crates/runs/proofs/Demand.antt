@@ -38,10 +38,13 @@ use Rattle.protocol.specs.Claim as whole
 use Rattle.protocol.proofs.Read.{acceptedReadable}
 use Rattle.protocol.proofs.Demand as protocol
 use Rattle.contents.specs.Calls.{Left, gave, after}
+use Rattle.contents.specs.Spelling.{Spells}
+use Rattle.contents.proofs.Stays.{From, callSet}
+use Rattle.contents.proofs.Spelling.{Fine}
 use Rattle.runs.specs.Runs.{Call, start, frame, timer, InWidth, leaves, Rules, Fixed, Item, recordIn, entriesIn, isAccepted, Setting, recordAt, written, Sent, Fair, Run, nothingYet, andThen, Decides, Started, here, earlier}
 use Rattle.runs.specs.Claim.{Demand3}
-use Rattle.runs.proofs.Stays.{From, callSet}
-use Rattle.runs.proofs.Carry.{Held, said, carried, fedSaid, Fine, LeftWell, leftWell}
+use Rattle.runs.proofs.Blank.{blankIsLent}
+use Rattle.runs.proofs.Carry.{said, carried, fedSaid, LeftWell, leftWell}
 
 -- ---- lists of entries, and tables
 
@@ -89,7 +92,7 @@ module _ (c : Setting) where
 
   -- Vault i's bytes and entries in the byte run, and its record and entries in the run by contents.
   record Same (i : ℕ) (rec : List ℕ) (b : Option Record) (es fs : List Entry) : Type 0 where
-    held : c .keeps i ≡ true → Held rec b
+    held : c .keeps i ≡ true → Spells rec b
     own : (r : Record) → b ≡ some r → Own i r
     agree : es ≡ fs
     valid : AllValid fs
@@ -128,7 +131,7 @@ module _ (c : Setting) where
         toOne a = let at = there (ForOne i y) a in subst (λ (z : Frame). ForOne i z ∈ model.written (v .items) link) (frameIs (validIn (model.written (v .items) link) (v .same link .valid) at .1)) at
 
     -- An accepted call brings what a run by contents lets it bring.
-    allowed : (a : Call) (b : Option Record) (left : Left) → Held (recordAt c l i) b → ((r : Record) → b ≡ some r → Own i r) → InWidth a → Fair c l i a left → isAccepted left ≡ true
+    allowed : (a : Call) (b : Option Record) (left : Left) → Spells (recordAt c l i) b → ((r : Record) → b ≡ some r → Own i r) → InWidth a → Fair c l i a left → isAccepted left ≡ true
         → (o : Out) → answer b (said (recordAt c l i) a) ≡ accepted o → Allowed (v .items) i b (said (recordAt c l i) a)
     unfolding answer
     allowed (start set plan) none left h own low fair went o is =
@@ -171,7 +174,7 @@ module _ (c : Setting) where
   carryNone = record {
     items = [];
     run = model.nothingYet;
-    same = λ i. record { held = c .blank i; own = λ r e. absurd (none≢some e); agree = refl; valid = tt };
+    same = λ i. record { held = λ keeps. blankIsLent (c .first i) .0 (c .blank i keeps); own = λ r e. absurd (none≢some e); agree = refl; valid = tt };
     starts = λ p s. elim s [ ];
   }
 
@@ -233,7 +236,7 @@ module _ (c : Setting) where
       went : isAccepted (x .left) ≡ true
       went = ap isAccepted is
 
-      held : Held (recordAt c l i) b
+      held : Spells (recordAt c l i) b
       held = v .same i .held keeps
 
       ok : Allowed (v .items) i b a
@@ -277,7 +280,7 @@ module _ (c : Setting) where
         v : Carried l
         v = carry run
 
-        go : (b : Option Record) → Held (recordAt c l i) b → ⊥
+        go : (b : Option Record) → Spells (recordAt c l i) b → ⊥
         go none h = let z : _≡_ {A = ℕ} 0 1 = cc in omega arith
         go (some r) h = let e = h .sound in let z : _≡_ {A = ℕ} 0 1 = cc in omega arith
 

@@ -1,10 +1,11 @@
--- What one call leaves at any lent record (`callLeavesWell`): a sound record and an output of entries. A lent record that is
--- sound holds contents that are sound, a blank one holds none, and on an unsound one every call is refused. So the laws of one
--- call on held contents (Carry) apply.
+-- What one call leaves at any lent record: a sound record and an output of entries (`callLeavesWell`), whose frames read back at
+-- whom they are for (`callReadsBack`; document 01, 'wrote in an entry for all or for this vault'). A lent record that is sound
+-- spells contents that a vault may have, a blank one spells none, and on an unsound one every call is refused (`goes`). So the laws
+-- of one call on contents apply.
 -- Assumes nothing.
-use Prim.Native.Nat.{ℕ, suc, _+_, _≤_}
+use Prim.Native.Nat.{ℕ, _+_, _≤_}
 use mathlib.Core.Path.{_≡_, refl, sym, _∙_, ap, subst}
-use mathlib.Core.Logic.{⊎-elim}
+use mathlib.Core.Logic.{_⊎_, inl, inr, ⊎-elim}
 use mathlib.Core.Bool.{Bool, true, false, cond}
 use mathlib.Core.List.{List}
 use mathlib.Core.Option.{Option, none, some}
@@ -12,29 +13,30 @@ use native.Mathlib.Omega.{arith}
 use lib.Dec.{ltb}
 use lib.ListN.{length, take, drop}
 use lib.Seq.{take-at, drop-at}
-use Rattle.agreement.proofs.Reports.{none≢some}
+use Rattle.wire.specs.Fields.{Bytes}
 use Rattle.wire.specs.Placed.{placed}
 use Rattle.wire.proofs.Output.{length-placed}
 use Rattle.entry.specs.declared.Entry.{Entry}
 use Rattle.entry.specs.Layout.{layout, AllValid, entriesOf}
+use Rattle.settings.specs.declared.Settings.{Settings}
 use Rattle.layout.specs.Layout.{decodeRecord}
 use Rattle.sound.specs.declared.Lent.{Lent}
 use Rattle.sound.specs.declared.Lent.the-variants.{Blank, Unsound, Sound}
 use Rattle.sound.specs.Sound.{lentIs}
-use Rattle.record.specs.Slots as slots
-use Rattle.record.specs.Slots.{previousSlot, slotOf}
-use Rattle.protocol.specs.Record.{Record, reported}
-use Rattle.protocol.specs.Pass.{hasPrevious, Out}
+use Rattle.protocol.specs.Record.{Record}
+use Rattle.protocol.specs.Pass.{Out}
 use Rattle.protocol.specs.Calls as by
 use Rattle.protocol.specs.Calls.{accepted, answer}
-use Rattle.protocol.proofs.Tables.{whenFalse}
-use Rattle.contents.specs.Contents.{contents, previousOf}
+use Rattle.protocol.specs.Sound.{Fed}
+use Rattle.protocol.specs.ReadsBack.{ReadBy}
+use Rattle.protocol.proofs.ReadsBack as protocol
+use Rattle.contents.specs.Contents.{contents}
 use Rattle.contents.specs.Calls.{gave, after, onLent, called, startLeft, frameLeft, timerLeft}
-use Rattle.contents.proofs.Slotted.{Placed}
-use Rattle.contents.proofs.Sound.{soundRead}
-use Rattle.runs.specs.Runs.{Call, start, frame, timer, InWidth, leaves, recordIn}
-use Rattle.runs.specs.Left.{Kept, LeavesWell, AlwaysLeavesWell}
-use Rattle.runs.proofs.Carry.{Held, said, carried, fedSaid, Fine, LeftWell, leftWell}
+use Rattle.contents.specs.Spelling.{Spells}
+use Rattle.contents.proofs.Spelling.{Fine, spelledFine}
+use Rattle.runs.specs.Runs.{Call, start, frame, timer, InWidth, leaves, recordIn, entriesIn}
+use Rattle.runs.specs.Left.{Kept, LeavesWell, AlwaysLeavesWell, ReadsBack, AlwaysReadsBack}
+use Rattle.runs.proofs.Carry.{said, carried, fedSaid, LeftWell, leftWell}
 
 -- Bytes put at the start of an output are its first ones, and what stands behind them is as it was.
 placedTake : (out es : List ℕ) → take (length es) (placed out 0 es) ≡ es
@@ -48,7 +50,8 @@ placedDrop out es =
     drop-at es (drop (0 + length es) out) (length es) refl ∙ ap (λ (k : ℕ). drop k out) same
 
 keptBy : (out : List ℕ) (es : List Entry) (rec′ : List ℕ) → 256 ≤ length out → length (layout es) ≤ 256 → AllValid es
-    → entriesOf (take (length (layout es)) (placed out 0 (layout es))) ≡ es → lentIs rec′ ≡ Sound → Kept out (length (layout es)) rec′ (placed out 0 (layout es))
+    → entriesOf (take (length (layout es)) (placed out 0 (layout es))) ≡ es → lentIs rec′ ≡ Sound
+    → Kept out (length (layout es)) rec′ (placed out 0 (layout es))
 keptBy out es rec′ room few valid read sound = record {
   sound = sound;
   valid = subst AllValid (sym read) valid;
@@ -58,46 +61,82 @@ keptBy out es rec′ room few valid read sound = record {
   beyond = placedDrop out (layout es);
 }
 
-module _ (rec out : List ℕ) (a : Call) (low : InWidth a) where
-  -- At contents that a vault may have.
-  heldLeavesWell : (b : Option Record) → Held rec b → ((r : Record) → b ≡ some r → Fine r) → LeavesWell rec out (leaves rec a out)
-  heldLeavesWell b h fine =
-      ⊎-elim (λ (k, is). subst (LeavesWell rec out) (sym is) (refl, refl)) (λ (o, room, answered, is). subst (LeavesWell rec out) (sym is) (go o room answered)) (carried rec out b a h)
-    where
-      go : (o : Out) → 256 ≤ length out → answer b (said rec a) ≡ accepted o → LeavesWell rec out (after rec out (accepted o))
-      go o room answered =
-          let well : LeftWell rec out o = leftWell rec out b (said rec a) fine (fedSaid rec b a h low) o answered in
-          keptBy out (o .wrote) (recordIn (after rec out (accepted o))) room (well .short) (well .valid) (well .entries) (well .held .sound)
+-- ---- what a call comes to
+
+-- An accepted call on bytes: the accepted call that they say, on contents that a vault may have.
+record Accepts (rec out : List ℕ) (a : Call) : Type 0 where
+  before : Option Record
+  fine : (r : Record) → before ≡ some r → Fine r
+  fed : Fed before (said rec a)
+  o : Out
+  room : 256 ≤ length out
+  answered : answer before (said rec a) ≡ accepted o
+  is : leaves rec a out ≡ after rec out (accepted o)
+
+abbrev Goes : List ℕ → List ℕ → Call → Type 0
+Goes rec out a = ((k : ℕ) × (leaves rec a out ≡ gave k rec out)) ⊎ Accepts rec out a
+
+-- On bytes that spell something.
+spelledGoes : (rec out : List ℕ) (a : Call) → Bytes rec → InWidth a → (b : Option Record) → Spells rec b → Goes rec out a
+spelledGoes rec out a bytes low b spells = ⊎-elim inl (λ (o, room, answered, is). inr (record {
+  before = b;
+  fine = spelledFine rec b bytes spells;
+  fed = fedSaid rec b a spells low;
+  o = o;
+  room = room;
+  answered = answered;
+  is = is;
+})) (carried rec out b a spells)
 
 -- On an unsound record every call is refused.
-unsoundCalled : (k : ℕ) (rec out : List ℕ) (a : by.Call) → lentIs rec ≡ Unsound → LeavesWell rec out (called k rec out a)
+unsoundCalled : (k : ℕ) (rec out : List ℕ) (a : by.Call) → lentIs rec ≡ Unsound → (j : ℕ) × (called k rec out a ≡ gave j rec out)
 unfolding called
 unsoundCalled k rec out a bad = go (ltb (length out) 256) (lentIs rec) bad
   where
-    go : (t : Bool) (u : Lent) → u ≡ Unsound → LeavesWell rec out (cond t (gave 1 rec out) (after rec out (onLent u k (contents (decodeRecord rec)) a)))
-    go true u e = (refl, refl)
-    go false u e = subst (λ (u : Lent). LeavesWell rec out (after rec out (onLent u k (contents (decodeRecord rec)) a))) (sym e) (refl, refl)
+    go : (t : Bool) (u : Lent) → u ≡ Unsound → (j : ℕ) × (cond t (gave 1 rec out) (after rec out (onLent u k (contents (decodeRecord rec)) a)) ≡ gave j rec out)
+    go true u e = (1, refl)
+    go false u e = (k, ap (λ (u : Lent). after rec out (onLent u k (contents (decodeRecord rec)) a)) e)
 
-unsoundLeavesWell : (rec out : List ℕ) (a : Call) → lentIs rec ≡ Unsound → LeavesWell rec out (leaves rec a out)
+unsoundGoes : (rec out : List ℕ) (a : Call) → lentIs rec ≡ Unsound → Goes rec out a
 unfolding startLeft frameLeft timerLeft
-unsoundLeavesWell rec out (start set plan) bad = unsoundCalled 4 rec out (said rec (start set plan)) bad
-unsoundLeavesWell rec out (frame link bytes) bad = unsoundCalled 3 rec out (said rec (frame link bytes)) bad
-unsoundLeavesWell rec out (timer view) bad = unsoundCalled 3 rec out (said rec (timer view)) bad
+unsoundGoes rec out (start set plan) bad = inl (unsoundCalled 4 rec out (said rec (start set plan)) bad)
+unsoundGoes rec out (frame link bytes) bad = inl (unsoundCalled 3 rec out (said rec (frame link bytes)) bad)
+unsoundGoes rec out (timer view) bad = inl (unsoundCalled 3 rec out (said rec (timer view)) bad)
 
--- Slots hold no previous votes but vote-1's and vote-2's.
-placedHeld : (r : slots.Record) → Placed (contents r)
-unfolding contents previousOf
-placedHeld r k lacks = whenFalse (hasPrevious k) (reported (slotOf r (previousSlot (suc k)))) lacks
-
--- Whatever record is lent, a call leaves well.
-pub callLeavesWell : AlwaysLeavesWell
-callLeavesWell rec out a bytes low = go (lentIs rec) refl
+-- Whatever record is lent.
+goes : (rec out : List ℕ) (a : Call) → Bytes rec → InWidth a → Goes rec out a
+goes rec out a bytes low = go (lentIs rec) refl
   where
-    go : (u : Lent) → lentIs rec ≡ u → LeavesWell rec out (leaves rec a out)
-    go Blank is = heldLeavesWell rec out a low none is (λ r e. absurd (none≢some e))
-    go Unsound is = unsoundLeavesWell rec out a is
-    go Sound is =
-        let (clean, sound, ranged) = soundRead rec bytes is in
-        heldLeavesWell rec out a low (some (contents (decodeRecord rec))) (record { sound = is; holds = refl })
-        (λ r (e : some (contents (decodeRecord rec)) ≡ some r). let its : contents (decodeRecord rec) ≡ r = cc in
-        subst Fine its (record { sound = sound; ranged = ranged; placed = placedHeld (decodeRecord rec) }))
+    go : (u : Lent) → lentIs rec ≡ u → Goes rec out a
+    go Blank is = spelledGoes rec out a bytes low none is
+    go Unsound is = unsoundGoes rec out a is
+    go Sound is = spelledGoes rec out a bytes low (some (contents (decodeRecord rec))) (record { sound = is; holds = refl })
+
+-- ---- what it leaves
+
+module _ {rec out : List ℕ} {a : Call} (w : Accepts rec out a) where
+  well : LeftWell rec out (w .o)
+  well = leftWell rec out (w .before) (said rec a) (w .fine) (w .fed) (w .o) (w .answered)
+
+  acceptedLeavesWell : LeavesWell rec out (after rec out (accepted (w .o)))
+  acceptedLeavesWell =
+      keptBy out (w .o .wrote) (recordIn (after rec out (accepted (w .o)))) (w .room) (well .short) (well .valid) (well .entries) (well .held .sound)
+
+  -- The settings that are read are those of the contents left, and the entries that are read are those written.
+  acceptedReadsBack : ReadsBack (after rec out (accepted (w .o)))
+  unfolding contents
+  acceptedReadsBack =
+      let settings = ap (λ (r : Record). r .set) (well .held .holds) in
+      subst (λ (s : Settings). ReadBy s (entriesIn (after rec out (accepted (w .o))))) (sym settings)
+      (subst (ReadBy (w .o .left .set)) (sym (well .entries))
+      (protocol.callReadsBack (w .before) (said rec a) (λ r e. (w .fine r e .sound, w .fine r e .ranged)) (w .fed) (w .o) (w .answered)))
+
+pub callLeavesWell : AlwaysLeavesWell
+callLeavesWell rec out a bytes low = ⊎-elim
+    (λ (k, is). subst (LeavesWell rec out) (sym is) (refl, refl))
+    (λ w. subst (LeavesWell rec out) (sym (w .is)) (acceptedLeavesWell w))
+    (goes rec out a bytes low)
+
+pub callReadsBack : AlwaysReadsBack
+callReadsBack rec out a bytes low =
+    ⊎-elim (λ (k, is). subst ReadsBack (sym is) tt) (λ w. subst ReadsBack (sym (w .is)) (acceptedReadsBack w)) (goes rec out a bytes low)

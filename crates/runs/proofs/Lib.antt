@@ -1,4 +1,4 @@
-pub mod Stays
+pub mod Blank
 pub mod Carry
 pub mod Demand
 pub mod Left

@@ -6,7 +6,7 @@ use mathlib.Core.Path.{_≡_}
 use mathlib.Core.Logic.{_⊎_}
 use mathlib.Core.Bool.{Bool, true, false}
 use mathlib.Core.List.{List, [], _∷_, _++_}
-use lib.ListN.{take}
+use lib.ListN.{length, getD, take}
 use Rattle.quorum.specs.Sets.{Vaults, Set, size, total}
 use Rattle.wire.specs.Fields.{Bytes}
 use Rattle.frame.specs.declared.Frame.{Frame}
@@ -16,8 +16,7 @@ use Rattle.entry.specs.declared.Entry.the-variants.{ForAll, ForOne, Decision}
 use Rattle.entry.specs.Layout.{entriesOf}
 use Rattle.settings.specs.declared.Settings.{Settings}
 use Rattle.settings.specs.Settings.{vaultsOf}
-use Rattle.sound.specs.declared.Lent.the-variants.{Blank}
-use Rattle.sound.specs.Sound.{lentIs}
+use Rattle.layout.specs.Layout.{recordSize}
 use Rattle.protocol.specs.Record.{put}
 use Rattle.protocol.specs.Runs.{_∈_}
 use Rattle.contents.specs.Calls.{Left, wrote, gave, startLeft, frameLeft, timerLeft}
@@ -78,13 +77,18 @@ written (x ∷ l) = put (x .at) (written l (x .at) ++ entriesIn (x .left)) (writ
 abbrev pub Sent : List Item → ℕ → ℕ → List ℕ → Type 0
 Sent l i link bytes = (x : Frame) × (bytes ≡ encode x) × ((ForAll x ∈ written l link) ⊎ (ForOne i x ∈ written l link))
 
+-- 'A lent record of the wrong length .. is .. not blank. Otherwise it is blank when its n is 0': n is the first byte. The calls' contracts
+-- say the same of it (`BlankIsLent` in specs/Left).
+abbrev pub IsBlank : List ℕ → Type 0
+IsBlank s = (length s ≡ recordSize) × (getD s 0 0 ≡ 0)
+
 -- 'A run has an n, an f, a set of at least n - f numbers below n': the set's vaults weigh what all do, less f. 'Record: at first any blank one.'
 pub record Setting : Type 0 where
   pub vaults : Vaults
   pub keeps : Set
   pub most : total vaults - vaults .f ≤ size vaults keeps
   pub first : ℕ → List ℕ
-  pub blank : (i : ℕ) → keeps i ≡ true → lentIs (first i) ≡ Blank
+  pub blank : (i : ℕ) → keeps i ≡ true → IsBlank (first i)
 
 module _ (c : Setting) where
   -- 'Each call gets the record that the last call at the same vault left, and nobody else writes it in between.'

@@ -21,17 +21,17 @@ use Rattle.frame.specs.Refusal.{readFrame, refusal, viewMissing, misled}
 use Rattle.entry.specs.Layout.{entryBytes}
 use Rattle.settings.specs.Settings.{delayOf}
 use Rattle.layout.specs.Layout.{decodeRecord}
-use Rattle.sound.specs.declared.Lent.{Lent}
-use Rattle.sound.specs.Sound.{lentIs}
 use Rattle.protocol.specs.Record.{Record, highest}
 use Rattle.settings.specs.declared.Settings.{Settings}
 use Rattle.protocol.specs.Pass.{Out, does, writes, agreed, pass, stepA, stepB, stepC, stepD, stepVote, stepH}
 use Rattle.protocol.specs.Calls as by
 use Rattle.protocol.specs.Calls.{refused, accepted, answer, started, keep, heard}
 use Rattle.contents.specs.Contents.{contents}
-use Rattle.contents.specs.Calls.{Left, after, onLent, called, startLeft, frameLeft, timerLeft}
+use Rattle.contents.specs.Calls.{Left, after}
 use Rattle.runs.specs.Runs.{Call, start, frame, timer, InWidth, leaves, recordIn}
-use Rattle.runs.proofs.Carry.{Holds, Held, said, fedSaid, Fine, LeftWell, leftWell}
+use Rattle.contents.specs.Spelling.{Spells}
+use Rattle.contents.proofs.Spelling.{Fine}
+use Rattle.runs.proofs.Carry.{said, leavesRoom, saidFrame, fedSaid, LeftWell, leftWell}
 use Rattle.vaultlines.specs.Digits.{valueOf, digitOf, lineOf, allDigits, badLine, spelled, bytesOf}
 use Rattle.vaultlines.specs.Lines.{startOf, timerOf, frameOf, callOf, zeroed, lineLeft, entryLines, printed}
 use Rattle.vaultlines.specs.Example.{text, blank, Document}
@@ -41,23 +41,8 @@ use Rattle.vaultlines.proofs.Answers.{zeroedSize}
 
 -- A vault's bytes, and what they hold.
 record At (rec : List ℕ) (b : Option Record) : Type 0 where
-  held : Held rec b
+  held : Spells rec b
   fine : (r : Record) → b ≡ some r → Fine r
-
-onHeld : (rec : List ℕ) (b : Option Record) (k : ℕ) (a : by.Call) → Held rec b → onLent (lentIs rec) k (contents (decodeRecord rec)) a ≡ answer b a
-onHeld rec none k a h = ap (λ (t : Lent). onLent t k (contents (decodeRecord rec)) a) h
-onHeld rec (some r) k a h =
-    ap (λ (t : Lent). onLent t k (contents (decodeRecord rec)) a) (h .sound) ∙ ap (λ (z : Record). answer (some z) a) (h .holds)
-
-calledBy : (k : ℕ) (rec : List ℕ) (b : Option Record) (a : by.Call) → Held rec b → called k rec zeroed a ≡ after rec zeroed (answer b a)
-unfolding called
-calledBy k rec b a h = rw (zeroedSize, onHeld rec b k a h)
-
-leavesBy : (rec : List ℕ) (b : Option Record) (a : Call) → Held rec b → leaves rec a zeroed ≡ after rec zeroed (answer b (said rec a))
-unfolding startLeft frameLeft timerLeft
-leavesBy rec b (start n f id class plan) h = calledBy 4 rec b (said rec (start n f id class plan)) h
-leavesBy rec b (frame link bytes) h = calledBy 3 rec b (said rec (frame link bytes)) h
-leavesBy rec b (timer view) h = calledBy 3 rec b (said rec (timer view)) h
 
 -- An accepted call prints its entries, and leaves bytes that hold what it leaves by contents.
 record Goes (left : Left) (o : Out) : Type 0 where
@@ -67,17 +52,11 @@ record Goes (left : Left) (o : Out) : Type 0 where
 goes : (rec : List ℕ) (b : Option Record) (a : Call) → At rec b → InWidth a → (o : Out) → answer b (said rec a) ≡ accepted o → Goes (leaves rec a zeroed) o
 goes rec b a at low o is =
     let well : LeftWell rec zeroed o = leftWell rec zeroed b (said rec a) (at .fine) (fedSaid rec b a (at .held) low) o is in
-    subst (λ (l : Left). Goes l o) (sym (leavesBy rec b a (at .held) ∙ ap (after rec zeroed) is))
+    subst (λ (l : Left). Goes l o) (sym (leavesRoom rec zeroed b a (at .held) (omega (arith, zeroedSize)) ∙ ap (after rec zeroed) is))
     (record {
       prints = ap entryLines (well .entries);
       next = record { held = well .held; fine = λ r (e : some (o .left) ≡ some r). let same : o .left ≡ r = cc in subst Fine same (well .fine) };
     })
-
--- The frame reader of a vault has the n and the number that its bytes hold.
-saidFrame : (rec : List ℕ) (r : Record) (link : ℕ) (bytes : List ℕ) → Holds rec r
-    → said rec (frame link bytes) ≡ by.frame (readFrame bytes link (r .set .n) (r .set .id))
-unfolding contents
-saidFrame rec r link bytes h = ap (λ (z : Record). by.frame (readFrame bytes link (z .set .n) (z .set .id))) (h .holds)
 
 -- ---- the example
 

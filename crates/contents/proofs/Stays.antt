@@ -45,7 +45,9 @@ module _ (P : Record → Type 0) (acts : (r : Record) (a : Act) → P r → P (d
 
   callStays : (b : Option Record) (a : Call) → From P b a → (o : Out) → answer b a ≡ accepted o → P (o .left)
   unfolding answer started heard rung
-  callStays none (start s p) h o e = let (given, same) = unlessAccepted (first (settingRows s)) (started s p) e in subst (λ (u : Out). P (u .left)) same (passStays sureC (fresh s p) h)
+  callStays none (start s p) h o e =
+      let (given, same) = unlessAccepted (first (settingRows s)) (started s p) e in
+      subst (λ (u : Out). P (u .left)) same (passStays sureC (fresh s p) h)
   callStays none (frame x) h o e = let z : _≡_ {A = ℕ} 0 1 = cc in absurd (omega arith)
   callStays none (timer v) h o e = let z : _≡_ {A = ℕ} 0 1 = cc in absurd (omega arith)
   callStays none short h o e = let z : _≡_ {A = ℕ} 0 1 = cc in absurd (omega arith)
