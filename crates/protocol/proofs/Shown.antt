@@ -3,11 +3,11 @@
 -- which they are locked, which is not the leader's own (document 01, 'Runs, as demand 3 means them'). Each is a script, so it is a
 -- run (`scriptRuns`), and what its vaults write is computed. The newest move stands first.
 -- Assumes nothing.
-use Prim.Native.Nat.{ℕ, suc, _+_}
+use Prim.Native.Nat.{ℕ, _+_}
 use mathlib.Core.Path.{_≡_, refl}
 use mathlib.Core.Bool.{true, not, cond}
 use mathlib.Core.List.{List, [], _∷_, _++_}
-use mathlib.Core.Option.{Option, some}
+use mathlib.Core.Option.{Option, none, some}
 use lib.Dec.{eqb}
 use Rattle.wire.specs.Digits.{numberAt, digits}
 use Rattle.quorum.specs.Sets.{Set, weigh, isQuorum, isBlocking}
@@ -21,7 +21,7 @@ use Rattle.frame.specs.Refusal.{badForm, tooHigh, badPrevious, viewMissing, mis
 use Rattle.entry.specs.declared.Entry.{Entry}
 use Rattle.entry.specs.declared.Entry.the-variants.{Decision}
 use Rattle.settings.specs.Settings.{delayOf}
-use Rattle.protocol.specs.Record.{highest}
+use Rattle.protocol.specs.Record.{Record, highest}
 use Rattle.protocol.specs.Pass.{does, writes, agreed, pass, stepA, stepB, stepC, stepD, stepVote, stepH}
 use Rattle.protocol.specs.Calls.{answer, started, keep, heard, rung}
 use Rattle.protocol.specs.Runs.{recordAt, written}
@@ -44,23 +44,31 @@ all k = says 0 3 k ∷ says 1 3 k ∷ says 2 3 k ∷ says 3 0 k ∷ says 3 1 k �
 abbrev begun : List Move
 begun = hear 1 0 1 ∷ hear 2 0 1 ∷ hear 3 0 1 ∷ begin 3 6 ∷ begin 2 9 ∷ begin 1 8 ∷ begin 0 7 ∷ []
 
-abbrev everyone : Set
+abbrev pub everyone : Set
 everyone i = true
 
--- ---- a decision
+-- What vault i wrote as entry k.
+abbrev pub wrote : List Move → ℕ → ℕ → Option Entry
+wrote ms i k = pick k (written (calls ms) i)
 
--- Four rounds of votes.
+-- The frame of kind k and sender j that a record keeps.
+abbrev pub keptIn : Option Record → ℕ → ℕ → Option Frame
+keptIn none k j = none
+keptIn (some r) k j = r .kept k j
+
+-- ---- all decide
+
+-- Four rounds of votes in view 0.
 abbrev pub plain : List Move
 plain = all 4 ++ (all 3 ++ (all 2 ++ (all 1 ++ begun)))
 
-plainFair : allFair everyone plain ≡ true
+pub plainFair : allFair everyone plain ≡ true
 plainFair = refl
 
--- What each vault wrote last.
-plainDecides : (pick 6 (written (calls plain) 0) ≡ some (Decision 0 7))
-    × (pick 5 (written (calls plain) 1) ≡ some (Decision 0 7))
-    × (pick 5 (written (calls plain) 2) ≡ some (Decision 0 7))
-    × (pick 5 (written (calls plain) 3) ≡ some (Decision 0 7))
+pub plainDecides : (wrote plain 0 6 ≡ some (Decision 0 7))
+    × (wrote plain 1 5 ≡ some (Decision 0 7))
+    × (wrote plain 2 5 ≡ some (Decision 0 7))
+    × (wrote plain 3 5 ≡ some (Decision 0 7))
 unfolding delayOf answer started keep heard rung pass stepA stepB stepC stepD stepVote stepH does writes agreed highest safe free allowed claimed
     twoSets backed choice smallest any weigh isQuorum isBlocking reach claims unlocked allows recordAt written calls
 plainDecides = (refl, refl, refl, refl)
@@ -72,16 +80,28 @@ abbrev pub butOne : Set
 butOne i = not (eqb i 3)
 
 -- Vote-1 of vault 3 in view 0.
-abbrev pub vote3 : ℕ → Frame
-vote3 p = record { kind = 2; sender = 3; view = 0; body = Plan p }
+abbrev pub voteOf3 : ℕ → Frame
+voteOf3 p = record { kind = 2; sender = 3; view = 0; body = Plan p }
 
 -- Vault 3 says vote-1 for 7 to vaults 0 and 1, and for 9 to vault 2; the others take four rounds of votes.
 abbrev pub lied : List Move
 lied = three 4 ++ (three 3 ++ (three 2 ++ (three 1
-    ++ (lie 0 (vote3 7) ∷ lie 1 (vote3 7) ∷ lie 2 (vote3 9) ∷ hear 1 0 1 ∷ hear 2 0 1 ∷ begin 2 9 ∷ begin 1 8 ∷ begin 0 7 ∷ []))))
+    ++ (lie 0 (voteOf3 7) ∷ lie 1 (voteOf3 7) ∷ lie 2 (voteOf3 9) ∷ hear 1 0 1 ∷ hear 2 0 1 ∷ begin 2 9 ∷ begin 1 8 ∷ begin 0 7 ∷ []))))
 
-liedFair : allFair butOne lied ≡ true
+pub liedFair : allFair butOne lied ≡ true
 liedFair = refl
+
+pub liedKept : (keptIn (recordAt (calls lied) 0) 2 3 ≡ some (voteOf3 7)) × (keptIn (recordAt (calls lied) 2) 2 3 ≡ some (voteOf3 9))
+unfolding delayOf answer started keep heard rung pass stepA stepB stepC stepD stepVote stepH does writes agreed highest safe free allowed claimed
+    twoSets backed choice smallest any weigh isQuorum isBlocking reach claims unlocked allows recordAt written calls within lengthOf encode
+    bodyAs decode badForm tooHigh badPrevious viewMissing misled refusal readFrame numberAt digits
+liedKept = (refl, refl)
+
+pub liedDecides : (wrote lied 0 6 ≡ some (Decision 0 7)) × (wrote lied 1 5 ≡ some (Decision 0 7)) × (wrote lied 2 5 ≡ some (Decision 0 7))
+unfolding delayOf answer started keep heard rung pass stepA stepB stepC stepD stepVote stepH does writes agreed highest safe free allowed claimed
+    twoSets backed choice smallest any weigh isQuorum isBlocking reach claims unlocked allows recordAt written calls within lengthOf encode
+    bodyAs decode badForm tooHigh badPrevious viewMissing misled refusal readFrame numberAt digits
+liedDecides = (refl, refl, refl)
 
 -- ---- a decision in view 1
 
@@ -93,18 +113,13 @@ locked = says 1 0 7 ∷ says 1 2 7 ∷ says 1 3 7 ∷ all 6 ++ (all 4 ++ (ring 0
 abbrev pub later : List Move
 later = all 11 ++ (all 10 ++ (all 9 ++ (all 8 ++ (hear 0 1 7 ∷ hear 2 1 7 ∷ hear 3 1 7 ∷ locked))))
 
-laterFair : allFair everyone later ≡ true
+pub laterFair : allFair everyone later ≡ true
 laterFair = refl
 
-liedDecides : (pick 6 (written (calls lied) 0) ≡ some (Decision 0 7))
-    × (pick 5 (written (calls lied) 1) ≡ some (Decision 0 7))
-    × (pick 5 (written (calls lied) 2) ≡ some (Decision 0 7))
-unfolding delayOf answer started keep heard rung pass stepA stepB stepC stepD stepVote stepH does writes agreed highest safe free allowed claimed twoSets backed choice smallest any weigh isQuorum isBlocking reach claims unlocked allows recordAt written calls within lengthOf encode bodyAs decode badForm tooHigh badPrevious viewMissing misled refusal readFrame numberAt digits
-liedDecides = (refl, refl, refl)
-
-laterDecides : (pick 13 (written (calls later) 0) ≡ some (Decision 1 7))
-    × (pick 12 (written (calls later) 1) ≡ some (Decision 1 7))
-    × (pick 12 (written (calls later) 2) ≡ some (Decision 1 7))
-    × (pick 12 (written (calls later) 3) ≡ some (Decision 1 7))
-unfolding delayOf answer started keep heard rung pass stepA stepB stepC stepD stepVote stepH does writes agreed highest safe free allowed claimed twoSets backed choice smallest any weigh isQuorum isBlocking reach claims unlocked allows recordAt written calls
+pub laterDecides : (wrote later 0 13 ≡ some (Decision 1 7))
+    × (wrote later 1 12 ≡ some (Decision 1 7))
+    × (wrote later 2 12 ≡ some (Decision 1 7))
+    × (wrote later 3 12 ≡ some (Decision 1 7))
+unfolding delayOf answer started keep heard rung pass stepA stepB stepC stepD stepVote stepH does writes agreed highest safe free allowed claimed
+    twoSets backed choice smallest any weigh isQuorum isBlocking reach claims unlocked allows recordAt written calls
 laterDecides = (refl, refl, refl, refl)

@@ -57,7 +57,7 @@ validIn [] valid at = elim at [ ]
 validIn (x ∷ es) {e} (v, valid) at = ⊎-elim (λ (same : e ≡ x). subst ValidEntry (sym same) v) (validIn es valid) (List·Memᴰ·cases-cons at)
 
 -- What holds of the new entries of four tables, and of all the old ones, holds of the changed tables.
-putFour : {A B C D : Type 0} (P : ℕ → A → B → C → D → Type 0) (k : ℕ) {a : A} {b : B} {c : C} {d : D} (f : ℕ → A) (g : ℕ → B) (h : ℕ → C) (t : ℕ → D)
+pub putFour : {A B C D : Type 0} (P : ℕ → A → B → C → D → Type 0) (k : ℕ) {a : A} {b : B} {c : C} {d : D} (f : ℕ → A) (g : ℕ → B) (h : ℕ → C) (t : ℕ → D)
     → P k a b c d → ((i : ℕ) → P i (f i) (g i) (h i) (t i)) → (i : ℕ) → P i (put k a f i) (put k b g i) (put k c h i) (put k d t i)
 putFour P k {a} {b} {c} {d} f g h t new old i = go (eqb k i) refl
   where
@@ -65,7 +65,7 @@ putFour P k {a} {b} {c} {d} f g h t new old i = go (eqb k i) refl
     go true e = subst (λ (j : ℕ). P j a b c d) (eqb-true k i e) new
     go false e = old i
 
-never : {A : Type 0} {k : ℕ} {o : Out} → refused k ≡ accepted o → A
+pub never : {A : Type 0} {k : ℕ} {o : Out} → refused k ≡ accepted o → A
 never e = let z : _≡_ {A = ℕ} 0 1 = cc in absurd (omega arith)
 
 shortRefused : (b : Option Record) → answer b by.short ≡ refused 1

@@ -2,3 +2,5 @@ pub mod Blank
 pub mod Carry
 pub mod Demand
 pub mod Left
+pub mod Spelled
+pub mod Shown
