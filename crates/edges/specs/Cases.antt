@@ -3,28 +3,32 @@
 -- Assumes nothing.
 use Prim.Native.Nat.{ℕ, _<_}
 use mathlib.Core.Path.{_≡_}
-use mathlib.Core.Bool.{true}
+use mathlib.Core.Logic.{_≢_}
+use mathlib.Core.Bool.{true, false}
 use mathlib.Core.Option.{Option, none, some}
 use mathlib.Core.List.{List, [], _∷_}
-use lib.Dec.{ltb}
+use lib.Dec.{eqb}
 use lib.ListN.{getD}
-use Rattle.quorum.specs.Sets.{equals, Quorum}
+use Rattle.quorum.specs.Sets.{Vaults, equals, size, Quorum}
 use Rattle.frame.specs.Refusal.{first}
 use Rattle.settings.specs.Settings.{settingRows}
+use Rattle.rules.specs.Options.{holds}
 use Rattle.rules.specs.Rules.{Vote, Report, Reports, Rule, rule1, rule3, allows, reporting, Backed, Safe}
+use Rattle.protocol.specs.Record.{Record, vaults, planNow}
+use Rattle.protocol.specs.Pass.{hasQuorum}
 
--- Plans a, b, c, d: any four that differ.
-abbrev pub a : ℕ
-a = 10
+-- 'a, b, c, d differ'.
+pub record Differ (a b c d : ℕ) : Type 0 where
+  pub ab : a ≢ b
+  pub ac : a ≢ c
+  pub ad : a ≢ d
+  pub bc : b ≢ c
+  pub bd : b ≢ d
+  pub cd : c ≢ d
 
-abbrev pub b : ℕ
-b = 20
-
-abbrev pub c : ℕ
-c = 30
-
-abbrev pub d : ℕ
-d = 40
+-- 'n = 4, f = 1'.
+abbrev pub four : Vaults
+four = equals 4 1
 
 -- '(1, a)'.
 abbrev pub at : ℕ → ℕ → Option Vote
@@ -38,6 +42,10 @@ reports highest previous lock = some (record { highest = highest; previous = pre
 abbrev pub from : List (Option Report) → Reports
 from l i = getD l i none
 
+-- How many vaults have a kept vote-k of the current view for plan p.
+abbrev pub votes : Record → ℕ → ℕ → ℕ
+votes r k p = size (vaults r) (λ j. holds (eqb p) (planNow r k j))
+
 -- A case: a claim on the rules, by its kind, and whether it holds.
 pub data Case : Type 0 where
   -- a start with n and f, number 0 and class 0, is refused with k; k = 0 where it starts
@@ -50,7 +58,7 @@ pub data Case : Type 0 where
   serving : Rule → Reports → ℕ → ℕ → ℕ → Case
   -- every plan is safe
   wholly : Rule → Reports → ℕ → Case
-  -- so many votes of a kind are a quorum
+  -- so many votes of a kind for a plan, whoever sent them, are a quorum
   enough : ℕ → Case
   -- so many are none
   short : ℕ → Case
@@ -58,66 +66,71 @@ pub data Case : Type 0 where
 -- What a case claims, of the rules' own definitions.
 abbrev pub Holds : Case → Type 0
 Holds (starting n f k) = first (settingRows (record { n = n; f = f; id = 0; class = 0 })) ≡ k
-Holds (safely rule rs v p) = Safe rule (equals 4 1) rs v p
-Holds (unsafely rule rs v p) = ¬ Safe rule (equals 4 1) rs v p
-Holds (serving rule rs v p u) = (u < v) × Quorum (equals 4 1) (λ i. reporting rs (allows p u) i ≡ true) × Backed rule (equals 4 1) rs v p u
-Holds (wholly rule rs v) = (p : ℕ) → Safe rule (equals 4 1) rs v p
-Holds (enough k) = Quorum (equals 4 1) (λ i. ltb i k ≡ true)
-Holds (short k) = ¬ Quorum (equals 4 1) (λ i. ltb i k ≡ true)
+Holds (safely rule rs v p) = Safe rule four rs v p
+Holds (unsafely rule rs v p) = ¬ Safe rule four rs v p
+Holds (serving rule rs v p u) = (u < v) × Quorum four (λ i. reporting rs (allows p u) i ≡ true) × Backed rule four rs v p u
+Holds (wholly rule rs v) = (p : ℕ) → Safe rule four rs v p
+Holds (enough m) = (r : Record) (k p : ℕ) → vaults r ≡ four → votes r k p ≡ m → hasQuorum r k p ≡ true
+Holds (short m) = (r : Record) (k p : ℕ) → vaults r ≡ four → votes r k p ≡ m → hasQuorum r k p ≡ false
 
 -- Every case of a list holds.
 abbrev pub All : List Case → Type 0
 All [] = Unit {0}
 All (x ∷ xs) = Holds x × All xs
 
--- A proof that reports nothing.
-abbrev pub blank : Option Report
-blank = reports none none none
+-- M4: 'without lock'; its other votes are any.
+abbrev pub lockless : Report → Option Report
+lockless r = reports (r .highest) (r .previous) none
 
 -- M5: 'one of them has lock (0, a)'.
-abbrev pub locked : Option Report
-locked = reports none none (at 0 a)
+abbrev pub locked : Report → ℕ → Option Report
+locked r a = reports (r .highest) (r .previous) (at 0 a)
 
 -- M7 to M10: 'vaults 0 and 1 report highest (1, a), 2 and 3 (2, b), no previous; 0 and 2 have lock (1, c)'.
-abbrev pub halves : Reports
-halves = from (reports (at 1 a) none (at 1 c) ∷ reports (at 1 a) none none ∷ reports (at 2 b) none (at 1 c) ∷ reports (at 2 b) none none ∷ [])
+abbrev pub halves : ℕ → ℕ → ℕ → Reports
+halves a b c = from (reports (at 1 a) none (at 1 c) ∷ reports (at 1 a) none none ∷ reports (at 2 b) none (at 1 c) ∷ reports (at 2 b) none none ∷ [])
 
 -- A run in which vault 1 lies. View 0, plan a: vaults 0 and 2 send vote-1 to vote-3, and 0 vote-4. View 1, plan b: 0 and 2 vote-1, 0 votes-2.
 -- View 5, plan a: 2 and 3 vote-1, 0 votes-2. The proofs of 0, 2 and 3 in view 6:
-abbrev pub proved : Reports
-proved = from (reports (at 1 b) (at 0 a) (at 0 a) ∷ none ∷ reports (at 5 a) (at 1 b) none ∷ reports (at 5 a) none none ∷ [])
+abbrev pub proved : ℕ → ℕ → Reports
+proved a b = from (reports (at 1 b) (at 0 a) (at 0 a) ∷ none ∷ reports (at 5 a) (at 1 b) none ∷ reports (at 5 a) none none ∷ [])
 
 -- The suggests of all four in view 6, with what vault 1 makes up.
-abbrev pub suggested : Reports
-suggested = from (reports (at 5 a) (at 1 b) (at 0 a) ∷ reports (at 5 a) (at 1 b) none ∷ reports (at 0 a) none (at 0 a) ∷ blank ∷ [])
+abbrev pub suggested : ℕ → ℕ → Reports
+suggested a b = from (reports (at 5 a) (at 1 b) (at 0 a) ∷ reports (at 5 a) (at 1 b) none ∷ reports (at 0 a) none (at 0 a) ∷ reports none none none ∷ [])
 
-abbrev pub edges : List Case
-edges =
+-- The marked edges, in their order: the proofs of M4 to M6 are as r has them but for the lock.
+abbrev pub edges : (ℕ → Report) → ℕ → ℕ → ℕ → ℕ → List Case
+edges r a b c d =
     -- M1 n = 64, f = 21 starts; M2 f = 22 gives 6; M3 n = 3 gives 5
     starting 64 21 0
     ∷ starting 64 22 6
     ∷ starting 3 1 5
     -- M4 view 1, three proofs without lock: any plan safe
-    ∷ wholly rule3 (from (blank ∷ blank ∷ blank ∷ [])) 1
+    ∷ wholly rule3 (from (lockless (r 0) ∷ lockless (r 1) ∷ lockless (r 2) ∷ [])) 1
     -- M5 one of them has lock (0, a): a safe, b not
-    ∷ safely rule3 (from (locked ∷ blank ∷ blank ∷ [])) 1 a
-    ∷ unsafely rule3 (from (locked ∷ blank ∷ blank ∷ [])) 1 b
+    ∷ safely rule3 (from (locked (r 0) a ∷ lockless (r 1) ∷ lockless (r 2) ∷ [])) 1 a
+    ∷ unsafely rule3 (from (locked (r 0) a ∷ lockless (r 1) ∷ lockless (r 2) ∷ [])) 1 b
     -- M6 a fourth proof without lock: b safe
-    ∷ safely rule3 (from (locked ∷ blank ∷ blank ∷ blank ∷ [])) 1 b
+    ∷ safely rule3 (from (locked (r 0) a ∷ lockless (r 1) ∷ lockless (r 2) ∷ lockless (r 3) ∷ [])) 1 b
     -- M7 c is safe by the two-set clause: not without it
-    ∷ safely rule3 halves 3 c
-    ∷ unsafely rule1 halves 3 c
+    ∷ safely rule3 (halves a b c) 3 c
+    ∷ unsafely rule1 (halves a b c) 3 c
     -- M8 b safe with v' = 2
-    ∷ serving rule3 halves 3 b 2
-    ∷ safely rule3 halves 3 b
+    ∷ serving rule3 (halves a b c) 3 b 2
+    ∷ safely rule3 (halves a b c) 3 b
     -- M9 a not safe; M10 d not safe
-    ∷ unsafely rule3 halves 3 a
-    ∷ unsafely rule3 halves 3 d
+    ∷ unsafely rule3 (halves a b c) 3 a
+    ∷ unsafely rule3 (halves a b c) 3 d
     -- M11 two votes of a kind are no quorum, three are
     ∷ short 2
     ∷ enough 3
     -- the run with a lying leader: its next leader may propose c, at v' = 1; its vaults may vote for c, by the two-set clause alone
-    ∷ serving rule1 suggested 6 c 1
-    ∷ serving rule3 proved 6 c 1
-    ∷ unsafely rule1 proved 6 c
+    ∷ serving rule1 (suggested a b) 6 c 1
+    ∷ serving rule3 (proved a b) 6 c 1
+    ∷ unsafely rule1 (proved a b) 6 c
     ∷ []
+
+-- They hold of any four plans that differ. Proved as `marked` in proofs/Marked.
+abbrev pub MarkedEdges : Type 0
+MarkedEdges = (r : ℕ → Report) (a b c d : ℕ) → Differ a b c d → All (edges r a b c d)
