@@ -1,53 +1,53 @@
--- `vault::frame_read` meets its contract: by rows 16 and 17.
--- Assumes nothing.
-use denote.Ref.{now}
-use mathlib.Core.Path.{_∙_}
-use Rattle.protocol.specs.Calls.{heard}
-use Rattle.contents.specs.Contents.{contents}
-use Rattle.vault.proofs.Laws.{acceptedLeft}
-use Rattle.vault.proofs.Heard.{placeOf, rowsPass, rowsRefused, rowsAccepted}
 use borrow.Author.Needs.{needs}
 use Rattle.vault.proofs.frame_read.Statement.{statement}
 use Rattle.vault.proofs.frame_read.Tie as tie
+use Rattle.vault.proofs.frame_read.Reads as reads
+use Rattle.vault.proofs.frame_read.Lts as lts
+use Rattle.keeping.proofs.keep_refusal.Reads as keep-refusal-reads
+use Rattle.layout.proofs.view_of.Reads as view-of-reads
+use Rattle.vault.proofs.hear.Reads as hear-reads
 
+-- src/lib.rt:128:9
+view-of-requires : tie.Need-view-of-requires
+view-of-requires c κs = search needs
+
+-- src/lib.rt:129:9
 keep-refusal-requires : tie.Need-keep-refusal-requires
-keep-refusal-requires c κs = let s = c .before .before .before .before .before .before .before .before .before in (placeOf (s .args .t2) (s .args .f) (s .pre .0) (s .pre .1), s .pre .0 .clean .sized)
+keep-refusal-requires c κs = ?
 
-returns : tie.Need-returns
-returns c = let s = c .before .before .before .before .before .before .before .before .before .before .before in
-    let k = c .before .keep-refusal in
-    rowsRefused (s .args .t2) (s .args .f) (placeOf (s .args .t2) (s .args .f) (s .pre .0) (s .pre .1)) (k .result) (k .ensures) (now (s .args .rec)) (now (s .args .out)) (c .if1 .taken)
-
-hear-requires : tie.Need-hear-requires
-hear-requires c κs = let s = c .before .before .before .before .before .before .before .before .before .before .before .before in
-    let k = c .before .before .keep-refusal in
-    (s .pre .0, s .pre .1, rowsPass (s .args .t2) (s .args .f) (placeOf (s .args .t2) (s .args .f) (s .pre .0) (s .pre .1)) (k .result) (k .ensures) (c .before .if1 .left), s .pre .3)
-
-encode-requires : tie.Need-encode-requires
-encode-requires c κs = search needs
-
+-- src/lib.rt:131:9
 same-length : tie.Need-same-length
 same-length c = search needs
 
+-- src/lib.rt:131:9
+returns : tie.Need-returns
+returns c = ?
+
+-- src/lib.rt:133:9
+hear-requires : tie.Need-hear-requires
+hear-requires c κs = ?
+
+-- src/lib.rt:124:1
 same-length-2 : tie.Need-same-length-2
 same-length-2 c = search needs
 
+-- src/lib.rt:124:1
+same-length-3 : tie.Need-same-length-3
+same-length-3 c = search needs
+
+-- src/lib.rt:124:1
 returns-2 : tie.Need-returns-2
-returns-2 c = let s = c .before .before .before .before .before .before .before .before .before .before .before .before .before .before .before .before .before .before .before .before in
-    let k = c .before .before .before .before .before .before .before .before .before .before .keep-refusal in
-    let p = c .before .before .before .before .before .before .before .hear in
-    let e = c .before .before .encode in
-    acceptedLeft (heard (contents (s .args .t2)) (s .args .f)) (p .result) (now (s .args .rec)) (e .last .1 .0) (now (s .args .out)) (p .last .1 .1 .0) (p .ensures) (e .ensures)
-    ∙ rowsAccepted (s .args .t2) (s .args .f) (placeOf (s .args .t2) (s .args .f) (s .pre .0) (s .pre .1)) (k .result) (k .ensures) (now (s .args .rec)) (now (s .args .out)) (c .before .before .before .before .before .before .before .before .before .if1 .left)
+returns-2 c = ?
 
 pub frame-read-spec : {M : Type 1} → statement M
 frame-read-spec =
     tie.close
     (tie.spec
+    view-of-requires
     keep-refusal-requires
+    same-length
     returns
     hear-requires
-    encode-requires
-    same-length
     same-length-2
+    same-length-3
     returns-2)

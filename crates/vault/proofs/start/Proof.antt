@@ -1,51 +1,59 @@
--- `vault::start` meets its contract: by the output, then by the record's length and its n.
--- Assumes nothing.
-use Prim.Native.Nat.{_≤_}
-use mathlib.Core.Path.{_∙_}
-use native.Mathlib.Omega.{arith}
-use lib.ListN.{length}
-use denote.Ref.{now}
-use Rattle.layout.specs.Layout.{decodeRecord}
-use Rattle.sound.proofs.Laws.{lent-length, lent-blank}
-use Rattle.vault.proofs.Laws.{startShort1, startBlank, startUnsound, startHeld}
 use borrow.Author.Needs.{needs}
 use Rattle.vault.proofs.start.Statement.{statement}
 use Rattle.vault.proofs.start.Tie as tie
+use Rattle.vault.proofs.start.Reads as reads
+use Rattle.vault.proofs.start.Lts as lts
+use Rattle.layout.proofs.settings_of.Reads as settings-of-reads
+use Rattle.settings.proofs.settings_refusal.Reads as settings-refusal-reads
+use Rattle.vault.proofs.begin.Reads as begin-reads
 
+-- src/lib.rt:78:9
 returns : tie.Need-returns
-returns c = let s = c .before .before .before in startShort1 (now (s .args .rec)) (s .args .n) (s .args .f) (s .args .id) (s .args .class) (s .args .plan) (now (s .args .out)) (omega arith)
+returns c = ?
 
+-- src/lib.rt:81:9
 returns-2 : tie.Need-returns-2
-returns-2 c = let s = c .before .before .before .before in
-    let room : 256 ≤ length (now (s .args .out)) = omega (arith, c .before .if1 .left) in
-    startUnsound (now (s .args .rec)) (s .args .n) (s .args .f) (s .args .id) (s .args .class) (s .args .plan) (now (s .args .out)) room (lent-length (now (s .args .rec)) (c .if2 .taken))
+returns-2 c = ?
 
-slice-read-if3 : tie.Need-slice-read-if3
-slice-read-if3 c = search needs
+-- src/lib.rt:83:9
+settings-of-requires : tie.Need-settings-of-requires
+settings-of-requires c κs = search needs
 
-returns-3 : tie.Need-returns-3
-unfolding decodeRecord
-returns-3 c = let s = c .before .before .before .before .before .before in
-    let room : 256 ≤ length (now (s .args .out)) = omega (arith, c .before .before .before .if1 .left) in
-    startHeld (now (s .args .rec)) (s .args .n) (s .args .f) (s .args .id) (s .args .class) (s .args .plan) (now (s .args .out)) room (c .before .before .if2 .left) (c .if3 .taken)
-
-start-blank-requires : tie.Need-start-blank-requires
-unfolding decodeRecord
-start-blank-requires c κs = let s = c .before .before .before .before .before .before .before .before in
-    let room : 256 ≤ length (now (s .args .out)) = omega (arith, c .before .before .before .before .before .if1 .left) in
-    (lent-blank (now (s .args .rec)) (c .before .before .before .before .if2 .left) (c .before .before .if3 .left), room)
-
+-- src/lib.rt:85:9
 same-length : tie.Need-same-length
 same-length c = search needs
 
+-- src/lib.rt:85:9
+returns-3 : tie.Need-returns-3
+returns-3 c = ?
+
+-- src/lib.rt:87:9
+settings-refusal-requires : tie.Need-settings-refusal-requires
+settings-refusal-requires c κs = search needs
+
+-- src/lib.rt:89:9
 same-length-2 : tie.Need-same-length-2
 same-length-2 c = search needs
 
+-- src/lib.rt:89:9
 returns-4 : tie.Need-returns-4
-unfolding decodeRecord
-returns-4 c = let s = c .before .before .before .before .before .before .before .before .before .before .before .before .before in
-    let room : 256 ≤ length (now (s .args .out)) = omega (arith, c .before .before .before .before .before .before .before .before .before .before .if1 .left) in
-    c .before .before .before .before .start-blank .ensures ∙ startBlank (now (s .args .rec)) (s .args .n) (s .args .f) (s .args .id) (s .args .class) (s .args .plan) (now (s .args .out)) room (lent-blank (now (s .args .rec)) (c .before .before .before .before .before .before .before .before .before .if2 .left) (c .before .before .before .before .before .before .before .if3 .left))
+returns-4 c = ?
+
+-- src/lib.rt:91:9
+begin-requires : tie.Need-begin-requires
+begin-requires c κs = search needs
+
+-- src/lib.rt:74:1
+same-length-3 : tie.Need-same-length-3
+same-length-3 c = search needs
+
+-- src/lib.rt:74:1
+same-length-4 : tie.Need-same-length-4
+same-length-4 c = search needs
+
+-- src/lib.rt:74:1
+returns-5 : tie.Need-returns-5
+returns-5 c = ?
 
 pub start-spec : {M : Type 1} → statement M
 start-spec =
@@ -53,9 +61,13 @@ start-spec =
     (tie.spec
     returns
     returns-2
-    slice-read-if3
-    returns-3
-    start-blank-requires
+    settings-of-requires
     same-length
+    returns-3
+    settings-refusal-requires
     same-length-2
-    returns-4)
+    returns-4
+    begin-requires
+    same-length-3
+    same-length-4
+    returns-5)

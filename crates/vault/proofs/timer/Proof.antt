@@ -1,57 +1,47 @@
--- `vault::timer` meets its contract: by the output, then by the record's length and its n.
--- Assumes nothing.
-use Prim.Native.Nat.{_≤_}
-use native.Mathlib.Omega.{arith}
-use lib.ListN.{length}
-use denote.Ref.{now}
-use Rattle.layout.specs.Layout.{decodeRecord}
-use Rattle.sound.proofs.Laws.{lent-length, lent-blank}
-use Rattle.vault.proofs.Rung.{timerShort, timerBlank, timerUnsound}
 use borrow.Author.Needs.{needs}
 use Rattle.vault.proofs.timer.Statement.{statement}
 use Rattle.vault.proofs.timer.Tie as tie
+use Rattle.vault.proofs.timer.Reads as reads
+use Rattle.vault.proofs.timer.Lts as lts
+use Rattle.vault.proofs.timer_in.Reads as timer-in-reads
+use Rattle.vault.proofs.way_in.Reads as way-in-reads
 
-returns : tie.Need-returns
-returns c = let s = c .before .before .before in timerShort (now (s .args .rec)) (s .args .view) (now (s .args .out)) (omega arith)
+-- src/lib.rt:221:9
+way-in-requires : tie.Need-way-in-requires
+way-in-requires c κs = search needs
 
-returns-2 : tie.Need-returns-2
-returns-2 c = let s = c .before .before .before .before in
-    let room : 256 ≤ length (now (s .args .out)) = omega (arith, c .before .if1 .left) in
-    timerUnsound (now (s .args .rec)) (s .args .view) (now (s .args .out)) room (lent-length (now (s .args .rec)) (c .if2 .taken))
-
-slice-read-if3 : tie.Need-slice-read-if3
-slice-read-if3 c = search needs
-
-returns-3 : tie.Need-returns-3
-unfolding decodeRecord
-returns-3 c = let s = c .before .before .before .before .before .before in
-    let room : 256 ≤ length (now (s .args .out)) = omega (arith, c .before .before .before .if1 .left) in
-    timerBlank (now (s .args .rec)) (s .args .view) (now (s .args .out)) room (lent-blank (now (s .args .rec)) (c .before .before .if2 .left) (c .if3 .taken))
-
-timer-held-requires : tie.Need-timer-held-requires
-unfolding decodeRecord
-timer-held-requires c κs = let s = c .before .before .before .before .before .before .before .before in
-    let room : 256 ≤ length (now (s .args .out)) = omega (arith, c .before .before .before .before .before .if1 .left) in
-    (c .before .before .before .before .if2 .left, c .before .before .if3 .left, room)
-
+-- src/lib.rt:223:9
 same-length : tie.Need-same-length
 same-length c = search needs
 
+-- src/lib.rt:223:9
+returns : tie.Need-returns
+returns c = ?
+
+-- src/lib.rt:225:5
+timer-in-requires : tie.Need-timer-in-requires
+timer-in-requires c κs = ?
+
+-- src/lib.rt:218:1
 same-length-2 : tie.Need-same-length-2
 same-length-2 c = search needs
 
-returns-4 : tie.Need-returns-4
-returns-4 c = c .before .before .before .before .timer-held .ensures
+-- src/lib.rt:218:1
+same-length-3 : tie.Need-same-length-3
+same-length-3 c = search needs
+
+-- src/lib.rt:218:1
+returns-2 : tie.Need-returns-2
+returns-2 c = search needs
 
 pub timer-spec : {M : Type 1} → statement M
 timer-spec =
     tie.close
     (tie.spec
-    returns
-    returns-2
-    slice-read-if3
-    returns-3
-    timer-held-requires
+    way-in-requires
     same-length
+    returns
+    timer-in-requires
     same-length-2
-    returns-4)
+    same-length-3
+    returns-2)
