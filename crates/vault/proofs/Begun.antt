@@ -2,7 +2,7 @@
 -- C'): what it leaves by the test that decides it, and that a fresh record with its timer entry is what the pass goes on from.
 -- Assumes nothing.
 use Prim.Native.Nat.{ℕ, _+_, _^_, _≤_, _<_}
-use mathlib.Core.Path.{_≡_, refl, sym, _∙_, ap, subst}
+use mathlib.Core.Path.{_≡_, sym, _∙_, ap}
 use mathlib.Core.Bool.{Bool, true, false, cond}
 use mathlib.Core.List.{List, [], _∷_, append-nil}
 use mathlib.Core.Option.{none}
@@ -11,7 +11,7 @@ use lib.ListN.{length, length-append}
 use Rattle.wire.specs.Placed.{placed}
 use Rattle.frame.specs.Refusal.{first}
 use Rattle.entry.specs.declared.Entry.{Entry}
-use Rattle.entry.specs.Layout.{entryBytes, layout}
+use Rattle.entry.specs.Layout.{entryBytes}
 use Rattle.settings.specs.declared.Settings.{Settings}
 use Rattle.settings.specs.Settings.{settingRows}
 use Rattle.record.specs.Slots as slots

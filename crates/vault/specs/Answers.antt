@@ -4,15 +4,20 @@ use Prim.Native.Nat.{ℕ}
 use mathlib.Core.Path.{_≡_}
 use mathlib.Core.Bool.{cond}
 use mathlib.Core.List.{List}
+use mathlib.Core.Option.{some}
 use lib.Dec.{ltb}
-use Rattle.frame.specs.declared.Reading.{Reading}
+use Rattle.frame.specs.declared.Frame.{Frame}
+use Rattle.frame.specs.declared.Reading.the-variants.{Accepted}
 use Rattle.frame.specs.Refusal.{first}
+use Rattle.settings.specs.declared.Settings.{Settings}
+use Rattle.layout.specs.Layout.{decodeRecord}
 use Rattle.sound.specs.declared.Lent.{Lent}
 use Rattle.sound.specs.declared.Lent.the-variants.{Blank, Unsound, Sound}
 use Rattle.sound.specs.Sound.{lentIs}
 use Rattle.protocol.specs.Record.{Record}
-use Rattle.protocol.specs.Calls.{Call, frame, timer, timerRows}
-use Rattle.contents.specs.Calls.{Left, wrote, gave}
+use Rattle.protocol.specs.Calls.{Readable, frame, timerRows, answer}
+use Rattle.contents.specs.Contents.{contentsIn, Ready}
+use Rattle.contents.specs.Calls.{Left, wrote, gave, after}
 use Rattle.vault.specs.declared.Answer.{Answer}
 use Rattle.vault.specs.declared.Answer.the-variants.{Written, Refused}
 
@@ -31,13 +36,19 @@ byLent Sound = 0
 unfoldable pub wayIn : List ℕ → ℕ → ℕ
 wayIn rec room = cond (ltb room 256) 1 (byLent (lentIs rec))
 
--- 'Frame': the call, with what the frame reader answers.
-abbrev pub hears : Reading → Call
-hears x = frame x
+-- Lent bytes that calls left, with the settings that they hold.
+pub record Held (rec : List ℕ) (set : Settings) : Type 0 where
+  pub ready : Ready rec
+  pub its : set ≡ decodeRecord rec .set
 
--- 'Timer': the call, with the view that the host names.
-abbrev pub rings : ℕ → Call
-rings v = timer v
+-- The same, with a frame that the reader of these settings accepted.
+pub record Read (rec : List ℕ) (set : Settings) (f : Frame) : Type 0 where
+  pub held : Held rec set
+  pub readable : Readable (set .n) (set .id) f
+
+-- 'against the record': what a frame that the reader accepted leaves.
+abbrev pub readLeft : List ℕ → Frame → List ℕ → Left
+readLeft rec f out = after rec out (answer (some (contentsIn rec)) (frame (Accepted f)))
 
 -- Rows 18 and 19 look at the record's view alone: the number that they give, 0 where neither does, of every record at a view.
 abbrev pub TimerGives : ℕ → ℕ → ℕ → Type 0

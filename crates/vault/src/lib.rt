@@ -7,21 +7,19 @@ use settings::Settings;
 use sound::Lent;
 ghost use Prim.Native.Nat.{_≤_, _<_};
 ghost use mathlib.Core.Path.{_≡_};
-ghost use mathlib.Core.Option.{some};
 ghost use lib.ListN.{length};
-ghost use Rattle.frame.specs.declared.Reading.the-variants.{Accepted};
-ghost use Rattle.frame.specs.Refusal.{first, readFrame};
+ghost use Rattle.frame.specs.Refusal.{first};
 ghost use Rattle.settings.specs.Settings.{settingRows};
 ghost use Rattle.record.specs.Slots.{rows};
 ghost use Rattle.layout.specs.Layout.{recordSize, decodeRecord};
 ghost use Rattle.sound.specs.declared.Lent.the-variants.{Sound};
 ghost use Rattle.sound.specs.Sound.{lentIs};
 ghost use Rattle.protocol.specs.Record.{changeOf};
-ghost use Rattle.protocol.specs.Calls.{Readable, recordRows, wantedFrom, started, heard, rung, answer};
-ghost use Rattle.contents.specs.Contents.{contentsIn, Ready};
-ghost use Rattle.contents.specs.Calls.{after, startLeft, frameLeft, timerLeft};
+ghost use Rattle.protocol.specs.Calls.{recordRows, wantedFrom, started, heard, rung};
+ghost use Rattle.contents.specs.Contents.{contentsIn};
+ghost use Rattle.contents.specs.Calls.{startLeft, frameLeft, timerLeft};
 ghost use Rattle.pass.specs.Steps.{Ran};
-ghost use Rattle.vault.specs.Answers.{leftBy, wayIn, hears, rings, TimerGives};
+ghost use Rattle.vault.specs.Answers.{leftBy, wayIn, Held, Read, readLeft, TimerGives};
 
 // What a call answers: how many bytes it wrote, or the number of a refusal.
 pub enum Answer {
@@ -88,8 +86,8 @@ pub fn start(rec: &mut [u8], set: Settings, plan: u64, out: &mut [u8]) -> Answer
     if why != 0 {
         return Answer::Refused(why);
     }
-    let count = begin(rec, set, plan, out);
-    Answer::Written(count)
+    let begun = begin(rec, set, plan, out);
+    Answer::Written(begun)
 }
 
 // ---- the way in to a vault's record, for frame and timer
@@ -113,7 +111,7 @@ fn way_in(rec: &[u8], room: usize) -> u8
 
 // The frame is kept in its sender's row; then one pass from A.
 fn hear(rec: &mut [u8], set: Settings, f: Frame, out: &mut [u8]) -> usize
-    requires { ⌜ Ready (now rec) × (set ≡ decodeRecord (now rec) .set) × Readable (set .n) (set .id) f × (first (recordRows (contentsIn (now rec)) f) ≡ 0) × (256 ≤ length (now out)) ⌝ }
+    requires { ⌜ Read (now rec) set f × (first (recordRows (contentsIn (now rec)) f) ≡ 0) × (256 ≤ length (now out)) ⌝ }
     ensures { λ n. ⌜ Ran (heard (contentsIn (now (rec .entry))) f) 0 (now (out .entry)) (now (out .exit)) n (now (rec .exit)) ⌝ }
 {
     keeping::keep(rec, f.sender, f);
@@ -122,16 +120,16 @@ fn hear(rec: &mut [u8], set: Settings, f: Frame, out: &mut [u8]) -> usize
 
 // A frame that the reader accepted, against the record.
 fn frame_read(rec: &mut [u8], set: Settings, f: Frame, out: &mut [u8]) -> Answer
-    requires { ⌜ Ready (now rec) × (set ≡ decodeRecord (now rec) .set) × Readable (set .n) (set .id) f × (256 ≤ length (now out)) ⌝ }
-    ensures { λ a. ⌜ leftBy a (now (rec .exit)) (now (out .exit)) ≡ after (now (rec .entry)) (now (out .entry)) (answer (some (contentsIn (now (rec .entry)))) (hears (Accepted f))) ⌝ }
+    requires { ⌜ Read (now rec) set f × (256 ≤ length (now out)) ⌝ }
+    ensures { λ a. ⌜ leftBy a (now (rec .exit)) (now (out .exit)) ≡ readLeft (now (rec .entry)) f (now (out .entry)) ⌝ }
 {
     let view = layout::view_of(rec);
     let why = keeping::keep_refusal(rec, view, f.sender, f.kind, f.view);
     if why != 0 {
         return Answer::Refused(why);
     }
-    let count = hear(rec, set, f, out);
-    Answer::Written(count)
+    let heard = hear(rec, set, f, out);
+    Answer::Written(heard)
 }
 
 // Frame on a sound record. The reader's refusal is passed on, with the record unchanged.
@@ -191,7 +189,7 @@ fn wanted_view(rec: &[u8], id: u8, view: u32) -> u32
 
 // A view is asked for; then one pass from A.
 fn ring(rec: &mut [u8], set: Settings, view: u32, out: &mut [u8]) -> usize
-    requires { ⌜ Ready (now rec) × (set ≡ decodeRecord (now rec) .set) × (view ≡ decodeRecord (now rec) .view) × (view < 4294967295) × (256 ≤ length (now out)) ⌝ }
+    requires { ⌜ Held (now rec) set × (view ≡ decodeRecord (now rec) .view) × (view < 4294967295) × (256 ≤ length (now out)) ⌝ }
     ensures { λ n. ⌜ Ran (rung (contentsIn (now (rec .entry)))) 0 (now (out .entry)) (now (out .exit)) n (now (rec .exit)) ⌝ }
 {
     let w = wanted_view(rec, set.id, view);
@@ -210,8 +208,8 @@ fn timer_in(rec: &mut [u8], view: u32, out: &mut [u8]) -> Answer
         return Answer::Refused(why);
     }
     let set = layout::settings_of(rec);
-    let count = ring(rec, set, current, out);
-    Answer::Written(count)
+    let rung = ring(rec, set, current, out);
+    Answer::Written(rung)
 }
 
 // Timer, for the view that the host names.

@@ -1,36 +1,41 @@
+-- `vault::frame` meets its contract: by the way in.
+-- Assumes nothing.
+use denote.Ref.{now}
+use Rattle.vault.proofs.Laws.{wayOpen}
+use Rattle.vault.proofs.Heard.{frameRefused}
 use borrow.Author.Needs.{needs}
 use Rattle.vault.proofs.frame.Statement.{statement}
 use Rattle.vault.proofs.frame.Tie as tie
-use Rattle.vault.proofs.frame.Reads as reads
-use Rattle.vault.proofs.frame.Lts as lts
-use Rattle.vault.proofs.frame_in.Reads as frame-in-reads
-use Rattle.vault.proofs.way_in.Reads as way-in-reads
 
--- src/lib.rt:154:9
 way-in-requires : tie.Need-way-in-requires
 way-in-requires c κs = search needs
 
--- src/lib.rt:156:9
 same-length : tie.Need-same-length
 same-length c = search needs
 
--- src/lib.rt:156:9
 returns : tie.Need-returns
-returns c = ?
+returns c =
+    let a = c .before in
+    let s = a .before .before .before .before .before in
+    let rec = now (s .args .rec) in
+    let out = now (s .args .out) in
+    frameRefused rec (s .args .sender) (now (s .args .bytes)) out (a .way-in .result) (a .way-in .ensures) (c .if1 .taken)
 
--- src/lib.rt:158:5
 frame-in-requires : tie.Need-frame-in-requires
-frame-in-requires c κs = ?
+frame-in-requires c κs =
+    let a = c .before .before in
+    let b = a .before in
+    let s = b .before .before .before .before .before in
+    let rec = now (s .args .rec) in
+    let out = now (s .args .out) in
+    wayOpen rec out (b .way-in .result) (b .way-in .ensures) (a .if1 .left)
 
--- src/lib.rt:151:1
 same-length-2 : tie.Need-same-length-2
 same-length-2 c = search needs
 
--- src/lib.rt:151:1
 same-length-3 : tie.Need-same-length-3
 same-length-3 c = search needs
 
--- src/lib.rt:151:1
 returns-2 : tie.Need-returns-2
 returns-2 c = search needs
 

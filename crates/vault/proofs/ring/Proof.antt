@@ -1,35 +1,49 @@
+-- `vault::ring` meets its contract: the view is asked for, and one pass runs.
+-- Assumes nothing.
+use denote.Ref.{now}
+use Rattle.vault.proofs.Rung.{ownRow, askRequires, ringRequires, ringRan}
 use borrow.Author.Needs.{needs}
 use Rattle.vault.proofs.ring.Statement.{statement}
 use Rattle.vault.proofs.ring.Tie as tie
-use Rattle.vault.proofs.ring.Reads as reads
-use Rattle.vault.proofs.ring.Lts as lts
-use Rattle.pass.proofs.ask_for.Reads as ask-for-reads
-use Rattle.pass.proofs.pass_from.Reads as pass-from-reads
-use Rattle.vault.proofs.wanted_view.Reads as wanted-view-reads
 
--- src/lib.rt:197:9
 wanted-view-requires : tie.Need-wanted-view-requires
-wanted-view-requires c κs = ?
+wanted-view-requires c κs = let s = c .before .before .before in (s .pre .0 .ready .size, ownRow (s .pre .0), s .pre .2)
 
--- src/lib.rt:198:9
 ask-for-requires : tie.Need-ask-for-requires
-ask-for-requires c κs = ?
+ask-for-requires c κs =
+    let a = c .before .before in
+    let s = a .before .before .before .before in
+    let out = now (s .args .out) in
+    askRequires (s .pre .0) (s .args .view) (s .pre .1) (s .pre .2)
+    (a .wanted-view .result) (a .wanted-view .ensures) out (s .pre .3)
 
--- src/lib.rt:199:5
 pass-from-requires : tie.Need-pass-from-requires
-pass-from-requires c κs = ?
+pass-from-requires c κs =
+    let a = c .before .before .before .before .before .before in
+    let b = a .before .before .before in
+    let s = b .before .before .before .before in
+    let out = now (s .args .out) in
+    ringRequires (s .pre .0) (s .args .view) (s .pre .1) (s .pre .2)
+    (b .wanted-view .result) (b .wanted-view .ensures) out (s .pre .3)
+    (a .ask-for .result) (a .ask-for .last .0) (a .ask-for .last .1 .1 .1 .0) (a .ask-for .ensures)
 
--- src/lib.rt:193:1
 same-length : tie.Need-same-length
 same-length c = search needs
 
--- src/lib.rt:193:1
 same-length-2 : tie.Need-same-length-2
 same-length-2 c = search needs
 
--- src/lib.rt:193:1
 returns : tie.Need-returns
-returns c = ?
+returns c =
+    let a = c .before .before .before .before in
+    let b = a .before .before .before .before .before .before .before in
+    let d = b .before .before .before in
+    let s = d .before .before .before .before in
+    let out = now (s .args .out) in
+    ringRan (s .pre .0) (s .args .view) (s .pre .1) (s .pre .2)
+    (d .wanted-view .result) (d .wanted-view .ensures) out (s .pre .3)
+    (b .ask-for .result) (b .ask-for .last .0) (b .ask-for .last .1 .1 .1 .0) (b .ask-for .ensures)
+    (a .pass-from .result) (a .pass-from .last .0) (a .pass-from .last .1 .1 .1 .0) (a .pass-from .ensures)
 
 pub ring-spec : {M : Type 1} → statement M
 ring-spec =

@@ -1,19 +1,23 @@
+-- `vault::timer_refusal` meets its contract: the branches decide the rows 18 and 19.
+-- Assumes nothing.
+use Rattle.vault.proofs.Rung.{notCurrent, lastView, mayRing}
 use Rattle.vault.proofs.timer_refusal.Statement.{statement}
 use Rattle.vault.proofs.timer_refusal.Tie as tie
-use Rattle.vault.proofs.timer_refusal.Reads as reads
-use Rattle.vault.proofs.timer_refusal.Lts as lts
 
--- src/lib.rt:168:9
 returns : tie.Need-returns
-returns c = ?
+returns c = let s = c .before in notCurrent (s .args .current) (s .args .view) (c .if1 .taken)
 
--- src/lib.rt:171:9
 returns-2 : tie.Need-returns-2
-returns-2 c = ?
+returns-2 c =
+    let a = c .before in
+    let s = a .before in
+    lastView (s .args .current) (s .args .view) (a .if1 .left) (c .if2 .taken)
 
--- src/lib.rt:164:1
 returns-3 : tie.Need-returns-3
-returns-3 c = ?
+returns-3 c =
+    let a = c .before in
+    let s = a .before in
+    mayRing (s .args .current) (s .args .view) (a .if1 .left) (c .if2 .left)
 
 pub timer-refusal-spec : {M : Type 1} → statement M
 timer-refusal-spec = tie.close (tie.spec returns returns-2 returns-3)

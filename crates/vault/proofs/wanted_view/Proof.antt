@@ -1,38 +1,51 @@
+-- `vault::wanted_view` meets its contract: by whether an own view-change is kept, and whether it is above the view.
+-- Assumes nothing.
+use denote.Ref.{now}
+use Rattle.vault.proofs.Rung.{wantedNone, wantedOwn, wantedNext}
 use borrow.Author.Needs.{needs}
 use Rattle.vault.proofs.wanted_view.Statement.{statement}
 use Rattle.vault.proofs.wanted_view.Tie as tie
-use Rattle.vault.proofs.wanted_view.Reads as reads
-use Rattle.vault.proofs.wanted_view.Lts as lts
-use Rattle.layout.proofs.frame_slot.Reads as frame-slot-reads
-use Rattle.layout.proofs.slot_of.Reads as slot-of-reads
 
--- src/lib.rt:181:9
 frame-slot-requires : tie.Need-frame-slot-requires
 frame-slot-requires c κs = search needs
 
--- src/lib.rt:182:9
 slot-of-requires : tie.Need-slot-of-requires
 slot-of-requires c κs = search needs
 
--- src/lib.rt:184:16
 add-result : tie.Need-add-result
 add-result c = search needs
 
--- src/lib.rt:184:9
 returns : tie.Need-returns
-returns c = ?
+returns c =
+    let a = c .before .before in
+    let b = a .before in
+    let s = b .before .before in
+    let rec = now (s .args .rec) in
+    wantedNone rec (s .args .id) (s .args .view) (b .frame-slot .result) (s .pre .1) (b .frame-slot .ensures .0)
+    (a .slot-of .result) (a .slot-of .ensures) (c .if1 .taken)
 
--- src/lib.rt:187:9
 returns-2 : tie.Need-returns-2
-returns-2 c = ?
+returns-2 c =
+    let a = c .before .before in
+    let b = a .before .before in
+    let d = b .before in
+    let s = d .before .before in
+    let rec = now (s .args .rec) in
+    wantedOwn rec (s .args .id) (s .args .view) (d .frame-slot .result) (s .pre .1) (d .frame-slot .ensures .0)
+    (b .slot-of .result) (b .slot-of .ensures) (a .if1 .left) (c .if2 .taken)
 
--- src/lib.rt:189:5
 add-result-2 : tie.Need-add-result-2
 add-result-2 c = search needs
 
--- src/lib.rt:177:1
 returns-3 : tie.Need-returns-3
-returns-3 c = ?
+returns-3 c =
+    let a = c .before .before in
+    let b = a .before .before in
+    let d = b .before in
+    let s = d .before .before in
+    let rec = now (s .args .rec) in
+    wantedNext rec (s .args .id) (s .args .view) (d .frame-slot .result) (s .pre .1) (d .frame-slot .ensures .0)
+    (b .slot-of .result) (b .slot-of .ensures) (a .if1 .left) (c .if2 .left)
 
 pub wanted-view-spec : {M : Type 1} → statement M
 wanted-view-spec =

@@ -1,0 +1,163 @@
+-- A timer (document 01, 'Refusals, place by place', rows 18 and 19; 'An accepted timer broadcasts view-change .., then goes from A'):
+-- the view that is asked for, read off the own view-change's slot; and what is left by the view that is named.
+-- Assumes nothing.
+use Prim.Native.Nat.{ℕ, _+_, _^_, _≤_, _<_}
+use mathlib.Core.Path.{_≡_, refl, sym, _∙_, ap, subst}
+use mathlib.Core.Bool.{Bool, true, false, cond}
+use mathlib.Core.List.{List}
+use mathlib.Core.Option.{Option, none, some}
+use native.Mathlib.Omega.{arith}
+use native.Mathlib.Numerals.{add-one}
+use lib.ListN.{length}
+use borrow.Author.Tests.{lt-ltb, le-ltb, eq-eqb, ne-eqb, eqb-false}
+use Rattle.frame.specs.declared.Report.{Report}
+use Rattle.frame.specs.declared.Frame.{Frame}
+use Rattle.frame.specs.Refusal.{first, present}
+use Rattle.settings.specs.declared.Settings.{Settings}
+use Rattle.record.specs.Slots as slots
+use Rattle.record.specs.Slots.{rows, frameSlot, slotOf}
+use Rattle.layout.specs.Layout.{decodeRecord}
+use Rattle.keeping.specs.Kept.{keptIn, frameIn}
+use Rattle.sound.specs.declared.Lent.the-variants.{Sound}
+use Rattle.sound.specs.Sound.{lentIs}
+use Rattle.protocol.specs.Record.{Record, each, changeOf}
+use Rattle.protocol.specs.Pass.{Out, ask, does, writes, taken, onward, pass, fromA}
+use Rattle.protocol.specs.Calls.{timerRows, wantedFrom, wanted, rung, timer, accepted, unless, answer}
+use Rattle.protocol.proofs.Good.{doesSet}
+use Rattle.protocol.proofs.Went.{noneGiven, wantedMay}
+use Rattle.contents.specs.Contents.{contents, contentsIn, Ready}
+use Rattle.contents.specs.Calls.{gave, after, timerLeft}
+use Rattle.contents.proofs.Clean.{keptAt}
+use Rattle.contents.proofs.Ready.{readyRow}
+use Rattle.pass.specs.Steps.{Room, Ran}
+use Rattle.vault.specs.Answers.{wayIn, Held, TimerGives}
+use Rattle.vault.proofs.Laws.{acceptedRoom, refusedBy, acceptedBy, calledLent, wayRefused, firstRoom, nextRoom, nextRan}
+
+-- ---- the view that is asked for
+
+-- What a slot of the view-changes asks for.
+abbrev asks : Report → Option ℕ
+asks x = cond (present x) (some (x .view)) none
+
+changeAt : (r : slots.Record) (j : ℕ) → j < rows → changeOf (contents r) j ≡ asks (slotOf r (frameSlot 6 j))
+unfolding keptIn frameIn
+changeAt r j low =
+    ap (λ (o : Option Frame). each o (λ f. some (f .view))) (keptAt r 6 j (omega arith) (omega arith) low) ∙ go (present (slotOf r (frameSlot 6 j)))
+  where
+    go : (b : Bool) → each (cond b (some (frameIn (slotOf r) 6 j)) none) (λ (f : Frame). some (f .view)) ≡ cond b (some (slotOf r (frameSlot 6 j) .view)) none
+    go true = refl
+    go false = refl
+
+-- The own view-change stands in slot `at`, and is x.
+module _ (rec : List ℕ) (id view at : ℕ) (row : id < rows) (place : at ≡ frameSlot 6 id) (x : Report) (own : x ≡ slotOf (decodeRecord rec) at) where
+  abbrev Wanted : ℕ → Type 0
+  Wanted w = w ≡ wantedFrom view (changeOf (contentsIn rec) id)
+
+  there : (w : ℕ) → w ≡ wantedFrom view (asks x) → Wanted w
+  there w e =
+      e ∙ ap (λ (y : Report). wantedFrom view (asks y)) (own ∙ ap (slotOf (decodeRecord rec)) place)
+      ∙ ap (wantedFrom view) (sym (changeAt (decodeRecord rec) id row))
+
+  pub wantedNone : (x .mark ≡ 1 → ⊥) → Wanted (view + 1)
+  wantedNone ne = there (view + 1) (rw (ne-eqb (x .mark) 1 ne) (add-one view))
+
+  pub wantedOwn : x .mark ≡ 1 → view < x .view → Wanted (x .view)
+  wantedOwn is above = there (x .view) (rw (eq-eqb (x .mark) 1 is, lt-ltb view (x .view) above) refl)
+
+  pub wantedNext : x .mark ≡ 1 → x .view ≤ view → Wanted (view + 1)
+  wantedNext is low = there (view + 1) (rw (eq-eqb (x .mark) 1 is, le-ltb view (x .view) low) (add-one view))
+
+-- ---- the refusals
+
+module _ (current v : ℕ) where
+  pub notCurrent : (v ≡ current → ⊥) → TimerGives current v 18
+  notCurrent ne r e = rw (e, ne-eqb v current ne) refl
+
+  pub lastView : v ≡ current → current ≡ 4294967295 → TimerGives current v 19
+  lastView is last r e = rw (e, eq-eqb v current is, eq-eqb current 4294967295 last) refl
+
+  pub mayRing : v ≡ current → (current ≡ 4294967295 → ⊥) → TimerGives current v 0
+  mayRing is ne r e = rw (e, eq-eqb v current is, ne-eqb current 4294967295 ne) refl
+
+-- ---- the view is asked for, and one pass from A
+
+-- The own number has a row.
+pub ownRow : {rec : List ℕ} {set : Settings} → Held rec set → set .id < rows
+ownRow h = subst (λ (s : Settings). s .id < rows) (sym (h .its)) (readyRow (h .ready))
+
+module _ {rec : List ℕ} {set : Settings} (h : Held rec set) (view : ℕ) (current : view ≡ decodeRecord rec .view)
+    (low : view < 4294967295) (w : ℕ) (found : w ≡ wantedFrom view (changeOf (contentsIn rec) (set .id))) (out : List ℕ) (room : 256 ≤ length out) where
+  notLast : contentsIn rec .view ≡ 4294967295 → ⊥
+  unfolding contents
+  notLast e = omega (arith, e, low, current)
+
+  wants : w ≡ wanted (contentsIn rec)
+  unfolding contents
+  wants =
+      found ∙ ap (λ (v : ℕ). wantedFrom v (changeOf (contentsIn rec) (set .id))) current
+      ∙ ap (λ (s : Settings). wantedFrom (decodeRecord rec .view) (changeOf (contentsIn rec) (s .id))) (h .its)
+
+  above : decodeRecord rec .view < w
+  unfolding contents
+  above = omega (arith, wants, wantedMay (contentsIn rec) notLast .0)
+
+  -- An accepted timer is the asking, then the pass.
+  rungIs : onward (writes (contentsIn rec) (ask w)) (pass fromA (does (contentsIn rec) (ask w))) ≡ rung (contentsIn rec)
+  unfolding rung
+  rungIs = ap (λ (v : ℕ). onward (writes (contentsIn rec) (ask v)) (pass fromA (does (contentsIn rec) (ask v)))) wants
+
+  roomAll : Room (onward (writes (contentsIn rec) (ask w)) (pass fromA (does (contentsIn rec) (ask w)))) 0 out
+  unfolding answer
+  roomAll = subst (λ (o : Out). Room o 0 out) (sym rungIs)
+      (acceptedRoom (some (contentsIn rec)) (timer (contentsIn rec .view)) (rung (contentsIn rec)) out
+      (ap (λ (k : ℕ). unless k (rung (contentsIn rec))) (sym (mayRing (contentsIn rec .view) (contentsIn rec .view) refl notLast (contentsIn rec) refl))) room)
+
+  pub askRequires : Ready rec × (set ≡ decodeRecord rec .set) × (decodeRecord rec .view < w) × Room (taken (contentsIn rec) (some (ask w))) 0 out
+  askRequires = (h .ready, h .its, above, firstRoom (taken (contentsIn rec) (some (ask w))) fromA out roomAll)
+
+  module _ (at : ℕ) (rec' out' : List ℕ) (ran : Ran (taken (contentsIn rec) (some (ask w))) 0 out out' at rec') where
+    pub ringRequires : Ready rec' × (set ≡ decodeRecord rec' .set) × (0 ≤ 8) × Room (pass fromA (contentsIn rec')) at out'
+    unfolding contents
+    ringRequires = (
+      ran .ready,
+      h .its ∙ sym (ap (λ (c : Record). c .set) (ran .left) ∙ doesSet (contentsIn rec) (ask w)),
+      omega arith,
+      nextRoom (taken (contentsIn rec) (some (ask w))) fromA out roomAll at rec' out' ran,
+    )
+
+    pub ringRan : (n : ℕ) (rec'' out'' : List ℕ) → Ran (pass fromA (contentsIn rec')) at out' out'' n rec'' → Ran (rung (contentsIn rec)) 0 out out'' n rec''
+    ringRan n rec'' out'' then =
+        subst (λ (o : Out). Ran o 0 out out'' n rec'') rungIs
+        (nextRan (taken (contentsIn rec) (some (ask w))) fromA out roomAll at rec' out' ran n rec'' out'' then)
+
+-- ---- what a timer leaves
+
+module _ (rec out : List ℕ) (sound : lentIs rec ≡ Sound) (room : 256 ≤ length out) (current : ℕ) (now : current ≡ decodeRecord rec .view) (view k : ℕ)
+    (given : TimerGives current view k) where
+  rows′ : k ≡ first (timerRows (contentsIn rec) view)
+  unfolding contents
+  rows′ = given (contentsIn rec) (sym now)
+
+  answered : after rec out (answer (some (contentsIn rec)) (timer view)) ≡ timerLeft rec view out
+  unfolding timerLeft
+  answered = calledLent 3 rec out (timer view) room Sound sound
+
+  pub timerRefused : (k ≡ 0 → ⊥) → gave k rec out ≡ timerLeft rec view out
+  unfolding answer
+  timerRefused other = refusedBy rec out (rung (contentsIn rec)) (first (timerRows (contentsIn rec) view)) k rows′ other ∙ answered
+
+  pub timerAccepted : k ≡ 0 → after rec out (accepted (rung (contentsIn rec))) ≡ timerLeft rec view out
+  unfolding answer
+  timerAccepted e = acceptedBy rec out (rung (contentsIn rec)) (first (timerRows (contentsIn rec) view)) (sym rows′ ∙ e) ∙ answered
+
+  pub viewBelow : Ready rec → k ≡ 0 → current < 4294967295
+  unfolding contents
+  viewBelow ready e =
+      let other = noneGiven (timerRows (contentsIn rec) view) (sym rows′ ∙ e) .1 .0 in
+      let wide : decodeRecord rec .view < 2 ^ 32 = ready .ranged .view in
+      let ne : decodeRecord rec .view ≡ 4294967295 → ⊥ = eqb-false (decodeRecord rec .view) 4294967295 other in
+      omega (arith, wide, ne, now)
+
+pub timerShut : (rec : List ℕ) (view : ℕ) (out : List ℕ) (k : ℕ) → k ≡ wayIn rec (length out) → (k ≡ 0 → ⊥) → gave k rec out ≡ timerLeft rec view out
+unfolding timerLeft answer
+timerShut rec view out k way = wayRefused rec out k way (timer view) refl
