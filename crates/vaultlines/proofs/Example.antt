@@ -114,7 +114,7 @@ blankAt = record { held = refl; fine = λ r e. absurd (none≢some e) }
 
 starts : Goes (lineLeft blank (text "00040100020000000000000007")) first
 unfolding valueOf within allDigits badLine spelled bytesOf startOf timerOf frameOf callOf numberAt lineLeft
-starts = goes blank none (start 4 1 0 2 7) blankAt (omega arith) first firstAccepted
+starts = goes blank none (start settings 7) blankAt (omega arith) first firstAccepted
 
 -- A vote-1 heard by a vault of 4 with number 0.
 module _ (rec : List ℕ) (r : Record) (at : At rec (some r)) where
