@@ -30,7 +30,8 @@ use Rattle.contents.specs.Calls.{gave, after, startLeft}
 use Rattle.contents.proofs.Parts.{contentsFresh, cleanFresh}
 use Rattle.contents.proofs.Ready.{contentsHeld, readyAs}
 use Rattle.pass.specs.Steps.{Room, Ran}
-use Rattle.vault.proofs.Laws.{acceptedRoom, refusedBy, acceptedBy, calledShort, calledLent, nextRoom, nextRan}
+use Rattle.pass.proofs.Runs.{roomNext, ranJoin}
+use Rattle.vault.proofs.Laws.{acceptedRoom, refusedBy, acceptedBy, calledShort, calledLent}
 
 -- ---- the fresh record, its timer entry, and the pass
 
@@ -67,11 +68,11 @@ module _ (set : Settings) (plan : ℕ) (given : first (settingRows set) ≡ 0) (
 
   pub beginRequires : Ready rec × (set ≡ decodeRecord rec .set) × (2 ≤ 8) × Room (pass fromC (contentsIn rec)) at out'
   unfolding started
-  beginRequires = (freshReady, freshSet, omega arith, nextRoom entered fromC out startRoom at rec out' enteredRan)
+  beginRequires = (freshReady, freshSet, omega arith, roomNext entered fromC 0 out startRoom enteredRan)
 
   pub beginRan : (n : ℕ) (rec' out'' : List ℕ) → Ran (pass fromC (contentsIn rec)) at out' out'' n rec' → Ran (started set plan) 0 out out'' n rec'
   unfolding started
-  beginRan = nextRan entered fromC out startRoom at rec out' enteredRan
+  beginRan n rec' out'' = ranJoin entered fromC 0 out startRoom enteredRan
 
 -- ---- what a start leaves
 

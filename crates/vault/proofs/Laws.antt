@@ -1,30 +1,26 @@
 -- What a call leaves, by the test that decides it (document 01, 'Refusals, place by place'): of any call, by the output's space, by
--- what the record is, by the number that a table gives; of the accepted call, whose bytes are the one spelling of what is left; and
--- of two parts run one after the other.
+-- what the record is, by the number that a table gives; and of the accepted call, whose bytes are the one spelling of what is left.
 -- Assumes nothing.
-use Prim.Native.Nat.{ℕ, zero, suc, _+_, _≤_, _<_}
-use mathlib.Core.Path.{_≡_, refl, sym, _∙_, ap, subst}
+use Prim.Native.Nat.{ℕ, zero, suc, _≤_, _<_}
+use mathlib.Core.Path.{_≡_, refl, sym, _∙_, ap}
 use mathlib.Core.Bool.{Bool, true, false, cond}
-use mathlib.Core.List.{List, [], _∷_, _++_, append-assoc}
+use mathlib.Core.List.{List}
 use mathlib.Core.Option.{Option, none}
 use native.Mathlib.Omega.{arith}
-use lib.ListN.{length, length-append}
+use lib.ListN.{length}
 use lib.Dec.{ltb}
 use borrow.Author.Tests.{lt-ltb, le-ltb, ltb-false}
 use Rattle.wire.specs.Fields.{Bytes}
-use Rattle.wire.specs.Placed.{placed}
-use Rattle.wire.proofs.Output.{placed-more, length-placed}
-use Rattle.entry.specs.declared.Entry.{Entry}
 use Rattle.entry.specs.Layout.{layout}
 use Rattle.layout.specs.Layout.{encodeRecord, decodeRecord}
 use Rattle.sound.specs.declared.Lent.{Lent}
 use Rattle.sound.specs.declared.Lent.the-variants.{Blank, Unsound, Sound}
 use Rattle.sound.specs.Sound.{lentIs}
 use Rattle.protocol.specs.Record.{Record}
-use Rattle.protocol.specs.Pass.{Out, Step, onward, pass}
+use Rattle.protocol.specs.Pass.{Out}
 use Rattle.protocol.specs.Calls.{Call, unless, refused, accepted, answer}
 use Rattle.protocol.proofs.Size.{outputShort}
-use Rattle.contents.specs.Contents.{contents, contentsIn, slotted}
+use Rattle.contents.specs.Contents.{contents, slotted}
 use Rattle.contents.specs.Calls.{wrote, gave, after, onLent, called}
 use Rattle.contents.proofs.Ready.{readySpells}
 use Rattle.pass.specs.Steps.{Room, Ran}
@@ -99,44 +95,3 @@ module _ (rec out : List ℕ) (k : ℕ) (way : k ≡ wayIn rec (length out)) whe
       go false Blank low is e = absurd (omega arith)
       go false Unsound low is e = absurd (omega arith)
       go false Sound low is e = (is, ltb-false (length out) 256 low)
-
--- ---- one part run after the other
-
-layoutAppend : (es fs : List Entry) → layout (es ++ fs) ≡ layout es ++ layout fs
-layoutAppend [] fs = refl
-layoutAppend (e ∷ es) fs = rw (append-assoc, layoutAppend es fs)
-
-lengthJoin : (es fs : List Entry) → length (layout (es ++ fs)) ≡ length (layout es) + length (layout fs)
-lengthJoin es fs = ap length (layoutAppend es fs) ∙ length-append (layout es) (layout fs)
-
--- What is to be done first, as o says; then there are steps to run.
-module _ (o : Out) (steps : List Step) (out : List ℕ) (room : Room (onward (o .wrote) (pass steps (o .left))) 0 out) where
-  total : length (layout (o .wrote)) + length (layout ((pass steps (o .left)) .wrote)) ≤ length out
-  total = omega (arith, room, lengthJoin (o .wrote) ((pass steps (o .left)) .wrote))
-
-  pub firstRoom : Room o 0 out
-  firstRoom = omega (arith, total)
-
-  -- It is done, with its entries written.
-  module _ (at : ℕ) (rec' out' : List ℕ) (ran : Ran o 0 out out' at rec') where
-    sameSize : length out' ≡ length out
-    sameSize = ap length (ran .bytes) ∙ length-placed out 0 (layout (o .wrote)) (omega (arith, total))
-
-    pub nextRoom : Room (pass steps (contentsIn rec')) at out'
-    nextRoom = subst (λ (c : Record). Room (pass steps c) at out') (sym (ran .left)) (omega (arith, total, sameSize, ran .count))
-
-    pub nextRan : (n : ℕ) (rec'' out'' : List ℕ) → Ran (pass steps (contentsIn rec')) at out' out'' n rec''
-        → Ran (onward (o .wrote) (pass steps (o .left))) 0 out out'' n rec''
-    nextRan n rec'' out'' then = record {
-      left = next .left;
-      ready = next .ready;
-      count = omega (arith, next .count, ran .count, lengthJoin (o .wrote) ((pass steps (o .left)) .wrote));
-      bytes =
-          next .bytes
-          ∙ (λ i. placed (ran .bytes i) (ran .count i) (layout ((pass steps (o .left)) .wrote)))
-          ∙ placed-more out 0 (layout (o .wrote)) (layout ((pass steps (o .left)) .wrote)) (omega arith)
-          ∙ ap (placed out 0) (sym (layoutAppend (o .wrote) ((pass steps (o .left)) .wrote)));
-    }
-      where
-        next : Ran (pass steps (o .left)) at out' out'' n rec''
-        next = subst (λ (c : Record). Ran (pass steps c) at out' out'' n rec'') (ran .left) then

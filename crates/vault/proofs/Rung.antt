@@ -21,7 +21,7 @@ use Rattle.keeping.specs.Kept.{keptIn, frameIn}
 use Rattle.sound.specs.declared.Lent.the-variants.{Sound}
 use Rattle.sound.specs.Sound.{lentIs}
 use Rattle.protocol.specs.Record.{Record, each, changeOf}
-use Rattle.protocol.specs.Pass.{Out, ask, does, writes, taken, onward, pass, fromA}
+use Rattle.protocol.specs.Pass.{Out, ask, taken, pass, fromA}
 use Rattle.protocol.specs.Calls.{timerRows, wantedFrom, wanted, rung, timer, accepted, unless, answer}
 use Rattle.protocol.proofs.Good.{doesSet}
 use Rattle.protocol.proofs.Went.{noneGiven, wantedMay}
@@ -30,8 +30,9 @@ use Rattle.contents.specs.Calls.{gave, after, timerLeft}
 use Rattle.contents.proofs.Clean.{keptAt}
 use Rattle.contents.proofs.Ready.{readyRow}
 use Rattle.pass.specs.Steps.{Room, Ran}
+use Rattle.pass.proofs.Runs.{joined, roomFirst, roomNext, ranJoin}
 use Rattle.vault.specs.Answers.{wayIn, Held, TimerGives}
-use Rattle.vault.proofs.Laws.{acceptedRoom, refusedBy, acceptedBy, calledLent, wayRefused, firstRoom, nextRoom, nextRan}
+use Rattle.vault.proofs.Laws.{acceptedRoom, refusedBy, acceptedBy, calledLent, wayRefused}
 
 -- ---- the view that is asked for
 
@@ -101,34 +102,36 @@ module _ {rec : List ℕ} {set : Settings} (h : Held rec set) (view : ℕ) (curr
   unfolding contents
   above = omega (arith, wants, wantedMay (contentsIn rec) notLast .0)
 
-  -- An accepted timer is the asking, then the pass.
-  rungIs : onward (writes (contentsIn rec) (ask w)) (pass fromA (does (contentsIn rec) (ask w))) ≡ rung (contentsIn rec)
-  unfolding rung
-  rungIs = ap (λ (v : ℕ). onward (writes (contentsIn rec) (ask v)) (pass fromA (does (contentsIn rec) (ask v)))) wants
+  abbrev asking : Out
+  asking = taken (contentsIn rec) (some (ask w))
 
-  roomAll : Room (onward (writes (contentsIn rec) (ask w)) (pass fromA (does (contentsIn rec) (ask w)))) 0 out
+  -- An accepted timer is the asking, then the pass.
+  rungIs : joined asking fromA ≡ rung (contentsIn rec)
+  unfolding rung
+  rungIs = ap (λ (v : ℕ). joined (taken (contentsIn rec) (some (ask v))) fromA) wants
+
+  roomAll : Room (joined asking fromA) 0 out
   unfolding answer
   roomAll = subst (λ (o : Out). Room o 0 out) (sym rungIs)
       (acceptedRoom (some (contentsIn rec)) (timer (contentsIn rec .view)) (rung (contentsIn rec)) out
       (ap (λ (k : ℕ). unless k (rung (contentsIn rec))) (sym (mayRing (contentsIn rec .view) (contentsIn rec .view) refl notLast (contentsIn rec) refl))) room)
 
-  pub askRequires : Ready rec × (set ≡ decodeRecord rec .set) × (decodeRecord rec .view < w) × Room (taken (contentsIn rec) (some (ask w))) 0 out
-  askRequires = (h .ready, h .its, above, firstRoom (taken (contentsIn rec) (some (ask w))) fromA out roomAll)
+  pub askRequires : Ready rec × (set ≡ decodeRecord rec .set) × (decodeRecord rec .view < w) × Room asking 0 out
+  askRequires = (h .ready, h .its, above, roomFirst asking fromA 0 out roomAll)
 
-  module _ (at : ℕ) (rec' out' : List ℕ) (ran : Ran (taken (contentsIn rec) (some (ask w))) 0 out out' at rec') where
+  module _ (at : ℕ) (rec' out' : List ℕ) (ran : Ran asking 0 out out' at rec') where
     pub ringRequires : Ready rec' × (set ≡ decodeRecord rec' .set) × (0 ≤ 8) × Room (pass fromA (contentsIn rec')) at out'
     unfolding contents
     ringRequires = (
       ran .ready,
       h .its ∙ sym (ap (λ (c : Record). c .set) (ran .left) ∙ doesSet (contentsIn rec) (ask w)),
       omega arith,
-      nextRoom (taken (contentsIn rec) (some (ask w))) fromA out roomAll at rec' out' ran,
+      roomNext asking fromA 0 out roomAll ran,
     )
 
     pub ringRan : (n : ℕ) (rec'' out'' : List ℕ) → Ran (pass fromA (contentsIn rec')) at out' out'' n rec'' → Ran (rung (contentsIn rec)) 0 out out'' n rec''
     ringRan n rec'' out'' then =
-        subst (λ (o : Out). Ran o 0 out out'' n rec'') rungIs
-        (nextRan (taken (contentsIn rec) (some (ask w))) fromA out roomAll at rec' out' ran n rec'' out'' then)
+        subst (λ (o : Out). Ran o 0 out out'' n rec'') rungIs (ranJoin asking fromA 0 out roomAll ran then)
 
 -- ---- what a timer leaves
 
