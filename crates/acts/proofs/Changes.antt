@@ -16,7 +16,7 @@ use lib.ListN.{length, getD, take, drop, set, length-take}
 use lib.Seq.{getD-set-same, getD-set-other, getD-take}
 use borrow.Author.Tests.{eq-eqb, ne-eqb, lt-ltb, le-ltb, le-leb, lt-leb, leb-true}
 use Rattle.quorum.specs.Sets.{Set, weigh}
-use Rattle.quorum.proofs.Laws.{weighNone, weighMore, weighStep, weighSame}
+use Rattle.quorum.proofs.Laws.{weighNone, weighMore, weighStep, weighSame, weighMost, shareMost}
 use Rattle.rules.specs.Options.{holds}
 use Rattle.frame.specs.declared.Report.{Report}
 use Rattle.acts.specs.Changes.{asks, newsFrom, askers, enough, times, Gathered, raisedAt, Highest}
@@ -34,6 +34,13 @@ module _ (low : ℕ) (slot : Report) where
 
 -- ---- how often a view is there
 
+-- Among d more there are at most d more of a set.
+weighSlack : (set : Set) (k d : ℕ) → weigh (λ i. 1) set (k + d) ≤ weigh (λ i. 1) set k + d
+weighSlack set k zero = let same : k + 0 ≡ k = omega arith in rw same (omega arith)
+weighSlack set k (suc d) =
+    let next : k + suc d ≡ k + d + 1 = omega arith in
+    rw next (omega (arith, weighMore (λ i. 1) set (k + d), shareMost (set (k + d)) 1 (cond (set (k + d)) 1 0) refl, weighSlack set k d))
+
 module _ (views : List ℕ) where
   timesMore : (k w : ℕ) → times views (k + 1) w ≡ times views k w + cond (eqb w (getD views k 0)) 1 0
   timesMore k w = weighMore (λ i. 1) (λ j. eqb w (getD views j 0)) k
@@ -45,17 +52,6 @@ module _ (views : List ℕ) where
   timesOther k w e =
       let more : times views (k + 1) w ≡ times views k w + 0 = timesMore k w ∙ rw (ne-eqb w (getD views k 0) e) in
       omega arith
-
-  -- d places more have it at most d times more.
-  timesSlack : (k d w : ℕ) → times views (k + d) w ≤ times views k w + d
-  timesSlack k zero w = let same : k + 0 ≡ k = omega arith in rw same (omega arith)
-  timesSlack k (suc d) w =
-      let next : k + suc d ≡ k + d + 1 = omega arith in
-      rw next (go (ℕ-discrete w (getD views (k + d) 0)) (timesSlack k d w))
-    where
-      go : Dec (w ≡ getD views (k + d) 0) → times views (k + d) w ≤ times views k w + d → times views (k + d + 1) w ≤ times views k w + suc d
-      go (yes e) less = omega (arith, timesSame (k + d) w e)
-      go (no e) less = omega (arith, timesOther (k + d) w e)
 
 -- The loop that counts from a place on.
 pub timesStep : (views : List ℕ) (from j w count more : ℕ) → times views from w + count ≡ times views j w → more ≡ cond (eqb w (getD views j 0)) 1 0
@@ -71,45 +67,70 @@ timesPut views k x w =
 
 -- ---- the views above low
 
+-- Of the first j senders: the views gathered have each view above low as often as it is asked for.
+pub record Passed (change : ℕ → Option ℕ) (j low : ℕ) (views : List ℕ) (count : ℕ) : Type 0 where
+  pub most : count ≤ j
+  pub same : (w : ℕ) → low < w → times views count w ≡ weigh (λ i. 1) (askers change w) j
+
 module _ (change : ℕ → Option ℕ) (low : ℕ) where
-  pub gatherNone : (views : List ℕ) → Gathered change 0 low views 0
-  gatherNone views = record {
+  pub passNone : (views : List ℕ) → Passed change 0 low views 0
+  passNone views = record {
     most = omega arith;
     same = λ w above. weighNone (λ i. 1) (λ j. eqb w (getD views j 0)) ∙ sym (weighNone (λ i. 1) (askers change w));
   }
 
-  module _ (views : List ℕ) (count j x more : ℕ) (was : Gathered change j low views count) (room : count < length views) where
-    asked : (w : ℕ) → low < w → (o : Option ℕ) → change j ≡ o → x ≡ newsFrom low o → more ≡ cond (ltb low x) 1 0
-        → times (set views count x) (count + more) w ≡ weigh (λ i. 1) (askers change w) j + cond (holds (eqb w) o) 1 0
-    asked w above none at is adds =
-        let less : ltb low x ≡ false = le-ltb low x (omega arith) in
-        let nothing : more ≡ 0 = adds ∙ rw less in
-        let same : count + more ≡ count = omega arith in
-        let old : times (set views count x) count w ≡ weigh (λ i. 1) (askers change w) j = timesPut views count x w ∙ was .same w above in
-        rw same (omega arith)
-    asked w above (some y) at is adds = go (decLt low y)
-      where
-        go : Dec (low < y) → times (set views count x) (count + more) w ≡ weigh (λ i. 1) (askers change w) j + cond (eqb w y) 1 0
-        go (yes over) =
-            let here : x ≡ y = omega arith in
-            let one : more ≡ 1 = adds ∙ rw (lt-ltb low x (omega arith)) in
-            let old : times (set views count x) count w ≡ weigh (λ i. 1) (askers change w) j = timesPut views count x w ∙ was .same w above in
-            let put : getD (set views count x) count 0 ≡ y = getD-set-same views count x 0 room ∙ here in
-            let next : times (set views count x) (count + 1) w ≡ times (set views count x) count w + cond (eqb w y) 1 0
-            = timesMore (set views count x) count w ∙ ap (λ (z : ℕ). times (set views count x) count w + cond (eqb w z) 1 0) put in
-            rw one (omega arith)
-        go (no under) =
-            let nothing : more ≡ 0 = adds ∙ rw (le-ltb low x (omega arith)) in
-            let same : count + more ≡ count = omega arith in
-            let old : times (set views count x) count w ≡ weigh (λ i. 1) (askers change w) j = timesPut views count x w ∙ was .same w above in
-            let off : eqb w y ≡ false = ne-eqb w y (λ (e : w ≡ y). omega arith) in
-            rw (same, off) (omega arith)
+  module _ (views : List ℕ) (count j : ℕ) (was : Passed change j low views count) where
+    module _ (x more : ℕ) (room : count < length views) where
+      -- What is put behind those gathered does not count among them.
+      old : (w : ℕ) → low < w → times (set views count x) count w ≡ weigh (λ i. 1) (askers change w) j
+      old w above = timesPut views count x w ∙ was .same w above
 
-    pub gatherMore : x ≡ newsFrom low (change j) → more ≡ cond (ltb low x) 1 0 → more ≤ 1 → Gathered change (j + 1) low (set views count x) (count + more)
-    gatherMore is adds little = record {
-      most = omega (arith, was .most);
-      same = λ w above. asked w above (change j) refl is adds ∙ sym (weighMore (λ i. 1) (askers change w) j);
-    }
+      asked : (w : ℕ) → low < w → (o : Option ℕ) → x ≡ newsFrom low o → more ≡ cond (ltb low x) 1 0
+          → times (set views count x) (count + more) w ≡ weigh (λ i. 1) (askers change w) j + cond (holds (eqb w) o) 1 0
+      asked w above none is adds =
+          let nothing : more ≡ 0 = adds ∙ rw (le-ltb low x (omega arith)) in
+          let same : count + more ≡ count = omega arith in
+          rw same (omega (arith, old w above))
+      asked w above (some y) is adds = go (decLt low y)
+        where
+          go : Dec (low < y) → times (set views count x) (count + more) w ≡ weigh (λ i. 1) (askers change w) j + cond (eqb w y) 1 0
+          go (yes over) =
+              let one : more ≡ 1 = adds ∙ rw (lt-ltb low x (omega arith)) in
+              let put : getD (set views count x) count 0 ≡ y = getD-set-same views count x 0 room ∙ omega arith in
+              let next = timesMore (set views count x) count w ∙ ap (λ (z : ℕ). times (set views count x) count w + cond (eqb w z) 1 0) put in
+              rw one (omega (arith, old w above, next))
+          go (no under) =
+              let nothing : more ≡ 0 = adds ∙ rw (le-ltb low x (omega arith)) in
+              let same : count + more ≡ count = omega arith in
+              let off : eqb w y ≡ false = ne-eqb w y (λ (e : w ≡ y). omega arith) in
+              rw (same, off) (omega (arith, old w above))
+
+      pub passMore : x ≡ newsFrom low (change j) → more ≡ cond (ltb low x) 1 0 → more ≤ 1 → Passed change (j + 1) low (set views count x) (count + more)
+      passMore is adds little = record {
+        most = omega (arith, was .most);
+        same = λ w above. asked w above (change j) is adds ∙ sym (weighMore (λ i. 1) (askers change w) j);
+      }
+
+    module _ (n need : ℕ) where
+      pub gathered : j ≡ n → Gathered change n need low views count
+      unfolding enough
+      gathered e = record {
+        most = omega (arith, was .most);
+        same = λ w above. ap (leb need) (was .same w above ∙ ap (weigh (λ i. 1) (askers change w)) e);
+      }
+
+      -- Too few are left: no view is asked for as often as is needed.
+      pub gatheredFew : j < n → count + (n - j) < need → Gathered change n need low views count
+      unfolding enough
+      gatheredFew less few = record { most = omega (arith, was .most); same = both }
+        where
+          both : (w : ℕ) → low < w → leb need (times views count w) ≡ leb need (weigh (λ i. 1) (askers change w) n)
+          both w above =
+              let here : times views count w ≤ count = weighMost (λ i. eqb w (getD views i 0)) count in
+              let whole : j + (n - j) ≡ n = omega arith in
+              let there : weigh (λ i. 1) (askers change w) n ≤ weigh (λ i. 1) (askers change w) j + (n - j) = rw whole at (weighSlack (askers change w) j (n - j)) in
+              lt-leb need (times views count w) (omega arith)
+              ∙ sym (lt-leb need (weigh (λ i. 1) (askers change w) n) (omega (arith, was .same w above)))
 
 -- ---- the search
 
@@ -172,7 +193,7 @@ module _ (views : List ℕ) (need low : ℕ) where
             let none-yet : times views i w ≡ 0 = was .rest w over enough in
             let least : need ≤ times views (length views) w = leb-true need (times views (length views) w) enough in
             let whole : i + (length views - i) ≡ length views = omega arith in
-            let slack : times views (length views) w ≤ times views i w + (length views - i) = rw whole at (timesSlack views i (length views - i) w) in
+            let slack : times views (length views) w ≤ times views i w + (length views - i) = rw whole at (weighSlack (λ j. eqb w (getD views j 0)) i (length views - i)) in
             absurd (omega arith)
         by w above enough (no under) = omega arith
 
@@ -202,8 +223,8 @@ highestBoth s t low best same h = record {
   most = λ w above passes. h .most w above (same w above ∙ passes);
 }
 
-module _ (change : ℕ → Option ℕ) (n low count k : ℕ) (views : List ℕ)
-    (g : Gathered change n low views count) (fits : count ≤ length views) (is : k ≡ count) where
+module _ (change : ℕ → Option ℕ) (n need low count k : ℕ) (views : List ℕ)
+    (g : Gathered change n need low views count) (fits : count ≤ length views) (is : k ≡ count) where
   front : (w : ℕ) → times (take k views) (length (take k views)) w ≡ times views count w
   front w =
       let size : length (take k views) ≡ count = length-take k views ∙ omega arith in
@@ -211,9 +232,7 @@ module _ (change : ℕ → Option ℕ) (n low count k : ℕ) (views : List ℕ)
       ∙ weighSame (λ i. 1) (λ j. eqb w (getD (take k views) j 0)) (λ j. eqb w (getD views j 0)) count
       (λ j below. ap (eqb w) (getD-take k views j 0 (omega arith)))
 
-  pub highestOfAll : (need best : ℕ) → Highest (λ w. leb need (times (take k views) (length (take k views)) w)) low best
-      → Highest (enough change n need) low best
-  unfolding enough
-  highestOfAll need best h =
-      highestBoth (λ w. leb need (times (take k views) (length (take k views)) w)) (λ w. leb need (weigh (λ i. 1) (askers change w) n)) low best
-      (λ w above. ap (leb need) (front w ∙ g .same w above)) h
+  pub highestOfAll : (best : ℕ) → Highest (λ w. leb need (times (take k views) (length (take k views)) w)) low best → Highest (enough change n need) low best
+  highestOfAll best h =
+      highestBoth (λ w. leb need (times (take k views) (length (take k views)) w)) (enough change n need) low best
+      (λ w above. ap (leb need) (front w) ∙ g .same w above) h

@@ -20,7 +20,7 @@ use Rattle.frame.specs.declared.Report.{Report}
 use Rattle.frame.specs.Refusal.{present}
 use Rattle.protocol.specs.Record.{when}
 use Rattle.acts.specs.declared.Lead.{Lead}
-use Rattle.acts.specs.Votes.{voted, meet, after, leading, quorumFor, agreedIn}
+use Rattle.acts.specs.Votes.{voted, meet, after, leading, Leads, quorumFor, agreedIn}
 
 -- ---- a slot
 
@@ -127,6 +127,19 @@ aheadLeads vote (suc k) = aheadMore vote k (leading vote k) (vote k) refl (ahead
 
 -- ---- the loop that meets the votes
 
+-- One slot has at most one vote.
+votesMore : (b : Lead) (o : Option ℕ) → after b o .votes ≤ b .votes + 1
+unfolding meet
+votesMore b none = omega arith
+votesMore b (some x) = go (eqb x (b .plan)) (eqb (b .margin) 0)
+  where
+    go : (same even : Bool) → (cond {A = Lead} same (record { plan = x; margin = b .margin + 1; votes = b .votes + 1 })
+        (cond even (record { plan = x; margin = 1; votes = b .votes + 1 })
+        (record { plan = b .plan; margin = b .margin - 1; votes = b .votes + 1 }))) .votes ≤ b .votes + 1
+    go true even = omega arith
+    go false true = omega arith
+    go false false = omega arith
+
 module _ (vote : ℕ → Option ℕ) where
   pub leadNone : record { plan = 0; margin = 0; votes = 0 } ≡ leading vote 0
   unfolding leading
@@ -142,35 +155,61 @@ module _ (vote : ℕ → Option ℕ) where
       let other : suc (leading vote k .plan) ≢ leading vote k .plan = λ (e : suc (leading vote k .plan) ≡ leading vote k .plan). omega arith in
       rw is (omega (arith, aheadLeads vote k .other (suc (leading vote k .plan)) other), aheadLeads vote k .most)
 
+  -- d slots more have at most d votes more.
+  votesSlack : (k d : ℕ) → leading vote (k + d) .votes ≤ leading vote k .votes + d
+  unfolding leading
+  votesSlack k zero = let same : k + 0 ≡ k = omega arith in rw same (omega arith)
+  votesSlack k (suc d) =
+      let next : k + suc d ≡ suc (k + d) = omega arith in
+      rw next (omega (arith, votesMore (leading vote (k + d)) (vote (k + d)), votesSlack k d))
+
+  module _ (k n f : ℕ) (b : Lead) (is : b ≡ leading vote k) where
+    pub leadAll : k ≡ n → Leads vote n f b
+    leadAll e = let same = is ∙ ap (leading vote) e in record { few = λ less. rw (← same) less; all = λ many. same }
+
+    -- More than f of the first k are missing.
+    pub leadFew : k < n → b .votes + f < k → Leads vote n f b
+    leadFew less few = record {
+      few = λ _.
+          let whole : k + (n - k) ≡ n = omega arith in
+          let slack : leading vote n .votes ≤ leading vote k .votes + (n - k) = rw whole at (votesSlack k (n - k)) in
+          let same : b .votes ≡ leading vote k .votes = ap (λ (x : Lead). x .votes) is in
+          omega arith;
+      all = λ many. absurd (omega arith);
+    }
+
 -- ---- the plan that a quorum is for
 
 module _ (vote : ℕ → Option ℕ) (n f : ℕ) where
   pub quorumIs : (p : ℕ) → quorumFor vote n f p ≡ true → n ≤ tally vote p n + f
   quorumIs p h = omega (arith, totalEquals n f, quorumWeighs (equals n f) (λ j. holds (eqb p) (vote j)) .0 h)
 
-  module _ (b : Lead) (is : b ≡ leading vote n) (less : f < n) where
-    agreedNone : quorumFor vote n f (leading vote n .plan) ≡ false → none ≡ agreedIn vote n f
-    unfolding agreedIn
-    agreedNone off = rw off
+  agreedNone : quorumFor vote n f (leading vote n .plan) ≡ false → none ≡ agreedIn vote n f
+  unfolding agreedIn
+  agreedNone off = rw off
 
+  module _ (b : Lead) (leads : Leads vote n f b) (less : f < n) where
     -- Where fewer than a quorum vote, no plan has one.
     pub agreedFew : b .votes < n - f → none ≡ agreedIn vote n f
     agreedFew few =
-        let votes : leading vote n .votes < n - f = rw is at few in
+        let votes : leading vote n .votes + f < n = leads .few (omega arith) in
         let low = leadLow vote n (leading vote n) refl in
         agreedNone
         (notTrue (quorumFor vote n f (leading vote n .plan)) (λ h. omega (arith, quorumIs (leading vote n .plan) h, aheadLeads vote n .own, low .0)))
 
-    module _ (count : ℕ) (counted : count ≡ tally vote (b .plan) n) where
+    module _ (many : n - f ≤ b .votes) (count : ℕ) (counted : count ≡ tally vote (b .plan) n) where
+      leadIs : b ≡ leading vote n
+      leadIs = leads .all (omega arith)
+
       counts : leb (n - f) count ≡ quorumFor vote n f (leading vote n .plan)
-      counts = quorumCount n f (λ j. holds (eqb (b .plan)) (vote j)) count counted ∙ ap (λ (x : Lead). quorumFor vote n f (x .plan)) is
+      counts = quorumCount n f (λ j. holds (eqb (b .plan)) (vote j)) count counted ∙ ap (λ (x : Lead). quorumFor vote n f (x .plan)) leadIs
 
       pub agreedOther : count < n - f → none ≡ agreedIn vote n f
       agreedOther few = agreedNone (sym counts ∙ lt-leb (n - f) count few)
 
       pub agreedOn : n - f ≤ count → some (b .plan) ≡ agreedIn vote n f
       unfolding agreedIn
-      agreedOn enough = rw (← counts, le-leb (n - f) count enough) (ap (λ (x : Lead). some (x .plan)) is)
+      agreedOn enough = rw (← counts, le-leb (n - f) count enough) (ap (λ (x : Lead). some (x .plan)) leadIs)
 
   -- A quorum is for no other plan than the one that leads.
   pub onlyLead : 3 * f < n → (q : ℕ) → quorumFor vote n f q ≡ true → q ≡ leading vote n .plan

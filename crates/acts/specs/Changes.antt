@@ -40,10 +40,10 @@ enough change n need w = leb need (weigh (λ i. 1) (askers change w) n)
 abbrev pub times : List ℕ → ℕ → ℕ → ℕ
 times views k w = weigh (λ i. 1) (λ j. eqb w (getD views j 0)) k
 
--- The first `count` views are those above low that n view-changes are for, each as often as it is asked for.
-pub record Gathered (change : ℕ → Option ℕ) (n low : ℕ) (views : List ℕ) (count : ℕ) : Type 0 where
+-- The first `count` views have each view above low as often as is needed where so many of n view-changes are for it.
+pub record Gathered (change : ℕ → Option ℕ) (n need low : ℕ) (views : List ℕ) (count : ℕ) : Type 0 where
   pub most : count ≤ n
-  pub same : (w : ℕ) → low < w → times views count w ≡ weigh (λ i. 1) (askers change w) n
+  pub same : (w : ℕ) → low < w → leb need (times views count w) ≡ enough change n need w
 
 -- The highest view so far, once the one at place i is tried: it is there as often as is needed, from here on.
 unfoldable pub raisedAt : List ℕ → ℕ → ℕ → ℕ → ℕ

@@ -2,7 +2,8 @@
 -- A quorum is more than half of the vaults. So votes for two plans are set off against each other, one by one: a plan that more
 -- than half are for is the one that leads in the end.
 -- Assumes nothing.
-use Prim.Native.Nat.{ℕ, zero, suc, _+_, _-_}
+use Prim.Native.Nat.{ℕ, zero, suc, _+_, _-_, _≤_, _<_}
+use mathlib.Core.Path.{_≡_}
 use mathlib.Core.Bool.{Bool, cond, _&&_}
 use mathlib.Core.List.{List}
 use mathlib.Core.Option.{Option, none, some}
@@ -45,6 +46,11 @@ after b (some x) = meet b x
 unfoldable pub leading : (ℕ → Option ℕ) → ℕ → Lead
 leading vote zero = record { plan = 0; margin = 0; votes = 0 }
 leading vote (suc k) = after (leading vote k) (vote k)
+
+-- The lead after n votes; where more than f are missing, only that they are.
+pub record Leads (vote : ℕ → Option ℕ) (n f : ℕ) (b : Lead) : Type 0 where
+  pub few : b .votes + f < n → leading vote n .votes + f < n
+  pub all : n ≤ b .votes + f → b ≡ leading vote n
 
 -- 'A quorum .. for this view and one plan'.
 abbrev pub quorumFor : (ℕ → Option ℕ) → ℕ → ℕ → ℕ → Bool

@@ -20,7 +20,7 @@ ghost use Rattle.contents.specs.Contents.{contentsIn, Ready};
 ghost use Rattle.acts.specs.Acts.{asAct, actAt};
 ghost use Rattle.acts.specs.Parts.{blockPlace};
 ghost use Rattle.acts.specs.Changes.{asks, changeIn, newsFrom, enough, times, raisedAt, Gathered, Highest};
-ghost use Rattle.acts.specs.Votes.{voted, voteIn, votes, meet, after, leading, agreedIn};
+ghost use Rattle.acts.specs.Votes.{voted, voteIn, votes, meet, after, agreedIn, Leads};
 ghost use Rattle.acts.specs.Reports.{reportsBy, aboveOf, withVote, withReport, Filled};
 
 // What a step does: ask for a view, enter it, send a vote (0: a proposal) for a plan, decide a plan, or nothing.
@@ -52,15 +52,18 @@ fn share_above(low: u32, w: u32) -> usize
     if low < w { 1 } else { 0 }
 }
 
-// Gathers the views above low that the view-changes of n senders are for, and answers how many they are.
-// Each view is put at the next place, and the next one takes that place where it is not above low.
-fn views_above(shared: &[u8], n: usize, low: u32, views: &mut [u32]) -> usize
+// Gathers the views above low that the view-changes of n senders are for, and answers how many they are. Each is put at the next
+// place, and the next one takes that place where it is not above low. Where too few are left for what is needed, the rest is not read.
+fn views_above(shared: &[u8], n: usize, need: usize, low: u32, views: &mut [u32]) -> usize
     requires { ⌜ (length (now shared) ≡ sharedSize) × (n ≤ rows) × (length (now views) ≡ rows) ⌝ }
-    ensures { λ c. ⌜ Gathered (changeIn (now (shared .entry))) n low (now (views .exit)) c × (length (now (views .exit)) ≡ rows) ⌝ }
+    ensures { λ c. ⌜ Gathered (changeIn (now (shared .entry))) n need low (now (views .exit)) c × (length (now (views .exit)) ≡ rows) ⌝ }
 {
     let mut count: usize = 0;
     let mut j: usize = 0;
     while j < n {
+        if count + (n - j) < need {
+            return count;
+        }
         let w = change_above(shared, layout::HEAD + layout::SLOT * j, low);
         views[count] = w;
         count += share_above(low, w);
@@ -126,7 +129,7 @@ fn highest_change(shared: &[u8], n: usize, need: usize, low: u32) -> u32
     ensures { λ r. ⌜ Highest (enough (changeIn (now (shared .entry))) n need) low r ⌝ }
 {
     let mut views = [0u32; layout::ROWS];
-    let count = views_above(shared, n, low, &mut views);
+    let count = views_above(shared, n, need, low, &mut views);
     highest_of(&views[0..count], need, low)
 }
 
@@ -361,10 +364,10 @@ fn met_at(b: Lead, block: &[u8], at: usize, v: u32) -> Lead
     met(b, layout::plan_at(block, at))
 }
 
-// The plan that leads among the votes of view v in the n slots from a place on.
-fn lead_of(block: &[u8], from: usize, n: usize, v: u32) -> Lead
-    requires { ⌜ (from + slotSize * n ≤ length (now block)) × (n ≤ rows) ⌝ }
-    ensures { λ r. ⌜ r ≡ leading (votes (now (block .entry)) v from) n ⌝ }
+// The plan that leads among the votes of view v in the n slots from a place on. Where more than f are missing, the rest is not read.
+fn lead_of(block: &[u8], from: usize, n: usize, f: usize, v: u32) -> Lead
+    requires { ⌜ (from + slotSize * n ≤ length (now block)) × (n ≤ rows) × (f < n) ⌝ }
+    ensures { λ r. ⌜ Leads (votes (now (block .entry)) v from) n f r ⌝ }
 {
     let mut b = Lead {
         plan: 0,
@@ -373,6 +376,9 @@ fn lead_of(block: &[u8], from: usize, n: usize, v: u32) -> Lead
     };
     let mut j: usize = 0;
     while j < n {
+        if b.votes + f < j {
+            return b;
+        }
         b = met_at(b, block, from + layout::SLOT * j, v);
         j += 1;
     }
@@ -413,8 +419,9 @@ fn agreed_plan(block: &[u8], from: usize, set: Settings, v: u32) -> Choice
     ensures { λ r. ⌜ chosen r ≡ agreedIn (votes (now (block .entry)) v from) (set .n) (set .f) ⌝ }
 {
     let n = set.n as usize;
-    let quorum = n - (set.f as usize);
-    let b = lead_of(block, from, n, v);
+    let f = set.f as usize;
+    let quorum = n - f;
+    let b = lead_of(block, from, n, f, v);
     if b.votes < quorum {
         return Choice::Nothing;
     }

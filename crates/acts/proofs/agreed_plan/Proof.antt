@@ -11,8 +11,8 @@ use Rattle.acts.proofs.agreed_plan.Tie as tie
 cast-n : tie.Need-cast-n
 cast-n c = search needs
 
-cast-quorum : tie.Need-cast-quorum
-cast-quorum c = search needs
+cast-f : tie.Need-cast-f
+cast-f c = search needs
 
 sub-quorum : tie.Need-sub-quorum
 sub-quorum c = search needs
@@ -22,36 +22,43 @@ lead-of-requires c κs = search needs
 
 returns : tie.Need-returns
 returns c =
-    let a = c .before .before .before .before .before .before .args in
-    let b = c .before .before .lead-of in
+    let b = c .before .before in
+    let e = b .before .before .before .before in
+    let a = e .args in
     let less : a .set .f < a .set .n = omega arith in
-    agreedFew (votes (a .block .now) (a .v) (a .from)) (a .set .n) (a .set .f) (b .result) (b .ensures) less (c .if1 .taken)
+    agreedFew (votes (a .block .now) (a .v) (a .from)) (a .set .n) (a .set .f) (b .lead-of .result) (b .lead-of .ensures) less (c .if1 .taken)
 
 votes-for-requires : tie.Need-votes-for-requires
 votes-for-requires c κs = search needs
 
 returns-2 : tie.Need-returns-2
 returns-2 c =
-    let a = c .before .before .before .before .before .before .before .before .args in
-    let b = c .before .before .before .before .lead-of in
-    let n = c .before .votes-for in
+    let n = c .before in
+    let many = n .before in
+    let b = many .before .before in
+    let e = b .before .before .before .before in
+    let a = e .args in
     let less : a .set .f < a .set .n = omega arith in
-    agreedOther (votes (a .block .now) (a .v) (a .from)) (a .set .n) (a .set .f) (b .result) (b .ensures) less (n .result) (n .ensures) (c .if2 .taken)
+    agreedOther (votes (a .block .now) (a .v) (a .from)) (a .set .n) (a .set .f) (b .lead-of .result) (b .lead-of .ensures) less (many .if1 .left)
+    (n .votes-for .result) (n .votes-for .ensures) (c .if2 .taken)
 
 returns-3 : tie.Need-returns-3
 returns-3 c =
-    let a = c .before .before .before .before .before .before .before .before .args in
-    let b = c .before .before .before .before .lead-of in
-    let n = c .before .votes-for in
+    let n = c .before in
+    let many = n .before in
+    let b = many .before .before in
+    let e = b .before .before .before .before in
+    let a = e .args in
     let less : a .set .f < a .set .n = omega arith in
-    agreedOn (votes (a .block .now) (a .v) (a .from)) (a .set .n) (a .set .f) (b .result) (b .ensures) less (n .result) (n .ensures) (c .if2 .left)
+    agreedOn (votes (a .block .now) (a .v) (a .from)) (a .set .n) (a .set .f) (b .lead-of .result) (b .lead-of .ensures) less (many .if1 .left)
+    (n .votes-for .result) (n .votes-for .ensures) (c .if2 .left)
 
 pub agreed-plan-spec : {M : Type 1} → statement M
 agreed-plan-spec =
     tie.close
     (tie.spec
     cast-n
-    cast-quorum
+    cast-f
     sub-quorum
     lead-of-requires
     returns

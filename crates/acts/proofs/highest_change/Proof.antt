@@ -1,4 +1,4 @@
--- `acts::highest_change` meets its contract: the views gathered above low are as many as are asked for.
+-- `acts::highest_change` meets its contract: the views gathered above low are there as often as they are asked for.
 -- Assumes nothing.
 use Prim.Native.Nat.{ℕ, _-_, _≤_}
 use mathlib.Core.Path.{_≡_}
@@ -31,13 +31,15 @@ highest-of-requires c κs = search needs
 
 returns : tie.Need-returns
 returns c =
-    let a = c .before .before .before .before .before .before .before .args in
-    let g = c .before .before .before .before .views-above in
-    let views : List ℕ = g .last .1 .1 .1 .0 in
+    let got = c .before .before .before .before in
+    let e = got .before .before .before in
+    let a = e .args in
+    let g = got .views-above in
+    let views : List ℕ = g .last .1 .1 .1 .1 .0 in
     let fits : g .result ≤ length views = omega (arith, g .ensures .0 .most, g .ensures .1) in
     let all : g .result - 0 ≡ g .result = omega arith in
-    highestOfAll (changeIn (a .shared .now)) (a .n) (a .low) (g .result) (g .result - 0) views (g .ensures .0) fits all
-    (a .need) (c .highest-of .result) (c .highest-of .ensures)
+    highestOfAll (changeIn (a .shared .now)) (a .n) (a .need) (a .low) (g .result) (g .result - 0) views (g .ensures .0) fits all
+    (c .highest-of .result) (c .highest-of .ensures)
 
 pub highest-change-spec : {M : Type 1} → statement M
 highest-change-spec =
