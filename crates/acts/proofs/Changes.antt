@@ -128,7 +128,8 @@ module _ (change : ℕ → Option ℕ) (low : ℕ) where
           both w above =
               let here : times views count w ≤ count = weighMost (λ i. eqb w (getD views i 0)) count in
               let whole : j + (n - j) ≡ n = omega arith in
-              let there : weigh (λ i. 1) (askers change w) n ≤ weigh (λ i. 1) (askers change w) j + (n - j) = rw whole at (weighSlack (askers change w) j (n - j)) in
+              let there : weigh (λ i. 1) (askers change w) n ≤ weigh (λ i. 1) (askers change w) j + (n - j)
+              = rw whole at (weighSlack (askers change w) j (n - j)) in
               lt-leb need (times views count w) (omega arith)
               ∙ sym (lt-leb need (weigh (λ i. 1) (askers change w) n) (omega (arith, was .same w above)))
 
@@ -193,7 +194,8 @@ module _ (views : List ℕ) (need low : ℕ) where
             let none-yet : times views i w ≡ 0 = was .rest w over enough in
             let least : need ≤ times views (length views) w = leb-true need (times views (length views) w) enough in
             let whole : i + (length views - i) ≡ length views = omega arith in
-            let slack : times views (length views) w ≤ times views i w + (length views - i) = rw whole at (weighSlack (λ j. eqb w (getD views j 0)) i (length views - i)) in
+            let slack : times views (length views) w ≤ times views i w + (length views - i)
+            = rw whole at (weighSlack (λ j. eqb w (getD views j 0)) i (length views - i)) in
             absurd (omega arith)
         by w above enough (no under) = omega arith
 

@@ -42,14 +42,17 @@ returns c =
     decidedAlready s r here (at .block-place .result) (at .block-place .ensures .0) (c .if1 .taken) ∙ ap actH is
 
 vote-place-requires : tie.Need-vote-place-requires
-vote-place-requires c κs = search needs
+vote-place-requires c κs =
+    let e = c .before .before .before .before .before in
+    let set = seat (e .args .rec .now) (e .args .set) (e .args .view) (e .pre .0) (e .pre .1) (e .pre .2) in
+    (omega arith, omega (arith, set .most, set .own))
 
 agreed-plan-requires : tie.Need-agreed-plan-requires
 agreed-plan-requires c κs =
     let e = c .before .before .before .before .before .before in
     let set = seat (e .args .rec .now) (e .args .set) (e .args .view) (e .pre .0) (e .pre .1) (e .pre .2) in
     let size = blockLength (e .args .rec .now) (e .pre .0) in
-    (omega (arith, set .most, size, c .vote-place .ensures .1), omega (arith, set .most), omega (arith, set .third))
+    (omega (arith, set .most, set .own, size, c .vote-place .ensures .1), omega (arith, set .most), omega (arith, set .third))
 
 enum-known-p : tie.Need-enum-known-p
 enum-known-p c = search needs

@@ -30,7 +30,8 @@ returns c =
     let at = c .before .before .before in
     let e = at .before .before in
     let a = e .args in
-    leadFew (votes (a .block .now) (a .v) (a .from)) (at .loop .j) (a .n) (a .f) (at .loop .b) (at .loop .inv .1) (c .before .before .loop-test .taken) (c .if1 .taken)
+    leadFew (votes (a .block .now) (a .v) (a .from)) (at .loop .j) (a .n) (a .f) (at .loop .b) (at .loop .inv .1)
+    (c .before .before .loop-test .taken) (c .if1 .taken)
 
 mul-met-at : tie.Need-mul-met-at Inv-loop μ-loop
 mul-met-at c = search needs
