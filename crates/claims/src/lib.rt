@@ -10,8 +10,10 @@ ghost use Rattle.claims.specs.Rows.{rowsSize, Fits, Stance, Tells, SameB
 ghost use Rattle.claims.specs.Spans.{coveredViews, highestTo, Within};
 ghost use Rattle.claims.specs.Table.{column, tableSize, reporter, reportsIn};
 
-// The places of a column, one for each vault.
+// The places of a column, one for each vault, and of the table.
 pub const COLUMN: usize = 64;
+
+pub const TABLE: usize = 448;
 
 // Where the columns begin of the highest vote's view + 1 and plan, of the previous vote's view + 1, and of the lock's view + 1 and plan.
 const HIGHEST: usize = 64;

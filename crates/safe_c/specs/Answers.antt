@@ -7,19 +7,16 @@ use lib.Dec.{leb, ltb, eqb}
 use lib.ListN.{length, set}
 use Rattle.quorum.specs.Sets.{equals}
 use Rattle.rules.specs.Counts.{safe, choice}
-use Rattle.claims.specs.Layout.{reportsIn}
+use Rattle.claims.specs.Table.{column, tableSize, reportsIn}
 use Rattle.safe.specs.Choices.{ruleOf}
 
--- The slices have their lengths, n is at most 64, and f is below n.
-unfoldable pub laid : List ℕ → List ℕ → List ℕ → List ℕ → List ℕ → ℕ → ℕ → Bool
-laid kept at marks views plans n f =
-    eqb (length kept) 64 && (eqb (length at) 64 && (eqb (length marks) 192 && (eqb (length views) 192 && (eqb (length plans) 192 && (leb n 64 && ltb f n)))))
+-- The table has its size, n is at most 64, and f is below n.
+unfoldable pub laid : List ℕ → ℕ → ℕ → Bool
+laid table n f = eqb (length table) tableSize && (leb n column && ltb f n)
 
 -- 1 where plan p is safe, 0 where not, 2 where the call makes no sense. `three` 0 asks for Rule 1, else for Rule 3.
-unfoldable pub safePlan : List ℕ → List ℕ → List ℕ → List ℕ → List ℕ → ℕ → ℕ → ℕ → ℕ → ℕ → ℕ
-safePlan kept at marks views plans n f v p three =
-    cond (laid kept at marks views plans n f)
-    (cond (safe (ruleOf (not (eqb three 0))) (equals n f) (reportsIn kept at marks views plans v) v p) 1 0) 2
+unfoldable pub safePlan : List ℕ → ℕ → ℕ → ℕ → ℕ → ℕ → ℕ
+safePlan table n f v p three = cond (laid table n f) (cond (safe (ruleOf (not (eqb three 0))) (equals n f) (reportsIn table) v p) 1 0) 2
 
 -- An answer and what the output holds afterwards.
 pub record Answer : Type 0 where
@@ -32,7 +29,6 @@ answered none out = record { code = 0; out = out }
 answered (some p) out = record { code = 1; out = set out 0 p }
 
 -- Step C's choice; 2 where the call makes no sense or the output is empty.
-unfoldable pub choosePlan : List ℕ → List ℕ → List ℕ → List ℕ → List ℕ → ℕ → ℕ → ℕ → ℕ → List ℕ → Answer
-choosePlan kept at marks views plans n f v start out =
-    cond (laid kept at marks views plans n f && ltb 0 (length out))
-    (answered (choice (equals n f) (reportsIn kept at marks views plans v) v start) out) (record { code = 2; out = out })
+unfoldable pub choosePlan : List ℕ → ℕ → ℕ → ℕ → ℕ → List ℕ → Answer
+choosePlan table n f v start out =
+    cond (laid table n f && ltb 0 (length out)) (answered (choice (equals n f) (reportsIn table) v start) out) (record { code = 2; out = out })

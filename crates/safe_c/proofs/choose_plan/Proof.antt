@@ -9,17 +9,16 @@ use Rattle.safe_c.specs.Answers.{Answer}
 use Rattle.safe_c.proofs.choose_plan.Statement.{statement}
 use Rattle.safe_c.proofs.choose_plan.Tie as tie
 
-wide-requires : tie.Need-wide-requires
-wide-requires c κs = search needs
-
-wide-requires-2 : tie.Need-wide-requires-2
-wide-requires-2 c κs = search needs
-
 is-laid-requires : tie.Need-is-laid-requires
 is-laid-requires c κs = search needs
 
+settings-for-requires : tie.Need-settings-for-requires
+settings-for-requires c κs = search needs
+
 choose-requires : tie.Need-choose-requires
-choose-requires c κs = laidParts _ _ _ _ _ _ _ (sym (c .before .before .is-laid .ensures) ∙ c .before .if1 .taken)
+choose-requires c κs =
+    let a = c .before .before .before .before .before .before .args in
+    laidParts (a .table .now) (a .n) (a .f) _ _ (c .settings-for .ensures .0) (c .settings-for .ensures .1) (sym (c .before .before .before .is-laid .ensures) ∙ c .before .before .if1 .taken)
 
 enum-known-choice : tie.Need-enum-known-choice
 enum-known-choice c = search needs
@@ -32,8 +31,9 @@ same-length c = search needs
 
 returns : tie.Need-returns
 returns c =
-    let a = c .before .before .before .before .before .before .before .before .before .before .before .before .before .before .before .args in
-    let e = chooseSaid (a .kept .now) (a .at .now) (a .marks .now) (a .views .now) (a .plans .now) (a .n) (a .f) (c .before .before .before .before .before .before .before .before .wide .result) (c .before .before .before .before .before .before .before .wide2 .result) (c .before .before .before .before .before .before .before .before .wide .ensures) (c .before .before .before .before .before .before .before .wide2 .ensures) (a .v) (a .start) _ (a .out .now) (sym (c .before .before .before .before .before .before .is-laid .ensures) ∙ c .before .before .before .before .before .if1 .taken) (c .before .before .before .before .if2 .taken)
+    let a = c .before .before .before .before .before .before .before .before .before .before .args in
+    let set = c .before .before .before .before .settings-for .ensures in
+    let e = chooseSaid (a .table .now) (a .n) (a .f) _ _ (set .0) (set .1) (a .v) (a .start) _ (a .out .now) (sym (c .before .before .before .before .before .before .before .is-laid .ensures) ∙ c .before .before .before .before .before .before .if1 .taken) (c .before .before .before .before .before .if2 .taken)
     (sym (ap chosen (c .before .choice .given .1)) ∙ c .before .before .before .choose .ensures) in
     (ap (λ (x : Answer). x .code) e, ap (λ (x : Answer). x .out) e)
 
@@ -42,30 +42,30 @@ enum-told c = search needs
 
 returns-2 : tie.Need-returns-2
 returns-2 c =
-    let a = c .before .before .before .before .before .before .before .before .before .before .before .before .before .before .args in
-    let e = chooseSaid (a .kept .now) (a .at .now) (a .marks .now) (a .views .now) (a .plans .now) (a .n) (a .f) (c .before .before .before .before .before .before .before .wide .result) (c .before .before .before .before .before .before .wide2 .result) (c .before .before .before .before .before .before .before .wide .ensures) (c .before .before .before .before .before .before .wide2 .ensures) (a .v) (a .start) _ (a .out .now) (sym (c .before .before .before .before .before .is-laid .ensures) ∙ c .before .before .before .before .if1 .taken) (c .before .before .before .if2 .taken)
+    let a = c .before .before .before .before .before .before .before .before .before .args in
+    let set = c .before .before .before .settings-for .ensures in
+    let e = chooseSaid (a .table .now) (a .n) (a .f) _ _ (set .0) (set .1) (a .v) (a .start) _ (a .out .now) (sym (c .before .before .before .before .before .before .is-laid .ensures) ∙ c .before .before .before .before .before .if1 .taken) (c .before .before .before .before .if2 .taken)
     (sym (ap chosen (c .enum-told .given .1)) ∙ c .before .before .choose .ensures) in
     (ap (λ (x : Answer). x .code) e, ap (λ (x : Answer). x .out) e)
 
 returns-3 : tie.Need-returns-3
 returns-3 c =
-    let a = c .before .before .before .before .before .before .before .before .before .before .before .args in
-    let e = chooseFull (a .kept .now) (a .at .now) (a .marks .now) (a .views .now) (a .plans .now) (a .n) (a .f) (c .before .before .before .before .wide .result) (c .before .before .before .wide2 .result) (c .before .before .before .before .wide .ensures) (c .before .before .before .wide2 .ensures) (a .v) (a .start) (a .out .now) (c .if2 .left) in
+    let a = c .before .before .before .before .before .args in
+    let e = chooseFull (a .table .now) (a .n) (a .f) (a .v) (a .start) (a .out .now) (c .if2 .left) in
     (ap (λ (x : Answer). x .code) e, ap (λ (x : Answer). x .out) e)
 
 returns-4 : tie.Need-returns-4
 returns-4 c =
-    let a = c .before .before .before .before .before .before .before .before .before .before .args in
-    let e = chooseUnlaid (a .kept .now) (a .at .now) (a .marks .now) (a .views .now) (a .plans .now) (a .n) (a .f) (c .before .before .before .wide .result) (c .before .before .wide2 .result) (c .before .before .before .wide .ensures) (c .before .before .wide2 .ensures) (a .v) (a .start) (a .out .now) (sym (c .before .is-laid .ensures) ∙ c .if1 .left) in
+    let a = c .before .before .before .before .args in
+    let e = chooseUnlaid (a .table .now) (a .n) (a .f) (a .v) (a .start) (a .out .now) (sym (c .before .is-laid .ensures) ∙ c .if1 .left) in
     (ap (λ (x : Answer). x .code) e, ap (λ (x : Answer). x .out) e)
 
 pub choose-plan-spec : {M : Type 1} → statement M
 choose-plan-spec =
     tie.close
     (tie.spec
-    wide-requires
-    wide-requires-2
     is-laid-requires
+    settings-for-requires
     choose-requires
     enum-known-choice
     slice-write-out
