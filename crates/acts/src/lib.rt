@@ -211,9 +211,6 @@ pub fn leader(view: u32, n: usize) -> usize
     (view as usize) % n
 }
 
-// The size of the search's table: seven columns.
-const TABLE: usize = 7 * claims::COLUMN;
-
 // A vote's view + 1, 0 where it is absent.
 fn above(x: Report) -> u64
     ensures { λ r. ⌜ r ≡ aboveOf x ⌝ }
@@ -261,11 +258,11 @@ fn gather_from(table: &mut [u64], i: u8, block: &[u8], kind: u8, v: u32)
 }
 
 // The reports of view v in the suggests (kind 7) or proofs (kind 8) of n senders, as the search takes them.
-fn gather(block: &[u8], kind: u8, n: u8, v: u32) -> [u64; TABLE]
+fn gather(block: &[u8], kind: u8, n: u8, v: u32) -> [u64; claims::TABLE]
     requires { ⌜ (length (now block) ≡ blockSize) × (n ≤ rows) × (7 ≤ kind) × (kind ≤ 8) ⌝ }
     ensures { λ t. ⌜ Filled (reportsBy (now (block .entry)) kind v) n t ⌝ }
 {
-    let mut table = [0u64; TABLE];
+    let mut table = [0u64; claims::TABLE];
     let mut i: u8 = 0;
     while i < n {
         gather_from(&mut table, i, block, kind, v);
