@@ -1,47 +1,43 @@
-/* A TetraBFT vault for C and Rust hosts. Link with libvault_c.a (`rt staticlib vault_c`).
+/* A TetraBFT vault for hosts in C, C++ and Rust: the calls of libvault_c.a (`rt staticlib vault_c`).
  *
  * A host keeps one record of VAULT_RECORD_SIZE bytes for each vault, and lends it to every call together with an output of at least
  * VAULT_OUTPUT_SIZE bytes. A call keeps nothing between calls, allocates nothing, reads no clock and sends nothing: what is to be
  * sent or timed stands in the output. Any pointers with true lengths are fine, and any bytes: a call that can't act answers with a
- * refusal. The record and the output of one call must not overlap. Calls on different records may run at the same time.
+ * refusal. What is lent to one call must not overlap. Calls on different records may run at the same time.
  *
- * Answers
- *   1 to 19        a refusal: record and output are unchanged
- *   256 + count    accepted: the record is the new one, and the first count bytes of the output hold the entries; count is at most
- *                  205, may be 0, and the bytes beyond it keep their contents
+ * Answers of vault_start, vault_frame and vault_timer
+ *   1 to 19                   a refusal, by enum vault_refusal: record and output are unchanged
+ *   VAULT_ACCEPTED + count    accepted: the record is the new one, and the first count bytes of the output hold the entries; count is
+ *                             at most VAULT_LONGEST_OUTPUT, may be 0, and the bytes beyond it keep their contents
  *
  * Entries lie end to end, numbers are big-endian. Byte 0 is the recipient:
- *   ff             all other vaults: a frame follows
- *   0 to 63        the vault of that number: a frame follows
- *   fe             the host: 0b, view (4 bytes), milliseconds (4): let a timer of that view run out after that time, and drop older ones
- *                            0a, view (4 bytes), plan (8): the decision; it is written once
- * A frame's length follows from its kind, its first byte: 14 for kinds 1 to 5, 6 for kind 6, 45 for kinds 7 and 8.
+ *   VAULT_TO_ALL    all other vaults: a frame follows
+ *   0 to 63         the vault of that number: a frame follows
+ *   VAULT_TO_HOST   the host: VAULT_HOST_TIMER, view (4 bytes), milliseconds (4): let a timer of that view run out after that time, and
+ *                   drop older ones; or VAULT_HOST_DECISION, view (4), plan (8): the decision, which is written once
+ * A frame: kind (enum vault_kind), sender, view (4 bytes), then what its kind has. Its length follows from the kind.
  *
- * What a host must store, and when: the record after an accepted call goes to stable storage before any entry of that call is sent or
- * acted on. A vault that comes back after a crash with an older record could vote twice, and agreement is lost. Nothing else need
- * be stored. After a crash lend the stored record, and set a timer for its view again (bytes 4 to 7 of the record). A frame or a timer
- * may be repeated or lost at any time.
+ * A host's duty
+ *   Store    The record after an accepted call goes to stable storage before any entry of that call is sent or acted on. A vault that
+ *            comes back after a crash with an older record could vote twice, and agreement is lost. Nothing else need be stored.
+ *            Several calls may be made before the record is stored once, if the entries of all of them wait for that.
+ *   Send     Each frame as it is, to its recipients. A frame may be lost, repeated, or come late. Tell vault_frame the sender that the
+ *            link stands for, and not a byte of the frame.
+ *   Repeat   The vault writes each frame once. Over a link that may lose frames, keep the latest frame of each kind with its recipient,
+ *            and send it again once a delay of the link class, until its view is below the current one. By itself only a view-change is
+ *            repeated, by vault_timer; a proposal, vote, suggest or proof never is. A frame that comes again is refused with 16 or 17
+ *            and does no harm. After a crash the frames to repeat are gone: the timer goes on, and the next view brings new ones.
+ *   Timer    A timer entry replaces the timer of any earlier view. When it runs out call vault_timer with its view, and again after
+ *            the same time for as long as the view lasts, also after the decision: others may need this vault's later views.
+ *   Restart  Lend the stored record again, and set the timer of its view (bytes 4 to 7 of the record). A decision entry may have been
+ *            stored and not yet acted on. A record of zeros is a blank one: once the vault was started, never take a missing or an
+ *            empty file for it.
  *
- * Refusals, in the order in which they are tested
- *    1  the output has fewer than 256 bytes
- *    2  frame or timer on a blank record: the vault has not been started
- *    3  frame or timer on bytes that are no sound record (or not VAULT_RECORD_SIZE of them)
- *    4  start on a record that is not blank
- *    5  start: n is below 4 or above 64
- *    6  start: f is 0, or 3f is n or more
- *    7  start: id is n or more
- *    8  start: class is above 7
- *    9  frame: no bytes, or the kind is not 1 to 8
- *   10  frame: the length is wrong for the kind
- *   11  frame: the link's sender is n or more, or this vault itself
- *   12  frame: the sender byte is not the link's sender
- *   13  frame: view 0 in a view-change, suggest or proof
- *   14  frame: a bad report (mark, view, or previous vote)
- *   15  frame: a proposal not from its view's leader, or a suggest for a view that this vault does not lead
- *   16  frame: its view is over
- *   17  frame: one of the same sender and kind is kept, at this view or a higher one
- *   18  timer: the view is not the current one
- *   19  timer: the current view is the last one, 4294967295
+ * Version, targets, stack
+ *   VAULT_VERSION is that of this header, vault_version() that of the library. The major number changes where frames or stored
+ *   records of an earlier version are no longer understood, the minor one where something is added.
+ *   The library is for Linux on x86-64 (the C calling convention of that platform). It needs memcpy and memset, and nothing else.
+ *   A call needs less than VAULT_STACK_SIZE bytes of stack; that bound is tested, not proved.
  */
 #ifndef VAULT_H
 #define VAULT_H
@@ -53,16 +49,78 @@
 extern "C" {
 #endif
 
-#define VAULT_RECORD_SIZE 11703
-#define VAULT_OUTPUT_SIZE 256
-#define VAULT_ACCEPTED 256
+#define VAULT_VERSION_MAJOR 1
+#define VAULT_VERSION_MINOR 0
+#define VAULT_VERSION_PATCH 0
+#define VAULT_VERSION (VAULT_VERSION_MAJOR * 10000 + VAULT_VERSION_MINOR * 100 + VAULT_VERSION_PATCH)
+
+#define VAULT_RECORD_SIZE 11703   /* bytes of a record */
+#define VAULT_OUTPUT_SIZE 256     /* bytes of output that a call must be lent, or more */
+#define VAULT_ACCEPTED 256        /* the answer of an accepted call, less the bytes written */
+#define VAULT_LONGEST_OUTPUT 205  /* no call writes more bytes */
+#define VAULT_LONGEST_ENTRY 46    /* with the recipient byte */
+#define VAULT_LONGEST_FRAME 45
+#define VAULT_LONGEST_TEXT 120    /* no text of vault_refusal_text is longer */
+#define VAULT_STACK_SIZE 49152    /* no call needs more stack */
+#define VAULT_FEWEST 4            /* n is at least this */
+#define VAULT_MOST 64             /* and at most this */
+
+/* Refusals, in the order in which they are tested. */
+enum vault_refusal {
+    VAULT_REFUSED_OUTPUT = 1,     /* the output has fewer than VAULT_OUTPUT_SIZE bytes */
+    VAULT_REFUSED_BLANK = 2,      /* frame or timer on a blank record: the vault has not been started */
+    VAULT_REFUSED_UNSOUND = 3,    /* frame or timer on bytes that are no sound record, or not VAULT_RECORD_SIZE of them */
+    VAULT_REFUSED_STARTED = 4,    /* start on a record that is not blank */
+    VAULT_REFUSED_N = 5,          /* start: n is below 4 or above 64 */
+    VAULT_REFUSED_F = 6,          /* start: f is 0, or 3f is n or more */
+    VAULT_REFUSED_ID = 7,         /* start: id is n or more */
+    VAULT_REFUSED_CLASS = 8,      /* start: the link class is above 7 */
+    VAULT_REFUSED_KIND = 9,       /* frame: no bytes, or the kind is not 1 to 8 */
+    VAULT_REFUSED_LENGTH = 10,    /* frame: the length is wrong for the kind */
+    VAULT_REFUSED_LINK = 11,      /* frame: the link's sender is n or more, or this vault itself */
+    VAULT_REFUSED_SENDER = 12,    /* frame: the sender byte is not the link's sender */
+    VAULT_REFUSED_VIEW_0 = 13,    /* frame: view 0 in a view-change, suggest or proof */
+    VAULT_REFUSED_REPORT = 14,    /* frame: a bad report (mark, view, or previous vote) */
+    VAULT_REFUSED_LEADER = 15,    /* frame: a proposal not from its view's leader, or a suggest for a view that this vault does not lead */
+    VAULT_REFUSED_OVER = 16,      /* frame: its view is over */
+    VAULT_REFUSED_KEPT = 17,      /* frame: one of the same sender and kind is kept, at this view or a higher one */
+    VAULT_REFUSED_TIMER = 18,     /* timer: the view is not the current one */
+    VAULT_REFUSED_LAST_VIEW = 19  /* timer: the current view is the last one, 4294967295 */
+};
+
+/* Kinds of frames, byte 0 of a frame, and what follows kind, sender and view. */
+enum vault_kind {
+    VAULT_PROPOSAL = 1,    /* plan (8 bytes): 14 bytes in all, as the votes */
+    VAULT_VOTE_1 = 2,      /* plan (8) */
+    VAULT_VOTE_2 = 3,      /* plan (8) */
+    VAULT_VOTE_3 = 4,      /* plan (8) */
+    VAULT_VOTE_4 = 5,      /* plan (8) */
+    VAULT_VIEW_CHANGE = 6, /* nothing: 6 bytes in all */
+    VAULT_SUGGEST = 7,     /* three reports (13 each): 45 bytes in all */
+    VAULT_PROOF = 8        /* three reports (13 each): 45 bytes in all */
+};
+
+/* Recipients, byte 0 of an entry. Any other is a vault's number. */
+enum vault_recipient {
+    VAULT_TO_HOST = 0xfe,
+    VAULT_TO_ALL = 0xff
+};
+
+/* Types of entries for the host, the byte after the recipient. */
+enum vault_host_entry {
+    VAULT_HOST_DECISION = 0x0a, /* view (4 bytes), plan (8) */
+    VAULT_HOST_TIMER = 0x0b     /* view (4 bytes), milliseconds (4) */
+};
+
+/* VAULT_VERSION, as the library has it. */
+uint32_t vault_version(void);
 
 /* VAULT_RECORD_SIZE, as the library has it. */
 uint32_t vault_record_size(void);
 
-/* Starts vault `id` of `n`, of which up to `f` may lie, with a starting plan. The record must be blank: all zeros will do. `class` is the
- * link class, 0 to 7, for a delay of 20, 50, 100, 200, 500, 1000, 2000 or 5000 milliseconds. All vaults have the same n and f.
- * Refusals: 1, 4 to 8. */
+/* Starts vault `id` of `n`, of which up to `f` may lie, with a starting plan. The record must be blank: all zeros will do. The link
+ * class, 0 to 7, is for a delay of 20, 50, 100, 200, 500, 1000, 2000 or 5000 milliseconds; a timer is nine delays. All vaults have the
+ * same n and f. Refusals: 1, 4 to 8. */
 uint32_t vault_start(uint8_t *record, size_t record_length, uint8_t n, uint8_t f, uint8_t id, uint8_t link_class, uint64_t plan,
                      uint8_t *output, size_t output_length);
 
@@ -74,6 +132,22 @@ uint32_t vault_frame(uint8_t *record, size_t record_length, uint8_t sender, cons
 /* The timer of a view has run out. It may be called again for the same view: the view-change is then sent once more.
  * Refusals: 1 to 3, 18, 19. */
 uint32_t vault_timer(uint8_t *record, size_t record_length, uint32_t view, uint8_t *output, size_t output_length);
+
+/* For a host that comes back: out[0] is the record's current view, out[1] the milliseconds of its timer, and the answer is
+ * VAULT_ACCEPTED. Refusals, with `out` unchanged: 1 where out_count is below 2, 2 and 3 as for a frame. */
+uint32_t vault_current(const uint8_t *record, size_t record_length, uint32_t *out, size_t out_count);
+
+/* Likewise the decision: out[0] is its view, out[1] its plan, and the answer is VAULT_ACCEPTED + 1. Where nothing is decided the answer is
+ * VAULT_ACCEPTED, and `out` is unchanged. Refusals as for vault_current. */
+uint32_t vault_decision(const uint8_t *record, size_t record_length, uint64_t *out, size_t out_count);
+
+/* Walks the entries of an output of which output_length bytes were written (the answer less VAULT_ACCEPTED): the length of the entry
+ * that begins at `at`, its recipient byte included. 0 at the end, and where no entry begins. */
+uint32_t vault_entry(const uint8_t *output, size_t output_length, size_t at);
+
+/* Writes a sentence for a refusal's number, in ASCII and without a closing 0, and answers with its length. 0, and nothing written, where
+ * there is no such refusal or the sentence is longer than the output. VAULT_LONGEST_TEXT bytes are enough for each. */
+uint32_t vault_refusal_text(uint32_t number, uint8_t *output, size_t output_length);
 
 #ifdef __cplusplus
 }

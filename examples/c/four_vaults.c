@@ -9,12 +9,12 @@
 #include <stdio.h>
 #include <string.h>
 
-enum { VAULTS = 4, LIARS = 1, CLASS = 2, LONGEST = 45, QUEUE = 4096 };
+enum { VAULTS = 4, LIARS = 1, CLASS = 2, QUEUE = 4096 };
 
 /* A frame on its way. */
 struct message {
     uint8_t from, to, length;
-    uint8_t bytes[LONGEST];
+    uint8_t bytes[VAULT_LONGEST_FRAME];
 };
 
 static uint8_t records[VAULTS][VAULT_RECORD_SIZE];
@@ -33,7 +33,7 @@ static uint64_t number(const uint8_t *bytes, size_t count)
 
 static size_t frame_length(uint8_t kind)
 {
-    return kind <= 5 ? 14 : kind == 6 ? 6 : 45;
+    return kind < VAULT_VIEW_CHANGE ? 14 : kind == VAULT_VIEW_CHANGE ? 6 : 45;
 }
 
 static int send_to(uint8_t from, uint8_t to, const uint8_t *frame, size_t length)
@@ -54,10 +54,10 @@ static int act(uint8_t id, const uint8_t *output, size_t count)
     size_t at = 0;
     while (at < count) {
         const uint8_t *entry = output + at;
-        if (entry[0] == 0xfe && entry[1] == 0x0b) {
+        if (entry[0] == VAULT_TO_HOST && entry[1] == VAULT_HOST_TIMER) {
             printf("vault %d: timer for view %" PRIu64 " in %" PRIu64 " ms\n", id, number(entry + 2, 4), number(entry + 6, 4));
             at += 10;
-        } else if (entry[0] == 0xfe) {
+        } else if (entry[0] == VAULT_TO_HOST) {
             decided[id] = 1;
             decision[id] = number(entry + 6, 8);
             printf("vault %d: decides plan %" PRIu64 " in view %" PRIu64 "\n", id, decision[id], number(entry + 2, 4));
@@ -65,7 +65,7 @@ static int act(uint8_t id, const uint8_t *output, size_t count)
         } else {
             size_t length = frame_length(entry[1]);
             for (uint8_t to = 0; to < VAULTS; to++)
-                if (to != id && (entry[0] == 0xff || entry[0] == to) && !send_to(id, to, entry + 1, length))
+                if (to != id && (entry[0] == VAULT_TO_ALL || entry[0] == to) && !send_to(id, to, entry + 1, length))
                     return 0;
             at += 1 + length;
         }

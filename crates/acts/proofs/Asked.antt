@@ -1,106 +1,170 @@
--- Steps A and B by slots (document 01, 'One pass'): the highest view with f + 1 or n - f view-changes is where a climb over the
--- senders' slots ends, since the sets of those who ask are the same below n.
+-- Steps A and B by slots (document 01, 'One pass'): the highest view with f + 1 or n - f view-changes is the highest that the search
+-- over the gathered views finds, since the sets of those who ask are the same below n. As 'above' only leaves out the low end, it
+-- may be asked of each view, as the search does, or of the highest one, as A does.
 -- Assumes nothing.
-use Prim.Native.Nat.{ℕ, _+_, _-_, _≤_, _<_}
+use Prim.Native.Nat.{ℕ, zero, suc, _+_, _-_, _≤_, _<_, max}
 use mathlib.Core.Path.{_≡_, refl, sym, _∙_, ap, fun-ext}
-use mathlib.Core.Bool.{Bool, true, false, not, _&&_}
+use mathlib.Core.Bool.{Bool, true, false, cond, not, _&&_}
+use mathlib.Core.List.{List}
 use mathlib.Core.Option.{Option, none, some}
 use native.Mathlib.Omega.{arith}
+use native.Mathlib.Decide.{decLt}
 use lib.Dec.{leb, ltb, eqb}
-use borrow.Author.Tests.{lt-ltb, le-ltb}
-use Rattle.quorum.specs.Sets.{weigh, isQuorum, isBlocking}
-use Rattle.quorum.proofs.Laws.{weighSame, totalEquals}
+use borrow.Author.Tests.{eqb-true, leb-true, ltb-true, lt-ltb, le-ltb, le-leb, lt-leb}
+use Rattle.quorum.specs.Sets.{Set, weigh, isQuorum, isBlocking}
+use Rattle.quorum.proofs.Bools.{which, bothSplit, bothJoin, clash}
+use Rattle.quorum.proofs.Laws.{weighNone, weighSame, totalEquals}
 use Rattle.rules.specs.Options.{holds}
-use Rattle.record.specs.declared.Record.{Record}
+use Rattle.rules.proofs.Laws.{holdsWhere}
+use Rattle.record.specs.Slots as slots
 use Rattle.protocol.specs.Record.{when, each, changeOf, highest}
-use Rattle.protocol.specs.Pass.{Act, ask, enter, asked, isNews, actA, actB}
+use Rattle.protocol.specs.Pass.{Act, ask, enter, asked, isNews, canEnter, actA, actB}
+use Rattle.protocol.proofs.Tables.{highestHas, highestMost}
 use Rattle.contents.specs.Contents.{contents}
-use Rattle.acts.specs.Changes.{changeIn, changers, enough, newsFrom, climb}
+use Rattle.acts.specs.Parts.{sharedPart}
+use Rattle.acts.specs.Changes.{changeIn, newsFrom, askers, enough, Highest}
+use Rattle.acts.proofs.Parts.{Reads}
 use Rattle.acts.proofs.Kept.{changeAt}
-use Rattle.acts.proofs.Changes.{climbIs, above, highestAbove, highestSame, newsIs}
+use Rattle.acts.proofs.Changes.{highestBoth}
 
--- What is above low is acted on either way.
-eachAbove : (low : ℕ) (act : ℕ → Act) (o : Option ℕ) → each (above low o) (λ w. some (act w)) ≡ each o (λ w. when (ltb low w) (some (act w)))
-eachAbove low act none = refl
-eachAbove low act (some w) = go (ltb low w)
+-- ---- the highest
+
+-- Some member is in a set that weighs something.
+member : (set : Set) (k : ℕ) → 0 < weigh (λ i. 1) set k → (j : ℕ) × (j < k) × (set j ≡ true)
+unfolding weigh
+member set zero heavy = absurd (omega arith)
+member set (suc k) heavy = go (set k) refl (λ more. member set k more)
   where
-    go : (b : Bool) → each (when b (some w)) (λ w. some (act w)) ≡ when b (some (act w))
+    older : (j : ℕ) × (j < k) × (set j ≡ true) → (j : ℕ) × (j < suc k) × (set j ≡ true)
+    older (j, low, is) = (j, omega arith, is)
+
+    go : (b : Bool) → set k ≡ b → (0 < weigh (λ i. 1) set k → (j : ℕ) × (j < k) × (set j ≡ true)) → (j : ℕ) × (j < suc k) × (set j ≡ true)
+    go true e before = (k, omega arith, e)
+    go false e before = let rest : 0 < weigh (λ i. 1) set k + 0 = rw e at heavy in older (before (omega arith))
+
+module _ (test : ℕ → Bool) (f : ℕ → Option ℕ) (n low best : ℕ) (h : Highest test low best)
+    (found : (w : ℕ) → test w ≡ true → (j : ℕ) × (j < n) × (f j ≡ some w)) where
+  -- Where best is above low it is the highest, and otherwise the highest is not above low.
+  topActs : (act : ℕ → Act) → each (highest test f n) (λ w. when (ltb low w) (some (act w))) ≡ when (ltb low best) (some (act best))
+  topActs act = go (highest test f n) refl (decLt low best)
+    where
+      least : low < best → (w : ℕ) × (highest test f n ≡ some w) × (best ≤ w)
+      least over = let (j, below, is) = found best (h .passes over) in highestMost test f n j best below is (h .passes over)
+
+      go : (o : Option ℕ) → highest test f n ≡ o → Dec (low < best) → each o (λ w. when (ltb low w) (some (act w))) ≡ when (ltb low best) (some (act best))
+      go none e (no under) = rw (le-ltb low best (omega arith))
+      go none e (yes over) = let (w, is, le) = least over in let z : _≡_ {A = ℕ} 0 1 = cc in absurd (omega arith)
+      go (some w) e (yes over) =
+          let (x, is, le) = least over in
+          let same : x ≡ w = cc in
+          let most : w ≤ best = h .most w (omega arith) (highestHas test f n e .0) in
+          let both : w ≡ best = omega arith in
+          rw (both, lt-ltb low best over)
+      go (some w) e (no under) = by (decLt low w)
+        where
+          by : Dec (low < w) → when (ltb low w) (some (act w)) ≡ when (ltb low best) (some (act best))
+          by (yes above) = absurd (omega (arith, h .most w above (highestHas test f n e .0)))
+          by (no above) = rw (le-ltb low w (omega arith), le-ltb low best (omega arith))
+
+-- 'above the current view and above the vault's own view-change, where it has sent one'.
+newsIs : (view w : ℕ) (own : Option ℕ) → (ltb view w && not (holds (leb w) own)) ≡ ltb (newsFrom view own) w
+newsIs view w none = go (ltb view w)
+  where
+    go : (b : Bool) → (b && true) ≡ b
     go true = refl
     go false = refl
+newsIs view w (some u) = go (decLt view w) (decLt u w)
+  where
+    go : Dec (view < w) → Dec (u < w) → (ltb view w && not (leb w u)) ≡ ltb (max view u) w
+    go (yes a) (yes b) = rw (lt-ltb view w a, lt-leb w u b, lt-ltb (max view u) w (omega arith))
+    go (yes a) (no b) = rw (lt-ltb view w a, le-leb w u (omega arith), le-ltb (max view u) w (omega arith))
+    go (no a) b = rw (le-ltb view w (omega arith), le-ltb (max view u) w (omega arith))
 
-module _ (r : Record) (most : r .n ≤ 64) where
-  -- The view-changes, in the slots.
+-- ---- the record
+
+module _ (s : List ℕ) (r : slots.Record) (reads : Reads s r) where
+  abbrev n : ℕ
+  n = r .set .n
+
   abbrev changes : ℕ → Option ℕ
-  changes = changeIn (r .marks) (r .views)
+  changes = changeIn (sharedPart s)
 
-  changersSame : (w : ℕ) → weigh (λ i. 1) (λ j. holds (eqb w) (changeOf (contents r) j)) (r .n) ≡ weigh (λ i. 1) (changers (r .marks) (r .views) w) (r .n)
-  changersSame w =
-      weighSame (λ i. 1) (λ j. holds (eqb w) (changeOf (contents r) j)) (changers (r .marks) (r .views) w) (r .n)
-      (λ j low. ap (λ (o : Option ℕ). holds (eqb w) o) (changeAt r j (omega arith)))
+  askersSame : (w : ℕ) → weigh (λ i. 1) (λ j. holds (eqb w) (changeOf (contents r) j)) n ≡ weigh (λ i. 1) (askers changes w) n
+  askersSame w =
+      weighSame (λ i. 1) (λ j. holds (eqb w) (changeOf (contents r) j)) (askers changes w) n
+      (λ j low. ap (λ (o : Option ℕ). holds (eqb w) o) (changeAt s r reads j (omega (arith, reads .allows .most))))
 
-  blockingSame : (w : ℕ) → asked (contents r) isBlocking w ≡ enough (r .marks) (r .views) (r .n) (r .f + 1) w
+  blockingSame : (w : ℕ) → enough changes n (r .set .f + 1) w ≡ asked (contents r) isBlocking w
   unfolding contents isBlocking enough
-  blockingSame w = ap (leb (r .f + 1)) (changersSame w)
+  blockingSame w = sym (ap (leb (r .set .f + 1)) (askersSame w))
 
-  quorumSame : (w : ℕ) → asked (contents r) isQuorum w ≡ enough (r .marks) (r .views) (r .n) (r .n - r .f) w
+  quorumSame : (w : ℕ) → enough changes n (n - r .set .f) w ≡ asked (contents r) isQuorum w
   unfolding contents isQuorum enough
-  quorumSame w = λ i. leb (totalEquals (r .n) (r .f) i - r .f) (changersSame w i)
+  quorumSame w = sym (λ i. leb (totalEquals n (r .set .f) i - r .set .f) (askersSame w i))
 
-  -- Where the climb from low ends.
-  abbrev top : ℕ → ℕ → ℕ
-  top need low = climb (enough (r .marks) (r .views) (r .n) need) changes low (r .n)
-
-  topIs : (test : ℕ → Bool) (need low : ℕ) → ((w : ℕ) → test w ≡ enough (r .marks) (r .views) (r .n) need w)
-      → highest (λ w. ltb low w && test w) (changeOf (contents r)) (r .n) ≡ when (ltb low (top need low)) (some (top need low))
-  topIs test need low same =
-      highestSame (λ w. ltb low w && test w) (λ w. ltb low w && enough (r .marks) (r .views) (r .n) need w) (changeOf (contents r)) changes (r .n)
-      (fun-ext (λ w. ap (λ (b : Bool). ltb low w && b) (same w))) (λ j below. changeAt r j (omega arith))
-      ∙ climbIs (enough (r .marks) (r .views) (r .n) need) changes low (r .n)
+  -- Where enough ask, one does.
+  someAsks : (need w : ℕ) → 0 < need → enough changes n need w ≡ true → (j : ℕ) × (j < n) × (changeOf (contents r) j ≡ some w)
+  unfolding enough
+  someAsks need w least h =
+      let many : need ≤ weigh (λ i. 1) (askers changes w) n = leb-true need (weigh (λ i. 1) (askers changes w) n) h in
+      let (j, low, on) = member (askers changes w) n (omega arith) in
+      let (x, is, same) = holdsWhere (changes j) (eqb w) on in
+      (j, low, changeAt s r reads j (omega (arith, reads .allows .most)) ∙ is ∙ ap some (sym (eqb-true w x same)))
 
   -- B. 'Take the highest w above the current view with n - f kept view-changes for w. Enter it.'
-  enterIs : each (when (ltb (r .view) (top (r .n - r .f) (r .view))) (some (top (r .n - r .f) (r .view)))) (λ w. some (enter w)) ≡ actB (contents r)
-  unfolding contents
-  enterIs = sym (ap (λ (o : Option ℕ). each o (λ w. some (enter w))) (topIs (asked (contents r) isQuorum) (r .n - r .f) (r .view) quorumSame))
+  module _ (w : ℕ) (top : Highest (enough changes n (n - r .set .f)) (r .view) w) where
+    canSame : Highest (canEnter (contents r)) (r .view) w
+    unfolding contents
+    canSame =
+        highestBoth (enough changes n (n - r .set .f)) (canEnter (contents r)) (r .view) w
+        (λ v above. quorumSame v ∙ sym (ap (λ (b : Bool). b && asked (contents r) isQuorum v) (lt-ltb (r .view) v above))) top
 
-  pub enters : (w : ℕ) → w ≡ top (r .n - r .f) (r .view) → r .view < w → some (enter w) ≡ actB (contents r)
-  enters w is less =
-      ap (λ (b : Bool). each (when b (some w)) (λ w. some (enter w))) (sym (lt-ltb (r .view) w less))
-      ∙ ap (λ (x : ℕ). each (when (ltb (r .view) x) (some x)) (λ w. some (enter w))) is ∙ enterIs
+    canAsk : (v : ℕ) → canEnter (contents r) v ≡ true → (j : ℕ) × (j < n) × (changeOf (contents r) j ≡ some v)
+    canAsk v can =
+        someAsks (n - r .set .f) v (omega (arith, reads .allows .third))
+        (quorumSame v ∙ bothSplit (ltb (contents r .view) v) (asked (contents r) isQuorum v) can .1)
 
-  pub stays : (w : ℕ) → w ≡ top (r .n - r .f) (r .view) → w ≤ r .view → none ≡ actB (contents r)
-  stays w is more =
-      ap (λ (b : Bool). each (when b (some w)) (λ w. some (enter w))) (sym (le-ltb (r .view) w more))
-      ∙ ap (λ (x : ℕ). each (when (ltb (r .view) x) (some x)) (λ w. some (enter w))) is ∙ enterIs
+    enterIs : when (ltb (r .view) w) (some (enter w)) ≡ actB (contents r)
+    unfolding contents
+    enterIs =
+        sym (topActs (canEnter (contents r)) (changeOf (contents r)) n (r .view) w canSame canAsk enter)
+        ∙ go (highest (canEnter (contents r)) (changeOf (contents r)) n) refl
+      where
+        go : (o : Option ℕ) → highest (canEnter (contents r)) (changeOf (contents r)) n ≡ o
+            → each o (λ v. when (ltb (r .view) v) (some (enter v))) ≡ each o (λ v. some (enter v))
+        go none e = refl
+        go (some v) e =
+            let can = highestHas (canEnter (contents r)) (changeOf (contents r)) n e .0 in
+            rw (bothSplit (ltb (r .view) v) (asked (contents r) isQuorum v) can .0)
+
+    pub enters : r .view < w → some (enter w) ≡ actB (contents r)
+    enters above = ap (λ (b : Bool). when b (some (enter w))) (sym (lt-ltb (r .view) w above)) ∙ enterIs
+
+    pub stays : w ≤ r .view → none ≡ actB (contents r)
+    stays under = ap (λ (b : Bool). when b (some (enter w))) (sym (le-ltb (r .view) w under)) ∙ enterIs
 
   -- A. 'Take the highest view w for which f + 1 kept view-changes are for w. If w is above .., broadcast view-change w.'
-  module _ (own : r .id < r .n) where
-    abbrev from : ℕ
-    from = newsFrom (r .view) (changes (r .id))
-
-    newsSame : (w : ℕ) → isNews (contents r) w ≡ ltb from w
+  module _ (low w : ℕ) (from : low ≡ newsFrom (r .view) (changes (r .set .id))) (top : Highest (enough changes n (r .set .f + 1)) low w) where
+    newsSame : (v : ℕ) → isNews (contents r) v ≡ ltb low v
     unfolding contents
-    newsSame w = ap (λ (o : Option ℕ). ltb (r .view) w && not (holds (leb w) o)) (changeAt r (r .id) (omega arith)) ∙ newsIs (r .view) w (changes (r .id))
+    newsSame v =
+        ap (λ (o : Option ℕ). ltb (r .view) v && not (holds (leb v) o))
+        (changeAt s r reads (r .set .id) (omega (arith, reads .allows .most, reads .allows .own)))
+        ∙ newsIs (r .view) v (changes (r .set .id)) ∙ ap (λ (l : ℕ). ltb l v) (sym from)
 
-    newsHighest : each (highest (asked (contents r) isBlocking) (changeOf (contents r)) (r .n)) (λ w. when (isNews (contents r) w) (some (ask w))) ≡ actA (contents r)
+    askSame : Highest (asked (contents r) isBlocking) low w
+    askSame = highestBoth (enough changes n (r .set .f + 1)) (asked (contents r) isBlocking) low w (λ v above. blockingSame v) top
+
+    askIs : when (ltb low w) (some (ask w)) ≡ actA (contents r)
     unfolding contents
-    newsHighest = refl
-
-    askIs : each (when (ltb from (top (r .f + 1) from)) (some (top (r .f + 1) from))) (λ w. some (ask w)) ≡ actA (contents r)
     askIs =
-        ap (λ (o : Option ℕ). each o (λ w. some (ask w)))
-        (sym (topIs (asked (contents r) isBlocking) (r .f + 1) from blockingSame) ∙ highestAbove from (asked (contents r) isBlocking) (changeOf (contents r)) (r .n))
-        ∙ eachAbove from ask (highest (asked (contents r) isBlocking) (changeOf (contents r)) (r .n))
-        ∙ ap (λ (news : ℕ → Bool). each (highest (asked (contents r) isBlocking) (changeOf (contents r)) (r .n)) (λ w. when (news w) (some (ask w)))) (sym (fun-ext newsSame))
-        ∙ newsHighest
+        sym (topActs (asked (contents r) isBlocking) (changeOf (contents r)) n low w askSame
+        (λ v h. someAsks (r .set .f + 1) v (omega arith) (blockingSame v ∙ h)) ask)
+        ∙ ap (λ (news : ℕ → Bool). each (highest (asked (contents r) isBlocking) (changeOf (contents r)) n) (λ v. when (news v) (some (ask v))))
+        (sym (fun-ext newsSame))
 
-    pub asksFor : (low w : ℕ) → low ≡ from → w ≡ top (r .f + 1) low → low < w → some (ask w) ≡ actA (contents r)
-    asksFor low w at is less =
-        ap (λ (b : Bool). each (when b (some w)) (λ w. some (ask w))) (sym (lt-ltb low w less))
-        ∙ ap (λ (x : ℕ). each (when (ltb low x) (some x)) (λ w. some (ask w))) is
-        ∙ ap (λ (l : ℕ). each (when (ltb l (top (r .f + 1) l)) (some (top (r .f + 1) l))) (λ w. some (ask w))) at ∙ askIs
+    pub asksFor : low < w → some (ask w) ≡ actA (contents r)
+    asksFor above = ap (λ (b : Bool). when b (some (ask w))) (sym (lt-ltb low w above)) ∙ askIs
 
-    pub silent : (low w : ℕ) → low ≡ from → w ≡ top (r .f + 1) low → w ≤ low → none ≡ actA (contents r)
-    silent low w at is more =
-        ap (λ (b : Bool). each (when b (some w)) (λ w. some (ask w))) (sym (le-ltb low w more))
-        ∙ ap (λ (x : ℕ). each (when (ltb low x) (some x)) (λ w. some (ask w))) is
-        ∙ ap (λ (l : ℕ). each (when (ltb l (top (r .f + 1) l)) (some (top (r .f + 1) l))) (λ w. some (ask w))) at ∙ askIs
+    pub silent : w ≤ low → none ≡ actA (contents r)
+    silent under = ap (λ (b : Bool). when b (some (ask w))) (sym (le-ltb low w under)) ∙ askIs

@@ -1,171 +1,219 @@
--- The highest view with enough view-changes, found in one pass over the senders (document 01, 'One pass', A and B: 'Take the
--- highest ..'). A climb from low keeps the highest view above low that passes; a view that was tried and failed need not be tried
--- again. As 'above' only leaves out the low end, it may be asked of each view, as the climb does, or of the highest one, as A does.
+-- The highest view with enough view-changes (document 01, 'One pass', A and B: 'Take the highest ..'). The views above low are
+-- gathered first, each as often as it is asked for. Then each place of the list is tried: a view met for the first time has all its
+-- askers from there on, so that one which is there often enough passes at its first place.
 -- Assumes nothing.
-use Prim.Native.Nat.{ℕ, zero, suc, _+_, _≤_, _<_, max}
+use Prim.Native.Nat.{ℕ, zero, suc, _+_, _-_, _≤_, _<_, max}
 use mathlib.Core.Path.{_≡_, refl, sym, _∙_, ap}
-use mathlib.Core.Logic.{_≢_, _⊎_, inl, inr}
+use mathlib.Core.Logic.{_≢_}
 use mathlib.Core.Bool.{Bool, true, false, cond, not, _&&_}
 use mathlib.Core.List.{List}
 use mathlib.Core.Option.{Option, none, some}
 use native.Mathlib.Omega.{arith}
 use native.Mathlib.Numerals.{add-one}
-use native.Mathlib.Decide.{decLt}
-use lib.Dec.{leb, ltb}
-use borrow.Author.Tests.{eq-eqb, ne-eqb, lt-ltb, le-ltb, le-leb, lt-leb}
-use Rattle.quorum.specs.Sets.{weigh}
-use Rattle.quorum.proofs.Bools.{which}
+use native.Mathlib.Decide.{decLt, ℕ-discrete}
+use lib.Dec.{leb, ltb, eqb}
+use lib.ListN.{length, getD, take, drop, set, length-take}
+use lib.Seq.{getD-set-same, getD-set-other, getD-take}
+use borrow.Author.Tests.{eq-eqb, ne-eqb, lt-ltb, le-ltb, le-leb, lt-leb, leb-true}
+use Rattle.quorum.specs.Sets.{Set, weigh}
+use Rattle.quorum.proofs.Laws.{weighNone, weighMore, weighStep, weighSame}
 use Rattle.rules.specs.Options.{holds}
-use Rattle.protocol.specs.Record.{when, each, higher, highest}
-use Rattle.acts.specs.declared.Climb.{Climb}
-use Rattle.acts.specs.Changes.{asks, changers, enough, newsFrom, raise, climb, Tried, Climbed}
+use Rattle.frame.specs.declared.Report.{Report}
+use Rattle.acts.specs.Changes.{asks, newsFrom, askers, enough, times, Gathered, raisedAt, Highest}
 
--- ---- one view-change
+-- ---- a slot
 
-module _ (marks views : List ℕ) (n need w count : ℕ) (is : count ≡ weigh (λ i. 1) (changers marks views w) n) where
-  pub enoughFew : count < need → enough marks views n need w ≡ false
-  unfolding enough
-  enoughFew less = ap (leb need) (sym is) ∙ lt-leb need count less
-
-  pub enoughMany : need ≤ count → enough marks views n need w ≡ true
-  unfolding enough
-  enoughMany more = ap (leb need) (sym is) ∙ le-leb need count more
-
-module _ (test : ℕ → Bool) (b : Climb) (tried : Tried test b) (mark w : ℕ) where
-  -- None is kept.
-  pub skipAbsent : mark ≢ 1 → Climbed test (b .best) (asks mark w) b
+module _ (low : ℕ) (slot : Report) where
+  pub newsNone : slot .mark ≢ 1 → low ≡ newsFrom low (asks slot)
   unfolding asks
-  skipAbsent off = record { is = rw (ne-eqb mark 1 off); tried = tried }
+  newsNone off = rw (ne-eqb (slot .mark) 1 off)
 
-  module _ (here : mark ≡ 1) where
-    pub skipLow : w ≤ b .best → Climbed test (b .best) (asks mark w) b
-    unfolding asks
-    skipLow low = record { is = rw (eq-eqb mark 1 here, le-ltb (b .best) w low); tried = tried }
+  pub newsSome : slot .mark ≡ 1 → max low (slot .view) ≡ newsFrom low (asks slot)
+  unfolding asks
+  newsSome here = rw (eq-eqb (slot .mark) 1 here)
 
-    module _ (above : b .best < w) where
-      pub skipTried : w ≡ b .tried → Climbed test (b .best) (asks mark w) b
-      unfolding asks
-      skipTried same =
-          let fails : test w ≡ false = ap test same ∙ tried .fails (omega arith) in
-          record { is = rw (eq-eqb mark 1 here, lt-ltb (b .best) w above, fails); tried = tried }
+-- ---- how often a view is there
 
-      pub tryFails : test w ≡ false → Climbed test (b .best) (asks mark w) (record { best = b .best; tried = w })
-      unfolding asks
-      tryFails fails = record { is = rw (eq-eqb mark 1 here, lt-ltb (b .best) w above, fails); tried = record { fails = λ less. fails } }
+module _ (views : List ℕ) where
+  timesMore : (k w : ℕ) → times views (k + 1) w ≡ times views k w + cond (eqb w (getD views k 0)) 1 0
+  timesMore k w = weighMore (λ i. 1) (λ j. eqb w (getD views j 0)) k
 
-      pub tryPasses : test w ≡ true → Climbed test (b .best) (asks mark w) (record { best = w; tried = w })
-      unfolding asks
-      tryPasses passes = record { is = rw (eq-eqb mark 1 here, lt-ltb (b .best) w above, passes); tried = record { fails = λ less. absurd (omega arith) } }
+  timesSame : (k w : ℕ) → w ≡ getD views k 0 → times views (k + 1) w ≡ times views k w + 1
+  timesSame k w e = timesMore k w ∙ rw (eq-eqb w (getD views k 0) e)
 
--- ---- the climb
+  timesOther : (k w : ℕ) → w ≢ getD views k 0 → times views (k + 1) w ≡ times views k w
+  timesOther k w e =
+      let more : times views (k + 1) w ≡ times views k w + 0 = timesMore k w ∙ rw (ne-eqb w (getD views k 0) e) in
+      omega arith
 
-module _ (test : ℕ → Bool) (change : ℕ → Option ℕ) (low : ℕ) where
-  pub climbNone : low ≡ climb test change low 0
-  unfolding climb
-  climbNone = refl
-
-  pub climbMore : (k best next : ℕ) → best ≡ climb test change low k → next ≡ raise test best (change k) → next ≡ climb test change low (k + 1)
-  unfolding climb
-  climbMore k best next was is = rw add-one (is ∙ ap (λ (x : ℕ). raise test x (change k)) was)
-
-  climbLow : (k : ℕ) → low ≤ climb test change low k
-  unfolding climb
-  climbLow zero = omega arith
-  climbLow (suc k) = go (change k) (climb test change low k) (climbLow k)
+  -- d places more have it at most d times more.
+  timesSlack : (k d w : ℕ) → times views (k + d) w ≤ times views k w + d
+  timesSlack k zero w = let same : k + 0 ≡ k = omega arith in rw same (omega arith)
+  timesSlack k (suc d) w =
+      let next : k + suc d ≡ k + d + 1 = omega arith in
+      rw next (go (ℕ-discrete w (getD views (k + d) 0)) (timesSlack k d w))
     where
-      go : (o : Option ℕ) (b : ℕ) → low ≤ b → low ≤ raise test b o
-      go none b le = le
-      go (some w) b le = by (decLt b w) (which (test w))
-        where
-          by : Dec (b < w) → (test w ≡ true) ⊎ (test w ≡ false) → low ≤ cond (ltb b w && test w) w b
-          by (yes less) (inl t) = rw (lt-ltb b w less, t) (omega arith)
-          by (yes less) (inr t) = rw (lt-ltb b w less, t) le
-          by (no more) t = rw (le-ltb b w (omega arith)) le
+      go : Dec (w ≡ getD views (k + d) 0) → times views (k + d) w ≤ times views k w + d → times views (k + d + 1) w ≤ times views k w + suc d
+      go (yes e) less = omega (arith, timesSame (k + d) w e)
+      go (no e) less = omega (arith, timesOther (k + d) w e)
 
-  -- What is above low passes both ways.
-  abbrev over : ℕ → Bool
-  over w = ltb low w && test w
+-- The loop that counts from a place on.
+pub timesStep : (views : List ℕ) (from j w count more : ℕ) → times views from w + count ≡ times views j w → more ≡ cond (eqb w (getD views j 0)) 1 0
+    → times views from w + (count + more) ≡ times views (j + 1) w
+timesStep views from j w count more was adds =
+    omega (arith, weighStep (λ i. 1) (λ i. eqb w (getD views i 0)) j (times views from w + count) more was adds)
 
-  raised : (o : Option ℕ) (b : ℕ) → low ≤ b → higher (when (holds over o) o) (when (ltb low b) (some b)) ≡ when (ltb low (raise test b o)) (some (raise test b o))
-  raised none b le = refl
-  raised (some w) b le = go (decLt low w) (decLt b w) (decLt low b) (which (test w))
-    where
-      go : Dec (low < w) → Dec (b < w) → Dec (low < b) → (test w ≡ true) ⊎ (test w ≡ false)
-          → higher (when (ltb low w && test w) (some w)) (when (ltb low b) (some b)) ≡ when (ltb low (cond (ltb b w && test w) w b)) (some (cond (ltb b w && test w) w b))
-      go (yes a) (yes d) (yes l) (inl t) = simp (lt-ltb low w a, lt-ltb b w d, lt-ltb low b l, t)
-      go (yes a) (yes d) (no l) (inl t) = simp (lt-ltb low w a, lt-ltb b w d, le-ltb low b (omega arith), t)
-      go (yes a) (no d) (yes l) (inl t) = simp (lt-ltb low w a, le-ltb b w (omega arith), lt-ltb low b l, t)
-      go (yes a) (no d) (no l) (inl t) = absurd (omega arith)
-      go (no a) (yes d) l (inl t) = absurd (omega arith)
-      go (no a) (no d) l (inl t) = simp (le-ltb low w (omega arith), le-ltb b w (omega arith))
-      go (yes a) (yes d) l (inr t) = simp (lt-ltb low w a, lt-ltb b w d, t)
-      go (yes a) (no d) l (inr t) = simp (lt-ltb low w a, le-ltb b w (omega arith), t)
-      go (no a) (yes d) l (inr t) = absurd (omega arith)
-      go (no a) (no d) l (inr t) = simp (le-ltb low w (omega arith), le-ltb b w (omega arith))
+-- What is put behind the first k does not count among them.
+timesPut : (views : List ℕ) (k x w : ℕ) → times (set views k x) k w ≡ times views k w
+timesPut views k x w =
+    weighSame (λ i. 1) (λ j. eqb w (getD (set views k x) j 0)) (λ j. eqb w (getD views j 0)) k
+    (λ j low. ap (eqb w) (getD-set-other views k j x 0 (λ (e : j ≡ k). omega arith)))
 
-  pub climbIs : (n : ℕ) → highest over change n ≡ when (ltb low (climb test change low n)) (some (climb test change low n))
-  unfolding climb highest
-  climbIs zero = rw (le-ltb low low (omega arith))
-  climbIs (suc n) =
-      ap (λ (o : Option ℕ). higher (when (holds over (change n)) (change n)) o) (climbIs n) ∙ raised (change n) (climb test change low n) (climbLow n)
+-- ---- the views above low
 
--- ---- the highest
+module _ (change : ℕ → Option ℕ) (low : ℕ) where
+  pub gatherNone : (views : List ℕ) → Gathered change 0 low views 0
+  gatherNone views = record {
+    most = omega arith;
+    same = λ w above. weighNone (λ i. 1) (λ j. eqb w (getD views j 0)) ∙ sym (weighNone (λ i. 1) (askers change w));
+  }
 
-module _ (low : ℕ) where
-  -- The number, where it is above low.
-  abbrev pub above : Option ℕ → Option ℕ
-  above o = each o (λ w. when (ltb low w) (some w))
+  module _ (views : List ℕ) (count j x more : ℕ) (was : Gathered change j low views count) (room : count < length views) where
+    asked : (w : ℕ) → low < w → (o : Option ℕ) → change j ≡ o → x ≡ newsFrom low o → more ≡ cond (ltb low x) 1 0
+        → times (set views count x) (count + more) w ≡ weigh (λ i. 1) (askers change w) j + cond (holds (eqb w) o) 1 0
+    asked w above none at is adds =
+        let less : ltb low x ≡ false = le-ltb low x (omega arith) in
+        let nothing : more ≡ 0 = adds ∙ rw less in
+        let same : count + more ≡ count = omega arith in
+        let old : times (set views count x) count w ≡ weigh (λ i. 1) (askers change w) j = timesPut views count x w ∙ was .same w above in
+        rw same (omega arith)
+    asked w above (some y) at is adds = go (decLt low y)
+      where
+        go : Dec (low < y) → times (set views count x) (count + more) w ≡ weigh (λ i. 1) (askers change w) j + cond (eqb w y) 1 0
+        go (yes over) =
+            let here : x ≡ y = omega arith in
+            let one : more ≡ 1 = adds ∙ rw (lt-ltb low x (omega arith)) in
+            let old : times (set views count x) count w ≡ weigh (λ i. 1) (askers change w) j = timesPut views count x w ∙ was .same w above in
+            let put : getD (set views count x) count 0 ≡ y = getD-set-same views count x 0 room ∙ here in
+            let next : times (set views count x) (count + 1) w ≡ times (set views count x) count w + cond (eqb w y) 1 0
+            = timesMore (set views count x) count w ∙ ap (λ (z : ℕ). times (set views count x) count w + cond (eqb w z) 1 0) put in
+            rw one (omega arith)
+        go (no under) =
+            let nothing : more ≡ 0 = adds ∙ rw (le-ltb low x (omega arith)) in
+            let same : count + more ≡ count = omega arith in
+            let old : times (set views count x) count w ≡ weigh (λ i. 1) (askers change w) j = timesPut views count x w ∙ was .same w above in
+            let off : eqb w y ≡ false = ne-eqb w y (λ (e : w ≡ y). omega arith) in
+            rw (same, off) (omega arith)
 
-  higherAbove : (test : ℕ → Bool) (x o : Option ℕ) → higher (when (holds (λ w. ltb low w && test w) x) x) (above o) ≡ above (higher (when (holds test x) x) o)
-  higherAbove test none o = refl
-  higherAbove test (some w) o = go o (decLt low w) (which (test w))
-    where
-      both : (y : ℕ) → Dec (low < w) → Dec (low < y) → Dec (y < w)
-          → higher (when (ltb low w) (some w)) (when (ltb low y) (some y)) ≡ when (ltb low (cond (ltb y w) w y)) (some (cond (ltb y w) w y))
-      both y (yes a) (yes l) (yes d) = simp (lt-ltb low w a, lt-ltb low y l, lt-ltb y w d)
-      both y (yes a) (yes l) (no d) = simp (lt-ltb low w a, lt-ltb low y l, le-ltb y w (omega arith))
-      both y (yes a) (no l) (yes d) = simp (lt-ltb low w a, le-ltb low y (omega arith), lt-ltb y w d)
-      both y (yes a) (no l) (no d) = absurd (omega arith)
-      both y (no a) (yes l) (yes d) = absurd (omega arith)
-      both y (no a) (yes l) (no d) = simp (le-ltb low w (omega arith), le-ltb y w (omega arith))
-      both y (no a) (no l) (yes d) = simp (le-ltb low w (omega arith), le-ltb low y (omega arith), lt-ltb y w d)
-      both y (no a) (no l) (no d) = simp (le-ltb low w (omega arith), le-ltb y w (omega arith))
+    pub gatherMore : x ≡ newsFrom low (change j) → more ≡ cond (ltb low x) 1 0 → more ≤ 1 → Gathered change (j + 1) low (set views count x) (count + more)
+    gatherMore is adds little = record {
+      most = omega (arith, was .most);
+      same = λ w above. asked w above (change j) refl is adds ∙ sym (weighMore (λ i. 1) (askers change w) j);
+    }
 
-      go : (o : Option ℕ) → Dec (low < w) → (test w ≡ true) ⊎ (test w ≡ false)
-          → higher (when (ltb low w && test w) (some w)) (above o) ≡ above (higher (when (test w) (some w)) o)
-      go o (yes a) (inr t) = simp (lt-ltb low w a, t)
-      go o (no a) (inr t) = simp (le-ltb low w (omega arith), t)
-      go none (yes a) (inl t) = simp (lt-ltb low w a, t)
-      go none (no a) (inl t) = simp (le-ltb low w (omega arith), t)
-      go (some y) (yes a) (inl t) = let e = both y (yes a) (decLt low y) (decLt y w) in simp (lt-ltb low w a, t) (simp (lt-ltb low w a) at e)
-      go (some y) (no a) (inl t) = let e = both y (no a) (decLt low y) (decLt y w) in simp (le-ltb low w (omega arith), t) (simp (le-ltb low w (omega arith)) at e)
+-- ---- the search
 
-  pub highestAbove : (test : ℕ → Bool) (change : ℕ → Option ℕ) (n : ℕ) → highest (λ w. ltb low w && test w) change n ≡ above (highest test change n)
-  unfolding highest
-  highestAbove test change zero = refl
-  highestAbove test change (suc n) =
-      ap (λ (o : Option ℕ). higher (when (holds (λ w. ltb low w && test w) (change n)) (change n)) o) (highestAbove test change n)
-      ∙ higherAbove test (change n) (highest test change n)
+-- At place i: the highest so far passes, and a higher view that passes stands from here on alone.
+pub record Searched (views : List ℕ) (need low i best : ℕ) : Type 0 where
+  pub least : low ≤ best
+  pub passes : low < best → leb need (times views (length views) best) ≡ true
+  pub rest : (w : ℕ) → best < w → leb need (times views (length views) w) ≡ true → times views i w ≡ 0
 
--- Numbers and tests that are the same below n have the same highest.
-pub highestSame : (s t : ℕ → Bool) (f g : ℕ → Option ℕ) (n : ℕ) → s ≡ t → ((j : ℕ) → j < n → f j ≡ g j) → highest s f n ≡ highest t g n
-unfolding highest
-highestSame s t f g zero tests same = refl
-highestSame s t f g (suc n) tests same =
-    let more = highestSame s t f g n tests (λ j low. same j (omega arith)) in
-    let here = same n (omega arith) in
-    λ i. higher (when (holds (tests i) (here i)) (here i)) (more i)
+module _ (views : List ℕ) (need low : ℕ) where
+  pub searchNone : Searched views need low 0 low
+  searchNone = record {
+    least = omega arith;
+    passes = λ less. absurd (omega arith);
+    rest = λ w above enough. weighNone (λ i. 1) (λ j. eqb w (getD views j 0));
+  }
 
--- 'above the current view and above the vault's own view-change, where it has sent one'.
-pub newsIs : (view w : ℕ) (own : Option ℕ) → (ltb view w && not (holds (leb w) own)) ≡ ltb (newsFrom view own) w
-newsIs view w none = go (ltb view w)
-  where
-    go : (b : Bool) → (b && true) ≡ b
-    go true = refl
-    go false = refl
-newsIs view w (some u) = go (decLt view w) (decLt u w)
-  where
-    go : Dec (view < w) → Dec (u < w) → (ltb view w && not (leb w u)) ≡ ltb (max view u) w
-    go (yes a) (yes b) = rw (lt-ltb view w a, lt-leb w u b, lt-ltb (max view u) w (omega arith))
-    go (yes a) (no b) = rw (lt-ltb view w a, le-leb w u (omega arith), le-ltb (max view u) w (omega arith))
-    go (no a) b = rw (le-ltb view w (omega arith), le-ltb (max view u) w (omega arith))
+  module _ (i best : ℕ) (was : Searched views need low i best) where
+    -- What is above both the highest and the view here is not met here.
+    passOver : (b : ℕ) → best ≤ b → getD views i 0 ≤ b → (w : ℕ) → b < w → leb need (times views (length views) w) ≡ true → times views (i + 1) w ≡ 0
+    passOver b least here w above enough =
+        timesOther views i w (λ (e : w ≡ getD views i 0). omega arith) ∙ was .rest w (omega arith) enough
+
+    pub searchMore : Searched views need low (i + 1) (raisedAt views i need best)
+    unfolding raisedAt
+    searchMore = go (decLt best (getD views i 0)) (decLt (times views (length views) (getD views i 0)) (times views i (getD views i 0) + need))
+      where
+        x : ℕ
+        x = getD views i 0
+
+        go : Dec (best < x) → Dec (times views (length views) x < times views i x + need)
+            → Searched views need low (i + 1) (cond (ltb best x && leb (times views i x + need) (times views (length views) x)) x best)
+        go (no under) d =
+            rw (le-ltb best x (omega arith))
+            (record { least = was .least; passes = was .passes; rest = passOver best (omega arith) (omega arith) })
+        go (yes over) (no more) =
+            let enough : need ≤ times views (length views) x = omega arith in
+            rw (lt-ltb best x over, le-leb (times views i x + need) (times views (length views) x) (omega arith))
+            (record {
+              least = omega (arith, was .least);
+              passes = λ less. le-leb need (times views (length views) x) enough;
+              rest = passOver x (omega arith) (omega arith);
+            })
+        go (yes over) (yes few) =
+            rw (lt-ltb best x over, lt-leb (times views i x + need) (times views (length views) x) few)
+            (record { least = was .least; passes = was .passes; rest = λ w above enough. by w above enough (ℕ-discrete w x) })
+          where
+            by : (w : ℕ) → best < w → leb need (times views (length views) w) ≡ true → Dec (w ≡ x) → times views (i + 1) w ≡ 0
+            by w above enough (yes e) =
+                let least : need ≤ times views (length views) x = leb-true need (times views (length views) x) (rw e at enough) in
+                let none-yet : times views i x ≡ 0 = was .rest x over (rw e at enough) in
+                absurd (omega arith)
+            by w above enough (no e) = timesOther views i w e ∙ was .rest w above enough
+
+    pub searchDone : i ≤ length views → length views < i + need → Highest (λ w. leb need (times views (length views) w)) low best
+    searchDone reached few = record { least = was .least; passes = was .passes; most = λ w above enough. by w above enough (decLt best w) }
+      where
+        by : (w : ℕ) → low < w → leb need (times views (length views) w) ≡ true → Dec (best < w) → w ≤ best
+        by w above enough (yes over) =
+            let none-yet : times views i w ≡ 0 = was .rest w over enough in
+            let least : need ≤ times views (length views) w = leb-true need (times views (length views) w) enough in
+            let whole : i + (length views - i) ≡ length views = omega arith in
+            let slack : times views (length views) w ≤ times views i w + (length views - i) = rw whole at (timesSlack views i (length views - i) w) in
+            absurd (omega arith)
+        by w above enough (no under) = omega arith
+
+-- ---- one place
+
+module _ (views : List ℕ) (i need best w : ℕ) (is : w ≡ getD views i 0) where
+  pub raisedLow : w ≤ best → best ≡ raisedAt views i need best
+  unfolding raisedAt
+  raisedLow low = rw (← is, le-ltb best w low)
+
+  module _ (c : ℕ) (from : times views i w + c ≡ times views (length views) w) (above : best < w) where
+    pub raisedFew : c < need → best ≡ raisedAt views i need best
+    unfolding raisedAt
+    raisedFew few = rw (← is, lt-ltb best w above, lt-leb (times views i w + need) (times views (length views) w) (omega arith))
+
+    pub raisedMany : need ≤ c → w ≡ raisedAt views i need best
+    unfolding raisedAt
+    raisedMany many = rw (← is, lt-ltb best w above, le-leb (times views i w + need) (times views (length views) w) (omega arith))
+
+-- ---- from the gathered views to the view-changes
+
+-- Tests that are the same above low have the same highest.
+pub highestBoth : (s t : ℕ → Bool) (low best : ℕ) → ((w : ℕ) → low < w → s w ≡ t w) → Highest s low best → Highest t low best
+highestBoth s t low best same h = record {
+  least = h .least;
+  passes = λ less. sym (same best less) ∙ h .passes less;
+  most = λ w above passes. h .most w above (same w above ∙ passes);
+}
+
+module _ (change : ℕ → Option ℕ) (n low count k : ℕ) (views : List ℕ)
+    (g : Gathered change n low views count) (fits : count ≤ length views) (is : k ≡ count) where
+  front : (w : ℕ) → times (take k views) (length (take k views)) w ≡ times views count w
+  front w =
+      let size : length (take k views) ≡ count = length-take k views ∙ omega arith in
+      ap (λ (m : ℕ). times (take k views) m w) size
+      ∙ weighSame (λ i. 1) (λ j. eqb w (getD (take k views) j 0)) (λ j. eqb w (getD views j 0)) count
+      (λ j below. ap (eqb w) (getD-take k views j 0 (omega arith)))
+
+  pub highestOfAll : (need best : ℕ) → Highest (λ w. leb need (times (take k views) (length (take k views)) w)) low best
+      → Highest (enough change n need) low best
+  unfolding enough
+  highestOfAll need best h =
+      highestBoth (λ w. leb need (times (take k views) (length (take k views)) w)) (λ w. leb need (weigh (λ i. 1) (askers change w) n)) low best
+      (λ w above. ap (leb need) (front w ∙ g .same w above)) h

@@ -1,71 +1,160 @@
--- What protocol's record says of a vote, a view-change or a decision is what stands in its slot (document 01, 'What a vault
--- keeps'): the contents of a record have the frame of a kind and a sender where that slot is present, for the 64 senders that
--- have one. So the sets that steps count are the same, below n.
+-- What protocol's record says of a vote, a view-change or a report is what stands in its slot (document 01, 'What a vault keeps'): the
+-- contents of a record have the frame of a kind and a sender where that slot is present, for the 64 senders that have one. So the
+-- sets that steps count are the same, below n.
 -- Assumes nothing.
 use Prim.Native.Nat.{ℕ, suc, _+_, _*_, _≤_, _<_}
-use mathlib.Core.Path.{_≡_, refl, _∙_, ap}
+use mathlib.Core.Path.{_≡_, refl, sym, _∙_, ap}
 use mathlib.Core.Bool.{Bool, true, false, cond, _&&_}
-use mathlib.Core.Option.{Option, some}
+use mathlib.Core.List.{List}
+use mathlib.Core.Option.{Option, none, some}
 use native.Mathlib.Omega.{arith}
 use lib.Dec.{eqb}
-use borrow.Author.Tests.{le-leb, lt-ltb}
+use borrow.Author.Tests.{le-leb, lt-leb, ne-eqb}
+use Rattle.rules.specs.Rules as rules
+use Rattle.rules.specs.Rules.{Rule, rule1, rule3}
+use Rattle.claims.specs.Table.{reportsIn}
 use Rattle.frame.specs.declared.Report.{Report}
-use Rattle.frame.specs.declared.Body.the-variants.{Plan}
 use Rattle.frame.specs.declared.Frame.{Frame}
 use Rattle.frame.specs.Format.{within}
 use Rattle.frame.specs.Refusal.{present}
-use Rattle.record.specs.declared.Record.{Record}
-use Rattle.record.specs.Slots.{frameSlot, slotOf}
-use Rattle.kept.specs.Kept.{bodyIn, frameIn, keptIn, asOption}
-use Rattle.kept.specs.declared.Kept.the-variants as kept
-use Rattle.protocol.specs.Record.{when, each, voteBy, changeOf, planNow}
-use Rattle.contents.specs.Contents.{contents, keptOf}
-use Rattle.acts.specs.Votes.{voted}
+use Rattle.record.specs.Slots as slots
+use Rattle.record.specs.Slots.{rows, frameSlot, reportSlot, slotOf}
+use Rattle.keeping.specs.Kept.{bodyIn, frameIn, keptIn}
+use Rattle.layout.specs.Layout.{partPlace, slotIn}
+use Rattle.protocol.specs.Record.{when, each, reported, reportBy, kindOf, changeOf, planNow, reportsOf}
+use Rattle.contents.specs.Contents.{contents}
+use Rattle.contents.proofs.Clean.{keptAt}
+use Rattle.contents.proofs.Acts.{voteAt}
+use Rattle.acts.specs.Parts.{sharedPart, blockPart, blockPlace}
 use Rattle.acts.specs.Changes.{asks, changeIn}
+use Rattle.acts.specs.Votes.{voted, voteIn}
+use Rattle.acts.specs.Reports.{toldIn, reportsBy, Filled}
+use Rattle.acts.proofs.Parts.{Reads}
+use Rattle.acts.proofs.Reports.{filledSame, filledAll}
 
--- A frame that has a slot's view and plan, as a vote of view v.
-votedIn : (s : Report) (x : Frame) (v : ℕ) → x .view ≡ s .view → x .body ≡ Plan (s .plan)
-    → each (each (when (present s) (some x)) (λ f. voteBy (f .view) (f .body))) (λ y. when (eqb (y .view) v) (some (y .plan))) ≡ voted v s
+-- The vote that a slot reports, where that is of view v.
+votedBy : (v : ℕ) (x : Report) → each (reported x) (λ y. when (eqb (y .view) v) (some (y .plan))) ≡ voted v x
 unfolding voted
-votedIn s x v view plan = go (present s)
+votedBy v x = go (present x)
   where
-    go : (b : Bool) → each (each (when b (some x)) (λ f. voteBy (f .view) (f .body))) (λ y. when (eqb (y .view) v) (some (y .plan))) ≡ when (b && eqb (s .view) v) (some (s .plan))
-    go true = rw (plan, view)
+    there : rules.Vote
+    there = record { view = x .view; plan = x .plan }
+
+    go : (b : Bool) → each (cond b (some there) none) (λ y. when (eqb (y .view) v) (some (y .plan)))
+        ≡ when (b && eqb (x .view) v) (some (x .plan))
+    go true = refl
     go false = refl
 
--- 'a plan in kinds 1 to 5'.
-planBody : (r : Record) (kind j : ℕ) → 1 ≤ kind → kind ≤ 5 → bodyIn (slotOf r) kind j ≡ Plan (slotOf r (frameSlot kind j) .plan)
-unfolding bodyIn within
-planBody r kind j low high = rw (le-leb 1 kind low, le-leb kind 5 high)
+-- A frame with a slot's view that tells x, as a report of view v.
+toldOf : (s : Report) (f : Frame) (v : ℕ) (x : rules.Report) → f .view ≡ s .view → reportBy (f .body) ≡ some x
+    → each (when (present s) (some f)) (λ g. when (eqb (g .view) v) (reportBy (g .body))) ≡ when (present s && eqb (s .view) v) (some x)
+toldOf s f v x view told = go (present s)
+  where
+    go : (b : Bool) → each (when b (some f)) (λ g. when (eqb (g .view) v) (reportBy (g .body))) ≡ when (b && eqb (s .view) v) (some x)
+    go true = rw (view, told)
+    go false = refl
 
-module _ (r : Record) where
+module _ (r : slots.Record) where
+  -- 'three reports' in kinds 7 and 8.
+  abbrev three : ℕ → ℕ → rules.Report
+  three kind j = record {
+    highest = reported (slotOf r (reportSlot kind 0 j));
+    previous = reported (slotOf r (reportSlot kind 1 j));
+    lock = reported (slotOf r (reportSlot kind 2 j));
+  }
+
+  toldBody : (kind j : ℕ) → 7 ≤ kind → reportBy (bodyIn (slotOf r) kind j) ≡ some (three kind j)
+  unfolding bodyIn within
+  toldBody kind j low = rw (lt-leb kind 5 (omega arith), le-leb 1 kind (omega arith), ne-eqb kind 6 (λ (e : kind ≡ 6). omega arith))
+
   -- A kind and a sender that a record has a slot for.
-  pub keptAt : (kind j : ℕ) → 1 ≤ kind → kind ≤ 8 → j < 64
-      → keptOf r kind j ≡ when (present (slotOf r (frameSlot kind j))) (some (frameIn (slotOf r) kind j))
-  unfolding keptOf keptIn within
-  keptAt kind j low high row = rw (le-leb 1 kind low, le-leb kind 8 high, lt-ltb j 64 row) (go (present (slotOf r (frameSlot kind j))))
+  frameAt : (kind j : ℕ) → 1 ≤ kind → kind ≤ 8 → j < rows
+      → contents r .kept kind j ≡ when (present (slotOf r (frameSlot kind j))) (some (frameIn (slotOf r) kind j))
+  unfolding keptIn
+  frameAt kind j low high row = keptAt r kind j low high row ∙ go (present (slotOf r (frameSlot kind j)))
     where
-      go : (b : Bool) → asOption (cond b (kept.Kept (frameIn (slotOf r) kind j)) kept.Nothing) ≡ when b (some (frameIn (slotOf r) kind j))
+      go : (b : Bool) → cond b (some (frameIn (slotOf r) kind j)) none ≡ when b (some (frameIn (slotOf r) kind j))
       go true = refl
       go false = refl
 
-  -- The plan of sender j's vote-k (0: proposal) of the current view.
-  pub planAt : (k j : ℕ) → k ≤ 4 → j < 64 → planNow (contents r) k j ≡ voted (r .view) (slotOf r (k * 64 + j))
-  unfolding contents frameIn
-  planAt k j low row =
-      ap (λ (o : Option Frame). each (each o (λ f. voteBy (f .view) (f .body))) (λ x. when (eqb (x .view) (r .view)) (some (x .plan))))
-      (keptAt (suc k) j (omega arith) (omega arith) row)
-      ∙ votedIn (slotOf r (frameSlot (suc k) j)) (frameIn (slotOf r) (suc k) j) (r .view) refl (planBody r (suc k) j (omega arith) (omega arith))
-      ∙ ap (λ (s : ℕ). voted (r .view) (slotOf r s)) place
+  planSlot : (k j : ℕ) → k ≤ 4 → j < rows → planNow (contents r) k j ≡ voted (r .view) (slotOf r (frameSlot (suc k) j))
+  unfolding contents
+  planSlot k j low row =
+      ap (λ (o : Option rules.Vote). each o (λ x. when (eqb (x .view) (r .view)) (some (x .plan)))) (voteAt r k j low row)
+      ∙ votedBy (r .view) (slotOf r (frameSlot (suc k) j))
+
+  changeSlot : (j : ℕ) → j < rows → changeOf (contents r) j ≡ asks (slotOf r (frameSlot 6 j))
+  unfolding contents frameIn asks
+  changeSlot j row =
+      ap (λ (o : Option Frame). each o (λ f. some (f .view))) (frameAt 6 j (omega arith) (omega arith) row) ∙ go (present (slotOf r (frameSlot 6 j)))
     where
-      place : frameSlot (suc k) j ≡ k * 64 + j
-      place = omega arith
+      go : (b : Bool) → each (when b (some (frameIn (slotOf r) 6 j))) (λ f. some (f .view)) ≡ when b (some (slotOf r (frameSlot 6 j) .view))
+      go true = refl
+      go false = refl
+
+  reportSlots : (kind j : ℕ) → 7 ≤ kind → kind ≤ 8 → j < rows
+      → each (contents r .kept kind j) (λ f. when (eqb (f .view) (r .view)) (reportBy (f .body)))
+      ≡ when (present (slotOf r (frameSlot kind j)) && eqb (slotOf r (frameSlot kind j) .view) (r .view)) (some (three kind j))
+  unfolding frameIn
+  reportSlots kind j low high row =
+      ap (λ (o : Option Frame). each o (λ f. when (eqb (f .view) (r .view)) (reportBy (f .body)))) (frameAt kind j (omega arith) high row)
+      ∙ toldOf (slotOf r (frameSlot kind j)) (frameIn (slotOf r) kind j) (r .view) (three kind j) refl (toldBody kind j low)
+
+-- ---- in the parts that are lent
+
+module _ (s : List ℕ) (r : slots.Record) (reads : Reads s r) where
+  -- The plan of sender j's vote-k (0: proposal) of the current view.
+  pub planAt : (k j : ℕ) → k ≤ 4 → j < rows → planNow (contents r) k j ≡ voteIn (blockPart s) (r .view) k j
+  planAt k j low row =
+      let next : suc k ≡ k + 1 = omega arith in
+      planSlot r k j low row
+      ∙ ap (voted (r .view)) (reads .block (frameSlot (suc k) j) (omega arith) (omega arith))
+      ∙ ap (λ (m : ℕ). voted (r .view) (slotIn (blockPart s) (blockPlace (frameSlot m j)))) next
 
   -- The view of sender j's view-change.
-  pub changeAt : (j : ℕ) → j < 64 → changeOf (contents r) j ≡ changeIn (r .marks) (r .views) j
-  unfolding contents frameIn asks
-  changeAt j row = ap (λ (o : Option Frame). each o (λ f. some (f .view))) (keptAt 6 j (omega arith) (omega arith) row) ∙ go (present (slotOf r (320 + j)))
+  pub changeAt : (j : ℕ) → j < rows → changeOf (contents r) j ≡ changeIn (sharedPart s) j
+  changeAt j row =
+      let first : frameSlot 6 j ≡ j = omega arith in
+      changeSlot r j row ∙ ap (λ (i : ℕ). asks (slotOf r i)) first ∙ ap asks (reads .shared j row)
+
+  reportAt : (kind j : ℕ) → 7 ≤ kind → kind ≤ 8 → j < rows
+      → reportsBy (blockPart s) kind (r .view) j ≡ each (contents r .kept kind j) (λ f. when (eqb (f .view) (r .view)) (reportBy (f .body)))
+  unfolding reportsBy
+  reportAt kind j low high row =
+      let head = reads .block (frameSlot kind j) (omega arith) (omega arith) in
+      let told : (w : ℕ) → w < 3 → slotOf r (reportSlot kind w j) ≡ slotIn (blockPart s) (blockPlace (reportSlot kind w j)) = λ w less.
+      reads .block (reportSlot kind w j) (omega arith) (omega arith) in
+      sym (reportSlots r kind j low high row ∙ (λ i. when (present (head i) && eqb (head i .view) (r .view)) (some (record {
+        highest = reported (told 0 (omega arith) i);
+        previous = reported (told 1 (omega arith) i);
+        lock = reported (told 2 (omega arith) i);
+      }))))
+
+  -- No frame is kept from n on.
+  noneFrom : (kind j : ℕ) → r .set .n ≤ j → each (contents r .kept kind j) (λ f. when (eqb (f .view) (r .view)) (reportBy (f .body))) ≡ none
+  unfolding contents
+  noneFrom kind j over = go (contents r .kept kind j) refl
     where
-      go : (b : Bool) → each (when b (some (frameIn (slotOf r) 6 j))) (λ f. some (f .view)) ≡ when b (some (slotOf r (320 + j) .view))
-      go true = refl
-      go false = refl
+      go : (o : Option Frame) → contents r .kept kind j ≡ o → each o (λ f. when (eqb (f .view) (r .view)) (reportBy (f .body))) ≡ none
+      go none e = refl
+      go (some x) e = absurd (omega (arith, below x e))
+        where
+          below : (x : Frame) → contents r .kept kind j ≡ some x → j < r .set .n
+          below x e = reads .sound .kept kind j x e .row
+
+  -- The table that is gathered has the reports kept.
+  pub tableIs : (rule : Rule) (t : List ℕ) → Filled (reportsBy (blockPart s) (kindOf rule) (r .view)) (r .set .n) t → reportsIn t ≡ reportsOf (contents r) rule
+  unfolding contents
+  tableIs rule t f =
+      filledAll (reportsOf (contents r) rule) (r .set .n) t (reads .allows .most)
+      (filledSame (reportsBy (blockPart s) (kindOf rule) (r .view)) (reportsOf (contents r) rule) (r .set .n) t
+      (λ j low. reportAt (kindOf rule) j (lowKind rule) (highKind rule) (omega (arith, reads .allows .most))) f)
+      (λ j over. noneFrom (kindOf rule) j over)
+    where
+      lowKind : (rule : Rule) → 7 ≤ kindOf rule
+      lowKind rule1 = omega arith
+      lowKind rule3 = omega arith
+
+      highKind : (rule : Rule) → kindOf rule ≤ 8
+      highKind rule1 = omega arith
+      highKind rule3 = omega arith

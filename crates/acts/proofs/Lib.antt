@@ -1,7 +1,9 @@
-pub mod Kept
 pub mod Changes
-pub mod Asked
-pub mod Reports
 pub mod Votes
+pub mod Reports
+pub mod Parts
+pub mod Kept
+pub mod Asked
 pub mod Agreed
 pub mod Proposals
+pub mod Numbers

@@ -1,114 +1,116 @@
 -- Steps C and D by slots (document 01, 'One pass'): who leads, what was sent and what is proposed stand in slots, and the plans
--- that are safe by the reports in the slots are those that are safe by the reports kept.
+-- that are safe by the reports in the table are those that are safe by the reports kept.
 -- Assumes nothing.
 use Prim.Native.Nat.{ℕ, _+_, _*_, _≤_, _<_}
 use mathlib.Core.Path.{_≡_, refl, sym, _∙_, ap}
 use mathlib.Core.Logic.{_≢_}
-use mathlib.Core.Bool.{Bool, true, false, not, _&&_, true≢false, false≢true}
+use mathlib.Core.Bool.{Bool, true, false, not, _&&_}
+use mathlib.Core.List.{List}
 use mathlib.Core.Option.{Option, none, some}
 use native.Mathlib.Omega.{arith}
 use lib.Dec.{eqb}
 use borrow.Author.Tests.{eq-eqb, ne-eqb}
-use Rattle.quorum.specs.Sets.{equals}
 use Rattle.rules.specs.Options.{isNone}
 use Rattle.rules.specs.Rules.{Reports, rule1, rule3}
 use Rattle.rules.specs.Counts.{safe, choice}
-use Rattle.frame.specs.declared.Report.{Report}
-use Rattle.frame.specs.Refusal.{present, leaderOf}
-use Rattle.record.specs.declared.Record.{Record}
-use Rattle.record.specs.Slots.{slotOf}
-use Rattle.protocol.specs.Record.{when, each, leader, leads, planNow, sentNow}
+use Rattle.claims.specs.Table.{reportsIn}
+use Rattle.frame.specs.Refusal.{leaderOf}
+use Rattle.settings.specs.Settings.{vaultsOf}
+use Rattle.record.specs.Slots as slots
+use Rattle.record.specs.Slots.{rows, frameSlot}
+use Rattle.layout.specs.Layout.{slotIn}
+use Rattle.protocol.specs.Record.{when, each, leader, leads, planNow, sentNow, reportsOf}
 use Rattle.protocol.specs.Pass.{cast, chosen, approves, actC, actD}
 use Rattle.protocol.proofs.Tables.{eachNone, whenFalse}
 use Rattle.contents.specs.Contents.{contents}
-use Rattle.acts.specs.Acts.{Marked, reportsBy}
-use Rattle.acts.specs.Votes.{voted}
-use Rattle.acts.proofs.Kept.{planAt}
+use Rattle.acts.specs.Parts.{blockPart, blockPlace}
+use Rattle.acts.specs.Votes.{voted, voteIn}
+use Rattle.acts.specs.Reports.{reportsBy, Filled}
+use Rattle.acts.proofs.Parts.{Reads}
+use Rattle.acts.proofs.Kept.{planAt, tableIs}
+use Rattle.acts.proofs.Votes.{votedPlan, toldNone}
 use Rattle.acts.proofs.Agreed.{sentSame}
-use Rattle.acts.proofs.Reports.{reportsSame}
 
--- ---- a slot with a vote of view v
+module _ (s : List ℕ) (r : slots.Record) (reads : Reads s r) where
+  -- The leader of the current view.
+  module _ (l : ℕ) (is : l ≡ leaderOf (r .view) (r .set .n)) where
+    leadsSame : leads (contents r) (contents r .view) ≡ eqb l (r .set .id)
+    unfolding contents
+    leadsSame = ap (λ (x : ℕ). eqb x (r .set .id)) (sym is)
 
-pub votedThere : (v : ℕ) (s : Report) → not (isNone (voted v s)) ≡ true → voted v s ≡ some (s .plan)
-unfolding voted
-votedThere v s h = go (present s && eqb (s .view) v) h
-  where
-    go : (b : Bool) → not (isNone (when b (some (s .plan)))) ≡ true → when b (some (s .plan)) ≡ some (s .plan)
-    go true e = refl
-    go false e = absurd (false≢true e)
+    -- ---- C
 
-pub votedNone : (v : ℕ) (s : Report) → not (isNone (voted v s)) ≡ false → voted v s ≡ none
-unfolding voted
-votedNone v s h = go (present s && eqb (s .view) v) h
-  where
-    go : (b : Bool) → not (isNone (when b (some (s .plan)))) ≡ false → when b (some (s .plan)) ≡ none
-    go true e = absurd (true≢false e)
-    go false e = refl
+    -- 'A leader'.
+    pub leadsNot : l ≢ r .set .id → none ≡ actC (contents r)
+    leadsNot off =
+        let not-led : leads (contents r) (contents r .view) ≡ false = leadsSame ∙ ne-eqb l (r .set .id) off in
+        rw not-led
 
-module _ (r : Record) (most : r .n ≤ 64) (own : r .id < r .n) (marked : Marked (r .marks)) where
-  leadsSame : leads (contents r) (contents r .view) ≡ eqb (leaderOf (r .view) (r .n)) (r .id)
-  unfolding contents
-  leadsSame = refl
+    -- 'that has not proposed in this view'.
+    module _ (own : l ≡ r .set .id) (told : Bool) (sent : told ≡ not (isNone (voteIn (blockPart s) (r .view) 0 (r .set .id)))) where
+      led : leads (contents r) (contents r .view) ≡ true
+      led = leadsSame ∙ eq-eqb l (r .set .id) own
 
-  -- ---- C
+      proposedIs : told ≡ sentNow (contents r) 0
+      proposedIs = sent ∙ sentSame s r reads 0 (omega arith)
 
-  -- 'A leader'.
-  pub leadsNot : (l : ℕ) → l ≡ leaderOf (r .view) (r .n) → l ≢ r .id → none ≡ actC (contents r)
-  leadsNot l is off =
-      let no′ : leads (contents r) (contents r .view) ≡ false = leadsSame ∙ ne-eqb (leaderOf (r .view) (r .n)) (r .id) (λ e. off (is ∙ e)) in
-      rw no′
+      pub proposed : told ≡ true → none ≡ actC (contents r)
+      proposed was = let on : sentNow (contents r) 0 ≡ true = sym proposedIs ∙ was in rw (led, on)
 
-  -- 'that has not proposed in this view'.
-  pub proposed : not (isNone (voted (r .view) (slotOf r (r .id)))) ≡ true → none ≡ actC (contents r)
-  proposed was =
-      let sent : sentNow (contents r) 0 ≡ true = sym (sentSame r most 0 (r .id) (omega arith) own (omega arith)) ∙ was in
-      go (leads (contents r) (contents r .view)) sent
-    where
-      go : (b : Bool) → sentNow (contents r) 0 ≡ true → none ≡ when (b && not (sentNow (contents r) 0)) (each (chosen (contents r)) (λ p. some (cast 0 p)))
-      go true e = rw e
-      go false e = refl
+      chosenIs : (t : List ℕ) (start : ℕ) → Filled (reportsBy (blockPart s) 7 (r .view)) (r .set .n) t → start ≡ r .plan
+          → choice (vaultsOf (r .set)) (reportsIn t) (r .view) start ≡ chosen (contents r)
+      unfolding contents
+      chosenIs t start filled plan = λ i. choice (vaultsOf (r .set)) (tableIs s r reads rule1 t filled i) (r .view) (plan i)
 
-  chosenSame : chosen (contents r) ≡ choice (equals (r .n) (r .f)) (reportsBy 7 (r .marks) (r .views) (r .plans) (r .view)) (r .view) (r .plan)
-  unfolding contents
-  chosenSame = ap (λ (rs : Reports). choice (equals (r .n) (r .f)) rs (r .view) (r .plan)) (reportsSame r marked rule1)
-
-  pub proposes : (l : ℕ) (o : Option ℕ) → l ≡ leaderOf (r .view) (r .n) → l ≡ r .id → not (isNone (voted (r .view) (slotOf r (r .id)))) ≡ false
-      → o ≡ choice (equals (r .n) (r .f)) (reportsBy 7 (r .marks) (r .views) (r .plans) (r .view)) (r .view) (r .plan)
-      → each o (λ p. some (cast 0 p)) ≡ actC (contents r)
-  proposes l o is self not-yet e =
-      let yes′ : true ≡ leads (contents r) (contents r .view) = sym (leadsSame ∙ eq-eqb (leaderOf (r .view) (r .n)) (r .id) (sym is ∙ self)) in
-      let unsent : false ≡ sentNow (contents r) 0 = sym not-yet ∙ sentSame r most 0 (r .id) (omega arith) own (omega arith) in
-      let found : o ≡ chosen (contents r) = e ∙ sym chosenSame in
-      λ i. when (yes′ i && not (unsent i)) (each (found i) (λ p. some (cast 0 p)))
+      -- 'proposes its starting plan if that is safe by Rule 1, else the smallest safe plan, else waits'.
+      pub proposes : told ≡ false → (t : List ℕ) (start : ℕ) → Filled (reportsBy (blockPart s) 7 (r .view)) (r .set .n) t → start ≡ r .plan
+          → (o : Option ℕ) → o ≡ choice (vaultsOf (r .set)) (reportsIn t) (r .view) start → each o (λ p. some (cast 0 p)) ≡ actC (contents r)
+      proposes unsent t start filled plan o e =
+          let off : sentNow (contents r) 0 ≡ false = sym proposedIs ∙ unsent in
+          let same : o ≡ chosen (contents r) = e ∙ chosenIs t start filled plan in
+          rw (led, off, same)
 
   -- ---- D
 
-  -- 'vote-1 was not sent in this view'.
-  pub votedOnce : (s : ℕ) → s ≡ 64 + r .id → not (isNone (voted (r .view) (slotOf r s))) ≡ true → none ≡ actD (contents r)
-  votedOnce s is was =
-      let sent : sentNow (contents r) 1 ≡ true = sym (sentSame r most 1 s (omega arith) own (omega arith)) ∙ was in
-      sym (eachNone (planNow (contents r) 0 (leader (contents r) (contents r .view))) (λ p. when (approves (contents r) p) (some (cast 1 p)))
-      (λ p e. whenFalse (approves (contents r) p) (some (cast 1 p)) (rw sent)))
+  -- 'If vote-1 was not sent in this view'.
+  module _ (told : Bool) (sent : told ≡ not (isNone (voteIn (blockPart s) (r .view) 1 (r .set .id)))) where
+    votedIs : told ≡ sentNow (contents r) 1
+    votedIs = sent ∙ sentSame s r reads 1 (omega arith)
 
-  module _ (l : ℕ) (is : l ≡ leaderOf (r .view) (r .n)) (low : l < r .n) where
-    proposalAt : planNow (contents r) 0 (leader (contents r) (contents r .view)) ≡ voted (r .view) (slotOf r l)
-    unfolding contents
-    proposalAt =
-        let place : 0 * 64 + l ≡ l = omega arith in
-        ap (λ (j : ℕ). planNow (contents r) 0 j) (sym is) ∙ planAt r 0 l (omega arith) (omega arith) ∙ ap (λ (s : ℕ). voted (r .view) (slotOf r s)) place
+    pub votedOnce : told ≡ true → none ≡ actD (contents r)
+    votedOnce was =
+        let on : sentNow (contents r) 1 ≡ true = sym votedIs ∙ was in
+        sym (eachNone (planNow (contents r) 0 (leader (contents r) (contents r .view))) (λ p. when (approves (contents r) p) (some (cast 1 p)))
+        (λ p e. whenFalse (approves (contents r) p) (some (cast 1 p)) (rw on)))
 
-    -- 'the leader's proposal for it is kept'.
-    pub unproposed : voted (r .view) (slotOf r l) ≡ none → none ≡ actD (contents r)
-    unproposed off = sym (ap (λ (o : Option ℕ). each o (λ p. when (approves (contents r) p) (some (cast 1 p)))) (proposalAt ∙ off))
+    -- 'and the leader's proposal for it is kept': the slot at a place of the block.
+    module _ (l at : ℕ) (is : l ≡ leaderOf (r .view) (r .set .n)) (low : l < r .set .n) (place : at ≡ blockPlace (frameSlot 1 l)) where
+      abbrev proposal : Option ℕ
+      proposal = voted (r .view) (slotIn (blockPart s) at)
 
-    safeSame : (p : ℕ) → approves (contents r) p ≡ (not (sentNow (contents r) 1) && safe rule3 (equals (r .n) (r .f)) (reportsBy 8 (r .marks) (r .views) (r .plans) (r .view)) (r .view) p)
-    unfolding contents
-    safeSame p = ap (λ (rs : Reports). not (sentNow (contents r) 1) && safe rule3 (equals (r .n) (r .f)) rs (r .view) p) (reportsSame r marked rule3)
+      proposalAt : planNow (contents r) 0 (leader (contents r) (contents r .view)) ≡ proposal
+      unfolding contents
+      proposalAt =
+          ap (λ (j : ℕ). planNow (contents r) 0 j) (sym is) ∙ planAt s r reads 0 l (omega arith) (omega (arith, reads .allows .most))
+          ∙ ap (λ (q : ℕ). voted (r .view) (slotIn (blockPart s) q)) (sym place)
 
-    -- 'and safe by Rule 3: vote-1'.
-    pub votesOne : (s p : ℕ) (b : Bool) → s ≡ 64 + r .id → not (isNone (voted (r .view) (slotOf r s))) ≡ false → voted (r .view) (slotOf r l) ≡ some p
-        → b ≡ safe rule3 (equals (r .n) (r .f)) (reportsBy 8 (r .marks) (r .views) (r .plans) (r .view)) (r .view) p → when b (some (cast 1 p)) ≡ actD (contents r)
-    votesOne s p b at not-yet on e =
-        let unsent : false ≡ sentNow (contents r) 1 = sym not-yet ∙ sentSame r most 1 s (omega arith) own (omega arith) in
-        let approve : b ≡ approves (contents r) p = (λ i. not (unsent i) && e i) ∙ sym (safeSame p) in
-        ap (λ (t : Bool). when t (some (cast 1 p))) approve ∙ ap (λ (o : Option ℕ). each o (λ p. when (approves (contents r) p) (some (cast 1 p)))) (sym (proposalAt ∙ on))
+      actOn : (o : Option ℕ) → proposal ≡ o → each o (λ p. when (approves (contents r) p) (some (cast 1 p))) ≡ actD (contents r)
+      actOn o e = ap (λ (x : Option ℕ). each x (λ p. when (approves (contents r) p) (some (cast 1 p)))) (sym (proposalAt ∙ e))
+
+      module _ (there : Bool) (kept : there ≡ not (isNone proposal)) where
+        pub unproposed : there ≡ false → none ≡ actD (contents r)
+        unproposed off = actOn none (toldNone proposal (sym kept ∙ off))
+
+        safeIs : (t : List ℕ) (p : ℕ) → Filled (reportsBy (blockPart s) 8 (r .view)) (r .set .n) t
+            → (not (sentNow (contents r) 1) && safe rule3 (vaultsOf (r .set)) (reportsIn t) (r .view) p) ≡ approves (contents r) p
+        unfolding contents
+        safeIs t p filled = λ i. not (sentNow (contents r) 1) && safe rule3 (vaultsOf (r .set)) (tableIs s r reads rule3 t filled i) (r .view) p
+
+        -- 'and safe by Rule 3: vote-1'.
+        pub votesOne : told ≡ false → there ≡ true → (t : List ℕ) (p : ℕ) (b : Bool) → Filled (reportsBy (blockPart s) 8 (r .view)) (r .set .n) t
+            → p ≡ slotIn (blockPart s) at .plan → b ≡ safe rule3 (vaultsOf (r .set)) (reportsIn t) (r .view) p → when b (some (cast 1 p)) ≡ actD (contents r)
+        votesOne unsent on t p b filled plan e =
+            let off : false ≡ sentNow (contents r) 1 = sym unsent ∙ votedIs in
+            let approve : b ≡ approves (contents r) p = (λ i. not (off i) && e i) ∙ safeIs t p filled in
+            let is-p : proposal ≡ some p = votedPlan (r .view) (slotIn (blockPart s) at) (sym kept ∙ on) ∙ ap some (sym plan) in
+            ap (λ (x : Bool). when x (some (cast 1 p))) approve ∙ actOn (some p) is-p

@@ -1,129 +1,255 @@
--- The reports that steps C and D search are those that protocol's record keeps (document 01: 'Reports are those in kept suggests
--- (Rule 1) or proofs (Rule 3) of view v'). The search reads a slot as present where its mark is not 0, the record where it is 1:
--- with marks below 2 both are the same. Senders from 64 on have neither a slot nor a kept frame.
+-- The table of reports, filled sender by sender (document 01: 'Reports are those in kept suggests (Rule 1) or proofs (Rule 3) of view
+-- v'). What one sender reports goes into its own row of seven columns, so that every other row stays as it was.
 -- Assumes nothing.
-use Prim.Native.Nat.{ℕ, _+_, _*_, _≤_, _<_}
+use Prim.Native.Nat.{ℕ, _+_, _-_, _*_, _≤_, _<_}
 use mathlib.Core.Path.{_≡_, refl, sym, _∙_, ap, fun-ext}
+use mathlib.Core.Logic.{_≢_}
 use mathlib.Core.Bool.{Bool, true, false, cond, not, _&&_}
 use mathlib.Core.List.{List}
 use mathlib.Core.Option.{Option, none, some}
 use native.Mathlib.Omega.{arith}
 use native.Mathlib.Decide.{ℕ-discrete, decLt}
-use lib.Dec.{eqb}
-use lib.ListN.{getD, take, drop, length-take, List·getD-eq-default}
-use lib.Seq.{getD-take, getD-drop}
-use borrow.Author.Tests.{ne-eqb, le-leb, lt-leb, le-ltb}
-use Rattle.rules.specs.Rules.{Vote, Report, Rule, rule1, rule3}
-use Rattle.claims.specs.Layout as search
+use lib.Dec.{ltb, eqb}
+use lib.ListN.{length, getD, set, replicate, length-set, length-replicate, getD-replicate}
+use lib.Seq.{getD-set-same, getD-set-other}
+use borrow.Author.Tests.{eq-eqb, ne-eqb, lt-ltb, le-ltb}
+use Rattle.rules.specs.Options.{isNone}
+use Rattle.rules.specs.Rules.{Vote, Report, Reports}
+use Rattle.claims.specs.Table.{column, tableSize, voteOf, voteIn, reporter, reportsIn}
 use Rattle.frame.specs.declared.Report as Slot
-use Rattle.frame.specs.declared.Frame.{Frame}
-use Rattle.frame.specs.Format.{within}
 use Rattle.frame.specs.Refusal.{present}
-use Rattle.record.specs.declared.Record.{Record}
-use Rattle.record.specs.Slots.{frameSlot, reportSlot, slotOf}
-use Rattle.kept.specs.Kept as kept
-use Rattle.protocol.specs.Record.{when, each, reported, reportBy, reportsOf, kindOf}
-use Rattle.contents.specs.Contents.{contents, keptOf}
-use Rattle.acts.specs.Acts.{Marked, reportsBy}
-use Rattle.acts.proofs.Kept.{keptAt}
+use Rattle.record.specs.Slots.{rows, frameSlot, reportSlot}
+use Rattle.layout.specs.Layout.{slotSize, slotIn}
+use Rattle.protocol.specs.Record.{when, reported}
+use Rattle.acts.specs.Parts.{blockPlace}
+use Rattle.acts.specs.Votes.{voted}
+use Rattle.acts.specs.Reports.{toldIn, reportsBy, aboveOf, withVote, withReport, Filled}
 
--- ---- marks, and parts of an array
+-- ---- one vote
 
-markSame : (mark : ℕ) → mark < 2 → not (eqb mark 0) ≡ eqb mark 1
-markSame mark low = go (ℕ-discrete mark 0)
+abbrev vote : ℕ → ℕ → Option Vote
+vote w p = some (record { view = w; plan = p })
+
+-- What is put is read as the vote that the slot reports.
+voteBack : (x : Slot.Report) → voteOf (aboveOf x) (x .plan) ≡ reported x
+unfolding voteOf aboveOf
+voteBack x = go (eqb (x .mark) 1)
   where
-    go : Dec (mark ≡ 0) → not (eqb mark 0) ≡ eqb mark 1
-    go (yes z) = rw z
-    go (no z) = let one : mark ≡ 1 = omega arith in rw one
-
-voteSame : (slot : Slot.Report) → slot .mark < 2 → search.voteOf (slot .mark) (slot .view) (slot .plan) ≡ reported slot
-unfolding search.voteOf
-voteSame slot low = go (eqb (slot .mark) 0) (eqb (slot .mark) 1) (markSame (slot .mark) low)
-  where
-    go : (z o : Bool) → not z ≡ o → cond {A = Option Vote} z none (some (record { view = slot .view; plan = slot .plan })) ≡ cond o (some (record { view = slot .view; plan = slot .plan })) none
-    go true o e = rw (← e)
-    go false o e = rw (← e)
-
-partAt : (base size : ℕ) (l : List ℕ) (i : ℕ) → i < size → getD (take size (drop base l)) i 0 ≡ getD l (base + i) 0
-partAt base size l i low = getD-take size (drop base l) i 0 low ∙ getD-drop base l i 0
-
-partOver : (base size : ℕ) (l : List ℕ) (i : ℕ) → size ≤ i → getD (take size (drop base l)) i 0 ≡ 0
-partOver base size l i over = List·getD-eq-default (take size (drop base l)) 0 {n = i} (rw length-take (omega arith))
-
--- A frame with a slot's view that tells x, as a report of view v.
-toldIn : (s : Slot.Report) (f : Frame) (v : ℕ) (x : Report) → f .view ≡ s .view → reportBy (f .body) ≡ some x
-    → each (when (present s) (some f)) (λ g. when (eqb (g .view) v) (reportBy (g .body))) ≡ cond (present s && eqb (s .view) v) (some x) none
-toldIn s f v x view told = go (present s)
-  where
-    here : (b : Bool) → when b (reportBy (f .body)) ≡ cond b (some x) none
-    here true = told
-    here false = refl
-
-    go : (b : Bool) → each (when b (some f)) (λ g. when (eqb (g .view) v) (reportBy (g .body))) ≡ cond (b && eqb (s .view) v) (some x) none
-    go true = ap (λ (w : ℕ). when (eqb w v) (reportBy (f .body))) view ∙ here (eqb (s .view) v)
+    go : (b : Bool) → cond (eqb (cond b (x .view + 1) 0) 0) none (vote (cond b (x .view + 1) 0 - 1) (x .plan)) ≡ cond b (vote (x .view) (x .plan)) none
+    go true =
+        let same : x .view + 1 - 1 ≡ x .view = omega arith in
+        rw (ne-eqb (x .view + 1) 0 (λ (e : x .view + 1 ≡ 0). omega arith)) (ap (λ (w : ℕ). vote w (x .plan)) same)
     go false = refl
 
--- ---- the kept suggests and proofs
+module _ (t : List ℕ) (at : ℕ) (x : Slot.Report) where
+  -- What is in no column of the vote stays.
+  voteOther : (q : ℕ) → ((d : ℕ) → q ≢ at + column * d) → getD (withVote t at x) q 0 ≡ getD t q 0
+  voteOther q off =
+      getD-set-other (set t at (aboveOf x)) (at + column) q (x .plan) 0 (λ (e : q ≡ at + column). off 1 (omega arith))
+      ∙ getD-set-other t at q (aboveOf x) 0 (λ (e : q ≡ at). off 0 (omega arith))
 
-module _ (r : Record) (marked : Marked (r .marks)) (kind : ℕ) (low : 7 ≤ kind) (high : kind ≤ 8) where
-  -- Report j of three, as the search reads it and as the record has it.
-  slotSame : (which i j : ℕ) → which ≤ 2 → j < 64 → i ≡ which * 64 + j
-      → search.voteAt (take 192 (drop (reportSlot kind 0 0) (r .marks))) (take 192 (drop (reportSlot kind 0 0) (r .views))) (take 192 (drop (reportSlot kind 0 0) (r .plans))) i
-      ≡ reported (slotOf r (reportSlot kind which j))
-  slotSame which i j three row at =
-      let place : reportSlot kind 0 0 + i ≡ reportSlot kind which j = omega arith in
-      let under : i < 192 = omega arith in
-      (λ k. search.voteOf (partAt (reportSlot kind 0 0) 192 (r .marks) i under k) (partAt (reportSlot kind 0 0) 192 (r .views) i under k) (partAt (reportSlot kind 0 0) 192 (r .plans) i under k))
-      ∙ voteSame (slotOf r (reportSlot kind 0 0 + i)) (marked (reportSlot kind 0 0 + i))
-      ∙ ap (λ (p : ℕ). reported (slotOf r p)) place
+  pub voteLength : length (withVote t at x) ≡ length t
+  voteLength = length-set (set t at (aboveOf x)) (at + column) (x .plan) ∙ length-set t at (aboveOf x)
 
-  -- The three votes that sender j reports.
-  abbrev told : ℕ → Report
-  told j = record {
-    highest = reported (slotOf r (reportSlot kind 0 j));
-    previous = reported (slotOf r (reportSlot kind 1 j));
-    lock = reported (slotOf r (reportSlot kind 2 j));
+  module _ (room : at + column < length t) where
+    voteAbove : getD (withVote t at x) at 0 ≡ aboveOf x
+    voteAbove =
+        getD-set-other (set t at (aboveOf x)) (at + column) at (x .plan) 0 (λ (e : at ≡ at + column). omega arith)
+        ∙ getD-set-same t at (aboveOf x) 0 (omega arith)
+
+    votePlan : getD (withVote t at x) (at + column) 0 ≡ x .plan
+    votePlan = getD-set-same (set t at (aboveOf x)) (at + column) (x .plan) 0 (rw length-set room)
+
+-- ---- one sender
+
+-- Four stores, one after the other.
+pub putAll : (t t₁ t₂ t₃ : List ℕ) (i : ℕ) (h p l h′ p′ l′ : Slot.Report)
+    → t₁ ≡ withVote (set t i 1) (column + i) h → t₂ ≡ withVote t₁ (3 * column + i) p → t₃ ≡ withVote t₂ (5 * column + i) l
+    → h ≡ h′ → p ≡ p′ → l ≡ l′ → t₃ ≡ withReport t i h′ p′ l′
+putAll t t₁ t₂ t₃ i h p l h′ p′ l′ e₁ e₂ e₃ eh ep el = e₃ ∙ (λ k. withVote (f₂ k) (5 * column + i) (el k))
+  where
+    f₁ : t₁ ≡ withVote (set t i 1) (column + i) h′
+    f₁ = e₁ ∙ ap (withVote (set t i 1) (column + i)) eh
+
+    f₂ : t₂ ≡ withVote (withVote (set t i 1) (column + i) h′) (3 * column + i) p′
+    f₂ = e₂ ∙ (λ k. withVote (f₁ k) (3 * column + i) (ep k))
+
+module _ (t : List ℕ) (i : ℕ) (h p l : Slot.Report) (row : i < column) (size : length t ≡ tableSize) where
+  abbrev with₀ : List ℕ
+  with₀ = set t i 1
+
+  abbrev with₁ : List ℕ
+  with₁ = withVote with₀ (column + i) h
+
+  abbrev with₂ : List ℕ
+  with₂ = withVote with₁ (3 * column + i) p
+
+  abbrev with₃ : List ℕ
+  with₃ = withVote with₂ (5 * column + i) l
+
+  size₀ : length with₀ ≡ tableSize
+  size₀ = length-set t i 1 ∙ size
+
+  size₁ : length with₁ ≡ tableSize
+  size₁ = voteLength with₀ (column + i) h ∙ size₀
+
+  size₂ : length with₂ ≡ tableSize
+  size₂ = voteLength with₁ (3 * column + i) p ∙ size₁
+
+  pub reportLength : length (withReport t i h p l) ≡ tableSize
+  reportLength = voteLength with₂ (5 * column + i) l ∙ size₂
+
+  -- The row of another sender stays.
+  rowOther : (c j : ℕ) → j < column → j ≢ i → getD with₃ (column * c + j) 0 ≡ getD t (column * c + j) 0
+  rowOther c j low off =
+      voteOther with₂ (5 * column + i) l (column * c + j) (λ d (e : column * c + j ≡ 5 * column + i + column * d). off (omega arith))
+      ∙ voteOther with₁ (3 * column + i) p (column * c + j) (λ d (e : column * c + j ≡ 3 * column + i + column * d). off (omega arith))
+      ∙ voteOther with₀ (column + i) h (column * c + j) (λ d (e : column * c + j ≡ column + i + column * d). off (omega arith))
+      ∙ getD-set-other t i (column * c + j) 1 0 (λ (e : column * c + j ≡ i). off (omega arith))
+
+  -- Column c and the next of the own row, where they are those of a vote that was put.
+  module _ (s : List ℕ) (c : ℕ) (x : Slot.Report) (room : column * c + i + column < length s) where
+    ownVote : (u : List ℕ) → getD u (column * c + i) 0 ≡ getD (withVote s (column * c + i) x) (column * c + i) 0
+        → getD u (column * c + i + column) 0 ≡ getD (withVote s (column * c + i) x) (column * c + i + column) 0 → voteIn u c i ≡ reported x
+    ownVote u above plan =
+        let next : column * (c + 1) + i ≡ column * c + i + column = omega arith in
+        let a : getD u (column * c + i) 0 ≡ aboveOf x = above ∙ voteAbove s (column * c + i) x room in
+        let b : getD u (column * (c + 1) + i) 0 ≡ x .plan = ap (λ (q : ℕ). getD u q 0) next ∙ plan ∙ votePlan s (column * c + i) x room in
+        (λ k. voteOf (a k) (b k)) ∙ voteBack x
+
+  ownLock : voteIn with₃ 5 i ≡ reported l
+  ownLock = ownVote with₂ 5 l (omega (arith, size₂)) with₃ refl refl
+
+  -- A place before the lock's columns, and one before the previous vote's.
+  early : (q : ℕ) → q < 5 * column + i → getD with₃ q 0 ≡ getD with₂ q 0
+  early q less = voteOther with₂ (5 * column + i) l q (λ d (e : q ≡ 5 * column + i + column * d). omega arith)
+
+  earlier : (q : ℕ) → q < 3 * column + i → getD with₃ q 0 ≡ getD with₁ q 0
+  earlier q less = early q (omega arith) ∙ voteOther with₁ (3 * column + i) p q (λ d (e : q ≡ 3 * column + i + column * d). omega arith)
+
+  ownPrevious : voteIn with₃ 3 i ≡ reported p
+  ownPrevious = ownVote with₁ 3 p (omega (arith, size₁)) with₃ (early (column * 3 + i) (omega arith)) (early (column * 3 + i + column) (omega arith))
+
+  ownHighest : voteIn with₃ 1 i ≡ reported h
+  ownHighest = ownVote with₀ 1 h (omega (arith, size₀)) with₃ (earlier (column * 1 + i) (omega arith)) (earlier (column * 1 + i + column) (omega arith))
+
+  ownMark : getD with₃ i 0 ≡ 1
+  ownMark =
+      earlier i (omega arith)
+      ∙ voteOther with₀ (column + i) h i (λ d (e : i ≡ column + i + column * d). omega arith)
+      ∙ getD-set-same t i 1 0 (omega arith)
+
+  -- The three votes that a sender reports.
+  abbrev pub told : Report
+  told = record { highest = reported h; previous = reported p; lock = reported l }
+
+  pub reportOwn : reportsIn (withReport t i h p l) i ≡ some told
+  unfolding reportsIn reporter
+  reportOwn =
+      let here : (ltb i column && not (eqb (getD with₃ i 0) 0)) ≡ true = rw (lt-ltb i column row, ownMark) in
+      rw here (λ k. some (record { highest = ownHighest k; previous = ownPrevious k; lock = ownLock k }))
+
+  pub markOther : (j : ℕ) → j < column → j ≢ i → getD (withReport t i h p l) j 0 ≡ getD t j 0
+  markOther j low off = let first : column * 0 + j ≡ j = omega arith in rw first at (rowOther 0 j low off)
+
+  pub reportOther : (j : ℕ) → j < column → j ≢ i → reportsIn (withReport t i h p l) j ≡ reportsIn t j
+  unfolding reportsIn reporter
+  reportOther j low off =
+      let mark = markOther j low off in
+      let col : (c : ℕ) → voteIn with₃ c j ≡ voteIn t c j = λ c. (λ k. voteOf (rowOther c j low off k) (rowOther (c + 1) j low off k)) in
+      λ k. cond (ltb j column && not (eqb (mark k) 0)) (some (record { highest = col 1 k; previous = col 3 k; lock = col 5 k })) none
+
+-- ---- sender by sender
+
+unreported : (t : List ℕ) (j : ℕ) → getD t j 0 ≡ 0 → reportsIn t j ≡ none
+unfolding reportsIn reporter
+unreported t j off = rw off (go (ltb j column))
+  where
+    row : Report
+    row = record { highest = voteIn t 1 j; previous = voteIn t 3 j; lock = voteIn t 5 j }
+
+    go : (b : Bool) → cond (b && false) (some row) none ≡ none
+    go true = refl
+    go false = refl
+
+-- A sender without a row.
+rowless : (t : List ℕ) (j : ℕ) → column ≤ j → reportsIn t j ≡ none
+unfolding reportsIn reporter
+rowless t j over = rw (le-ltb j column over)
+
+module _ (reports : Reports) where
+  pub filledNone : Filled reports 0 (replicate {A = ℕ} tableSize 0)
+  filledNone = record {
+    size = length-replicate {A = ℕ} tableSize 0;
+    done = λ j low. absurd (omega arith);
+    rest = λ j least low. getD-replicate {A = ℕ} tableSize j 0 0 (omega arith);
   }
 
-  toldBody : (j : ℕ) → reportBy (kept.bodyIn (slotOf r) kind j) ≡ some (told j)
-  unfolding kept.bodyIn within
-  toldBody j = rw (lt-leb kind 5 (omega arith), le-leb 1 kind (omega arith), ne-eqb kind 6 (λ (e : kind ≡ 6). omega arith))
+  module _ (k : ℕ) (t : List ℕ) (was : Filled reports k t) (row : k < column) where
+    pub filledSkip : reports k ≡ none → Filled reports (k + 1) t
+    filledSkip off = record {
+      size = was .size;
+      done = λ j low. by j low (ℕ-discrete j k);
+      rest = λ j least low. was .rest j (omega arith) low;
+    }
+      where
+        by : (j : ℕ) → j < k + 1 → Dec (j ≡ k) → reportsIn t j ≡ reports j
+        by j low (yes e) = ap (reportsIn t) e ∙ unreported t k (was .rest k (omega arith) row) ∙ sym off ∙ ap reports (sym e)
+        by j low (no e) = was .done j (omega arith)
 
-  reporterSame : (j : ℕ) → j < 64
-      → search.reporter (take 64 (drop (frameSlot kind 0) (r .marks))) (take 64 (drop (frameSlot kind 0) (r .views))) (r .view) j
-      ≡ (present (slotOf r (frameSlot kind j)) && eqb (slotOf r (frameSlot kind j) .view) (r .view))
-  unfolding search.reporter
-  reporterSame j row =
-      let place : frameSlot kind 0 + j ≡ frameSlot kind j = omega arith in
-      (λ k. not (eqb (partAt (frameSlot kind 0) 64 (r .marks) j row k) 0) && eqb (partAt (frameSlot kind 0) 64 (r .views) j row k) (r .view))
-      ∙ ap (λ (p : ℕ). not (eqb (getD (r .marks) p 0) 0) && eqb (getD (r .views) p 0) (r .view)) place
-      ∙ ap (λ (b : Bool). b && eqb (getD (r .views) (frameSlot kind j) 0) (r .view)) (markSame (getD (r .marks) (frameSlot kind j) 0) (marked (frameSlot kind j)))
+    pub filledMore : (h p l : Slot.Report) → reports k ≡ some (told t k h p l row (was .size)) → Filled reports (k + 1) (withReport t k h p l)
+    filledMore h p l on = record {
+      size = reportLength t k h p l row (was .size);
+      done = λ j low. by j low (ℕ-discrete j k);
+      rest = λ j least low. markOther t k h p l row (was .size) j low (λ (e : j ≡ k). omega arith) ∙ was .rest j (omega arith) low;
+    }
+      where
+        by : (j : ℕ) → j < k + 1 → Dec (j ≡ k) → reportsIn (withReport t k h p l) j ≡ reports j
+        by j low (yes e) = ap (reportsIn (withReport t k h p l)) e ∙ reportOwn t k h p l row (was .size) ∙ sym on ∙ ap reports (sym e)
+        by j low (no e) = reportOther t k h p l row (was .size) j (omega arith) e ∙ was .done j (omega arith)
 
-  -- No frame is kept for a sender without a row, and the search finds none.
-  rowless : (j : ℕ) → 64 ≤ j → keptOf r kind j ≡ none
-  unfolding keptOf within
-  rowless j over = rw (le-leb 1 kind (omega arith), le-leb kind 8 high, le-ltb j 64 over)
+-- The same for reports that are the same below k.
+pub filledSame : (a b : Reports) (k : ℕ) (t : List ℕ) → ((j : ℕ) → j < k → a j ≡ b j) → Filled a k t → Filled b k t
+filledSame a b k t same f = record { size = f .size; done = λ j low. f .done j low ∙ same j low; rest = f .rest }
 
-  nobody : (j : ℕ) → 64 ≤ j → search.reporter (take 64 (drop (frameSlot kind 0) (r .marks))) (take 64 (drop (frameSlot kind 0) (r .views))) (r .view) j ≡ false
-  unfolding search.reporter
-  nobody j over = rw (partOver (frameSlot kind 0) 64 (r .marks) j over)
+-- The table is that of all reports, where no sender from k on reports.
+pub filledAll : (reports : Reports) (k : ℕ) (t : List ℕ) → k ≤ column → Filled reports k t → ((j : ℕ) → k ≤ j → reports j ≡ none) → reportsIn t ≡ reports
+filledAll reports k t most f none-else = fun-ext (λ j. by j (decLt j k) (decLt j column))
+  where
+    by : (j : ℕ) → Dec (j < k) → Dec (j < column) → reportsIn t j ≡ reports j
+    by j (yes low) d = f .done j low
+    by j (no high) (yes row) = unreported t j (f .rest j (omega arith) row) ∙ sym (none-else j (omega arith))
+    by j (no high) (no over) = rowless t j (omega arith) ∙ sym (none-else j (omega arith))
 
-  reportAtSame : (j : ℕ) → Dec (j < 64)
-      → each (keptOf r kind j) (λ f. when (eqb (f .view) (r .view)) (reportBy (f .body))) ≡ reportsBy kind (r .marks) (r .views) (r .plans) (r .view) j
-  unfolding search.reportsIn kept.frameIn
-  reportAtSame j (yes row) =
-      ap (λ (o : Option Frame). each o (λ f. when (eqb (f .view) (r .view)) (reportBy (f .body)))) (keptAt r kind j (omega arith) high row)
-      ∙ toldIn (slotOf r (frameSlot kind j)) (kept.frameIn (slotOf r) kind j) (r .view) (told j) refl (toldBody j)
-      ∙ sym (λ k. cond (reporterSame j row k) (some (record {
-        highest = slotSame 0 j j (omega arith) row (omega arith) k;
-        previous = slotSame 1 (64 + j) j (omega arith) row (omega arith) k;
-        lock = slotSame 2 (128 + j) j (omega arith) row (omega arith) k;
-      })) none)
-  reportAtSame j (no over) =
-      ap (λ (o : Option Frame). each o (λ f. when (eqb (f .view) (r .view)) (reportBy (f .body)))) (rowless j (omega arith))
-      ∙ sym (ap (λ (b : Bool). cond b (some (search.reportAt (take 192 (drop (reportSlot kind 0 0) (r .marks))) (take 192 (drop (reportSlot kind 0 0) (r .views))) (take 192 (drop (reportSlot kind 0 0) (r .plans))) j)) none) (nobody j (omega arith)))
+-- ---- a sender's slots in the block
 
-pub reportsSame : (r : Record) → Marked (r .marks) → (rule : Rule) → reportsOf (contents r) rule ≡ reportsBy (kindOf rule) (r .marks) (r .views) (r .plans) (r .view)
-unfolding contents
-reportsSame r marked rule1 = fun-ext (λ j. reportAtSame r marked 7 (omega arith) (omega arith) j (decLt j 64))
-reportsSame r marked rule3 = fun-ext (λ j. reportAtSame r marked 8 (omega arith) (omega arith) j (decLt j 64))
+module _ (block : List ℕ) (kind v i at from : ℕ) (told : Bool)
+    (frame : at ≡ blockPlace (frameSlot kind i)) (first : from ≡ blockPlace (reportSlot kind 0 i)) (is : told ≡ not (isNone (voted v (slotIn block at)))) where
+  testIs : (present (slotIn block (blockPlace (frameSlot kind i))) && eqb (slotIn block (blockPlace (frameSlot kind i)) .view) v) ≡ told
+  unfolding voted
+  testIs =
+      ap (λ (q : ℕ). present (slotIn block q) && eqb (slotIn block q .view) v) (sym frame)
+      ∙ go (present (slotIn block at) && eqb (slotIn block at .view) v) ∙ sym is
+    where
+      go : (b : Bool) → b ≡ not (isNone (when b (some (slotIn block at .plan))))
+      go true = refl
+      go false = refl
+
+  pub untold : told ≡ false → reportsBy block kind v i ≡ none
+  unfolding reportsBy
+  untold off = rw (testIs, off)
+
+  pub toldThere : told ≡ true → reportsBy block kind v i ≡ some (record {
+    highest = reported (slotIn block from);
+    previous = reported (slotIn block (from + slotSize * rows));
+    lock = reported (slotIn block (from + slotSize * (2 * rows)));
+  })
+  unfolding reportsBy
+  toldThere on =
+      let second : blockPlace (reportSlot kind 1 i) ≡ from + slotSize * rows = omega arith in
+      let third : blockPlace (reportSlot kind 2 i) ≡ from + slotSize * (2 * rows) = omega arith in
+      rw (testIs, on) (λ k. some (record {
+        highest = reported (slotIn block (sym first k));
+        previous = reported (slotIn block (second k));
+        lock = reported (slotIn block (third k));
+      }))

@@ -2,21 +2,65 @@
 -- at least 1 with 3f below n'). Each vote for the plan that leads adds to its lead, each other vote takes from it; so twice the
 -- votes for the plan are at most all and its lead, and twice the votes for another plan, with the lead, are at most all.
 -- Assumes nothing.
-use Prim.Native.Nat.{ℕ, zero, suc, _+_, _*_, _-_, _≤_}
+use Prim.Native.Nat.{ℕ, zero, suc, _+_, _*_, _-_, _≤_, _<_}
 use mathlib.Core.Path.{_≡_, refl, sym, _∙_, ap}
 use mathlib.Core.Logic.{_≢_}
-use mathlib.Core.Bool.{Bool, true, false, cond, not}
+use mathlib.Core.Bool.{Bool, true, false, cond, not, _&&_, true≢false, false≢true}
 use mathlib.Core.Option.{Option, none, some}
 use native.Mathlib.Omega.{arith}
 use native.Mathlib.Decide.{ℕ-discrete}
 use native.Mathlib.Numerals.{add-one}
-use lib.Dec.{eqb}
-use borrow.Author.Tests.{eq-eqb, ne-eqb}
-use Rattle.quorum.specs.Sets.{weigh}
+use lib.Dec.{leb, eqb}
+use borrow.Author.Tests.{eq-eqb, ne-eqb, le-leb, lt-leb}
+use Rattle.quorum.specs.Sets.{equals, weigh}
+use Rattle.quorum.proofs.Bools.{notTrue}
+use Rattle.quorum.proofs.Laws.{quorumWeighs, totalEquals, quorumCount}
 use Rattle.rules.specs.Options.{isNone, holds}
+use Rattle.frame.specs.declared.Report.{Report}
+use Rattle.frame.specs.Refusal.{present}
 use Rattle.protocol.specs.Record.{when}
 use Rattle.acts.specs.declared.Lead.{Lead}
-use Rattle.acts.specs.Votes.{meet, after, leading}
+use Rattle.acts.specs.Votes.{voted, meet, after, leading, quorumFor, agreedIn}
+
+-- ---- a slot
+
+module _ (v : ℕ) (slot : Report) where
+  pub votedNone : slot .mark ≢ 1 → voted v slot ≡ none
+  unfolding voted
+  votedNone off = rw (ne-eqb (slot .mark) 1 off)
+
+  module _ (here : slot .mark ≡ 1) where
+    pub votedThere : eqb (slot .view) v ≡ not (isNone (voted v slot))
+    unfolding voted
+    votedThere = rw (eq-eqb (slot .mark) 1 here) (go (eqb (slot .view) v))
+      where
+        go : (b : Bool) → b ≡ not (isNone (when b (some (slot .plan))))
+        go true = refl
+        go false = refl
+
+    pub votedOther : slot .view ≢ v → voted v slot ≡ none
+    unfolding voted
+    votedOther off = rw (eq-eqb (slot .mark) 1 here, ne-eqb (slot .view) v off)
+
+    pub votedSome : slot .view ≡ v → voted v slot ≡ some (slot .plan)
+    unfolding voted
+    votedSome same = rw (eq-eqb (slot .mark) 1 here, eq-eqb (slot .view) v same)
+
+  -- Where it is told that there is a vote of the view, its plan is the slot's.
+  pub votedPlan : not (isNone (voted v slot)) ≡ true → voted v slot ≡ some (slot .plan)
+  unfolding voted
+  votedPlan h = go (present slot && eqb (slot .view) v) h
+    where
+      go : (b : Bool) → not (isNone (when b (some (slot .plan)))) ≡ true → when b (some (slot .plan)) ≡ some (slot .plan)
+      go true e = refl
+      go false e = absurd (false≢true e)
+
+-- An option that is told to be none.
+pub toldNone : (o : Option ℕ) → not (isNone o) ≡ false → o ≡ none
+toldNone none h = refl
+toldNone (some x) h = absurd (true≢false h)
+
+-- ---- the lead
 
 -- How many of the first k votes are for p.
 abbrev pub tally : (ℕ → Option ℕ) → ℕ → ℕ → ℕ
@@ -24,8 +68,9 @@ tally vote p k = weigh (λ i. 1) (λ j. holds (eqb p) (vote j)) k
 
 -- What is known of the plan that leads, and of every other plan, after k votes.
 pub record Ahead (vote : ℕ → Option ℕ) (k : ℕ) (b : Lead) : Type 0 where
-  pub own : 2 * tally vote (b .plan) k ≤ k + b .by
-  pub other : (q : ℕ) → q ≢ b .plan → 2 * tally vote q k + b .by ≤ k
+  pub own : 2 * tally vote (b .plan) k ≤ b .votes + b .margin
+  pub other : (q : ℕ) → q ≢ b .plan → 2 * tally vote q k + b .margin ≤ b .votes
+  pub most : b .votes ≤ k
 
 module _ (vote : ℕ → Option ℕ) (k : ℕ) where
   tallyMore : (q : ℕ) → tally vote q (suc k) ≡ tally vote q k + cond (holds (eqb q) (vote k)) 1 0
@@ -37,8 +82,9 @@ module _ (vote : ℕ → Option ℕ) (k : ℕ) where
   aheadMore b none is a = record {
     own = let m : tally vote (b .plan) (suc k) ≡ tally vote (b .plan) k + 0 = tallyMore (b .plan) ∙ rw is in omega (arith, a .own);
     other = λ q off. let m : tally vote q (suc k) ≡ tally vote q k + 0 = tallyMore q ∙ rw is in omega (arith, a .other q off);
+    most = omega (arith, a .most);
   }
-  aheadMore b (some x) is a = go (ℕ-discrete x (b .plan)) (ℕ-discrete (b .by) 0)
+  aheadMore b (some x) is a = go (ℕ-discrete x (b .plan)) (ℕ-discrete (b .margin) 0)
     where
       same : (q : ℕ) → q ≡ x → tally vote q (suc k) ≡ tally vote q k + 1
       same q e = tallyMore q ∙ rw (is, eq-eqb q x e)
@@ -50,33 +96,39 @@ module _ (vote : ℕ → Option ℕ) (k : ℕ) where
       most q (yes e) = omega (arith, same q e)
       most q (no e) = omega (arith, differ q e)
 
-      go : Dec (x ≡ b .plan) → Dec (b .by ≡ 0) → Ahead vote (suc k) (cond (eqb x (b .plan)) (record { plan = x; by = b .by + 1 }) (cond (eqb (b .by) 0) (record { plan = x; by = 1 }) (record { plan = b .plan; by = b .by - 1 })))
+      go : Dec (x ≡ b .plan) → Dec (b .margin ≡ 0)
+          → Ahead vote (suc k) (cond (eqb x (b .plan)) (record { plan = x; margin = b .margin + 1; votes = b .votes + 1 })
+          (cond (eqb (b .margin) 0) (record { plan = x; margin = 1; votes = b .votes + 1 })
+          (record { plan = b .plan; margin = b .margin - 1; votes = b .votes + 1 })))
       go (yes e) d = rw (eq-eqb x (b .plan) e) (record {
-        own = let m : 2 * tally vote x k ≤ k + b .by = rw e (a .own) in omega (arith, same x refl);
+        own = let m : 2 * tally vote x k ≤ b .votes + b .margin = rw e (a .own) in omega (arith, same x refl);
         other = λ q off. omega (arith, differ q off, a .other q (λ f. off (f ∙ sym e)));
+        most = omega (arith, a .most);
       })
-      go (no e) (yes z) = rw (ne-eqb x (b .plan) e, eq-eqb (b .by) 0 z) (record {
+      go (no e) (yes z) = rw (ne-eqb x (b .plan) e, eq-eqb (b .margin) 0 z) (record {
         own = omega (arith, same x refl, a .other x e);
         other = λ q off. old q off (ℕ-discrete q (b .plan));
+        most = omega (arith, a .most);
       })
         where
-          old : (q : ℕ) → q ≢ x → Dec (q ≡ b .plan) → 2 * tally vote q (suc k) + 1 ≤ suc k
-          old q off (yes f) = let m : 2 * tally vote q k ≤ k + b .by = rw f (a .own) in omega (arith, differ q off)
+          old : (q : ℕ) → q ≢ x → Dec (q ≡ b .plan) → 2 * tally vote q (suc k) + 1 ≤ b .votes + 1
+          old q off (yes f) = let m : 2 * tally vote q k ≤ b .votes + b .margin = rw f (a .own) in omega (arith, differ q off)
           old q off (no f) = omega (arith, differ q off, a .other q f)
-      go (no e) (no z) = rw (ne-eqb x (b .plan) e, ne-eqb (b .by) 0 z) (record {
+      go (no e) (no z) = rw (ne-eqb x (b .plan) e, ne-eqb (b .margin) 0 z) (record {
         own = omega (arith, differ (b .plan) (λ f. e (sym f)), a .own);
         other = λ q off. omega (arith, most q (ℕ-discrete q x), a .other q off);
+        most = omega (arith, a .most);
       })
 
 pub aheadLeads : (vote : ℕ → Option ℕ) (k : ℕ) → Ahead vote k (leading vote k)
 unfolding leading weigh
-aheadLeads vote zero = record { own = omega arith; other = λ q off. omega arith }
+aheadLeads vote zero = record { own = omega arith; other = λ q off. omega arith; most = omega arith }
 aheadLeads vote (suc k) = aheadMore vote k (leading vote k) (vote k) refl (aheadLeads vote k)
 
 -- ---- the loop that meets the votes
 
 module _ (vote : ℕ → Option ℕ) where
-  pub leadNone : record { plan = 0; by = 0 } ≡ leading vote 0
+  pub leadNone : record { plan = 0; margin = 0; votes = 0 } ≡ leading vote 0
   unfolding leading
   leadNone = refl
 
@@ -84,10 +136,46 @@ module _ (vote : ℕ → Option ℕ) where
   unfolding leading
   leadMore k b r was is = rw add-one (is ∙ ap (λ (x : Lead). after x (vote k)) was)
 
-  -- A lead is at most as large as there are votes.
-  pub leadLow : (k : ℕ) (b : Lead) → b ≡ leading vote k → b .by ≤ k
-  leadLow k b is = rw is (omega (arith, aheadLeads vote k .other (suc (leading vote k .plan)) (λ (e : suc (leading vote k .plan) ≡ leading vote k .plan). omega arith)))
+  -- No lead is larger than the votes, and they are as many as were met at most.
+  pub leadLow : (k : ℕ) (b : Lead) → b ≡ leading vote k → (b .margin ≤ b .votes) × (b .votes ≤ k)
+  leadLow k b is =
+      let other : suc (leading vote k .plan) ≢ leading vote k .plan = λ (e : suc (leading vote k .plan) ≡ leading vote k .plan). omega arith in
+      rw is (omega (arith, aheadLeads vote k .other (suc (leading vote k .plan)) other), aheadLeads vote k .most)
 
-pub whenThere : (b : Bool) (x : ℕ) → b ≡ not (isNone (when b (some x)))
-whenThere true x = refl
-whenThere false x = refl
+-- ---- the plan that a quorum is for
+
+module _ (vote : ℕ → Option ℕ) (n f : ℕ) where
+  pub quorumIs : (p : ℕ) → quorumFor vote n f p ≡ true → n ≤ tally vote p n + f
+  quorumIs p h = omega (arith, totalEquals n f, quorumWeighs (equals n f) (λ j. holds (eqb p) (vote j)) .0 h)
+
+  module _ (b : Lead) (is : b ≡ leading vote n) (less : f < n) where
+    agreedNone : quorumFor vote n f (leading vote n .plan) ≡ false → none ≡ agreedIn vote n f
+    unfolding agreedIn
+    agreedNone off = rw off
+
+    -- Where fewer than a quorum vote, no plan has one.
+    pub agreedFew : b .votes < n - f → none ≡ agreedIn vote n f
+    agreedFew few =
+        let votes : leading vote n .votes < n - f = rw is at few in
+        let low = leadLow vote n (leading vote n) refl in
+        agreedNone
+        (notTrue (quorumFor vote n f (leading vote n .plan)) (λ h. omega (arith, quorumIs (leading vote n .plan) h, aheadLeads vote n .own, low .0)))
+
+    module _ (count : ℕ) (counted : count ≡ tally vote (b .plan) n) where
+      counts : leb (n - f) count ≡ quorumFor vote n f (leading vote n .plan)
+      counts = quorumCount n f (λ j. holds (eqb (b .plan)) (vote j)) count counted ∙ ap (λ (x : Lead). quorumFor vote n f (x .plan)) is
+
+      pub agreedOther : count < n - f → none ≡ agreedIn vote n f
+      agreedOther few = agreedNone (sym counts ∙ lt-leb (n - f) count few)
+
+      pub agreedOn : n - f ≤ count → some (b .plan) ≡ agreedIn vote n f
+      unfolding agreedIn
+      agreedOn enough = rw (← counts, le-leb (n - f) count enough) (ap (λ (x : Lead). some (x .plan)) is)
+
+  -- A quorum is for no other plan than the one that leads.
+  pub onlyLead : 3 * f < n → (q : ℕ) → quorumFor vote n f q ≡ true → q ≡ leading vote n .plan
+  onlyLead third q h = go (ℕ-discrete q (leading vote n .plan))
+    where
+      go : Dec (q ≡ leading vote n .plan) → q ≡ leading vote n .plan
+      go (yes e) = e
+      go (no off) = absurd (omega (arith, quorumIs q h, aheadLeads vote n .other q off, aheadLeads vote n .most))

@@ -1,53 +1,57 @@
 -- View-changes, slot by slot, and the highest view with enough of them (document 01, 'One pass', A and B).
 -- Assumes nothing.
-use Prim.Native.Nat.{ℕ, zero, suc, _+_, _<_, max}
+use Prim.Native.Nat.{ℕ, _+_, _≤_, _<_, max}
 use mathlib.Core.Path.{_≡_}
-use mathlib.Core.Bool.{Bool, false, cond, _&&_}
+use mathlib.Core.Bool.{Bool, true, cond, _&&_}
 use mathlib.Core.List.{List}
 use mathlib.Core.Option.{Option, none, some}
 use lib.Dec.{leb, ltb, eqb}
-use lib.ListN.{getD}
+use lib.ListN.{length, getD}
 use Rattle.quorum.specs.Sets.{Set, weigh}
 use Rattle.rules.specs.Options.{holds}
+use Rattle.frame.specs.declared.Report.{Report}
+use Rattle.frame.specs.Refusal.{present}
+use Rattle.layout.specs.Layout.{headSize}
 use Rattle.protocol.specs.Record.{when}
-use Rattle.acts.specs.declared.Climb.{Climb}
+use Rattle.acts.specs.Parts.{rowIn}
 
--- The view for which a view-change is, where one is kept.
-unfoldable pub asks : ℕ → ℕ → Option ℕ
-asks mark view = when (eqb mark 1) (some view)
+-- 'view-changes are for w': the view for which the one in a slot is, where one is kept.
+unfoldable pub asks : Report → Option ℕ
+asks slot = when (present slot) (some (slot .view))
 
--- 'view-changes are for w': the view for which that of sender j is.
-abbrev pub changeIn : List ℕ → List ℕ → ℕ → Option ℕ
-changeIn marks views j = asks (getD marks (320 + j) 0) (getD views (320 + j) 0)
-
--- The senders whose view-change is for w.
-abbrev pub changers : List ℕ → List ℕ → ℕ → Set
-changers marks views w j = holds (eqb w) (changeIn marks views j)
-
--- They are as many as are needed.
-unfoldable pub enough : List ℕ → List ℕ → ℕ → ℕ → ℕ → Bool
-enough marks views n need w = leb need (weigh (λ i. 1) (changers marks views w) n)
+-- The view for which sender j's view-change is, in the shared part.
+abbrev pub changeIn : List ℕ → ℕ → Option ℕ
+changeIn shared j = asks (rowIn shared headSize j)
 
 -- 'above the current view and above the vault's own view-change, where it has sent one': above this.
 abbrev pub newsFrom : ℕ → Option ℕ → ℕ
 newsFrom view none = view
 newsFrom view (some own) = max view own
 
--- The higher of the view found so far and of a view-change's, where that passes the test.
-abbrev pub raise : (ℕ → Bool) → ℕ → Option ℕ → ℕ
-raise test best none = best
-raise test best (some w) = cond (ltb best w && test w) w best
+-- 'kept view-changes are for w': their senders.
+abbrev pub askers : (ℕ → Option ℕ) → ℕ → Set
+askers change w j = holds (eqb w) (change j)
 
--- The highest of low and of the first k views that pass the test.
-unfoldable pub climb : (ℕ → Bool) → (ℕ → Option ℕ) → ℕ → ℕ → ℕ
-climb test change low zero = low
-climb test change low (suc k) = raise test (climb test change low k) (change k)
+-- They are as many as are needed, of n.
+unfoldable pub enough : (ℕ → Option ℕ) → ℕ → ℕ → ℕ → Bool
+enough change n need w = leb need (weigh (λ i. 1) (askers change w) n)
 
--- The view tried last has failed, if it is above the one found so far: it is not counted again.
-pub record Tried (test : ℕ → Bool) (b : Climb) : Type 0 where
-  pub fails : b .best < b .tried → test (b .tried) ≡ false
+-- How many of the first k views are w.
+abbrev pub times : List ℕ → ℕ → ℕ → ℕ
+times views k w = weigh (λ i. 1) (λ j. eqb w (getD views j 0)) k
 
--- What one view-change makes of the view found so far.
-pub record Climbed (test : ℕ → Bool) (best : ℕ) (o : Option ℕ) (b : Climb) : Type 0 where
-  pub is : b .best ≡ raise test best o
-  pub tried : Tried test b
+-- The first `count` views are those above low that n view-changes are for, each as often as it is asked for.
+pub record Gathered (change : ℕ → Option ℕ) (n low : ℕ) (views : List ℕ) (count : ℕ) : Type 0 where
+  pub most : count ≤ n
+  pub same : (w : ℕ) → low < w → times views count w ≡ weigh (λ i. 1) (askers change w) n
+
+-- The highest view so far, once the one at place i is tried: it is there as often as is needed, from here on.
+unfoldable pub raisedAt : List ℕ → ℕ → ℕ → ℕ → ℕ
+raisedAt views i need best =
+    cond (ltb best (getD views i 0) && leb (times views i (getD views i 0) + need) (times views (length views) (getD views i 0))) (getD views i 0) best
+
+-- 'Take the highest ..': the highest view above low that passes a test, low where there is none.
+pub record Highest (test : ℕ → Bool) (low best : ℕ) : Type 0 where
+  pub least : low ≤ best
+  pub passes : low < best → test best ≡ true
+  pub most : (w : ℕ) → low < w → test w ≡ true → w ≤ best

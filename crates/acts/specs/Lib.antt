@@ -1,3 +1,5 @@
 pub mod Acts
-pub mod Votes
+pub mod Parts
 pub mod Changes
+pub mod Votes
+pub mod Reports

@@ -11,23 +11,30 @@ use Rattle.quorum.specs.Sets.{equals, isQuorum}
 use Rattle.rules.specs.Options.{holds}
 use Rattle.frame.specs.declared.Report.{Report}
 use Rattle.frame.specs.Refusal.{present}
-use Rattle.record.specs.Slots.{slotIn}
+use Rattle.record.specs.Slots.{frameSlot}
+use Rattle.layout.specs.Layout.{slotIn}
 use Rattle.protocol.specs.Record.{when}
+use Rattle.acts.specs.Parts.{blockPlace, rowIn}
 use Rattle.acts.specs.declared.Lead.{Lead}
 
 -- 'for this view': the plan of the vote in a slot, where that is of view v.
 unfoldable pub voted : ℕ → Report → Option ℕ
 voted v slot = when (present slot && eqb (slot .view) v) (some (slot .plan))
 
--- The plans of the votes of view v that lie from a place on.
-abbrev pub votes : List ℕ → List ℕ → List ℕ → ℕ → ℕ → ℕ → Option ℕ
-votes marks views plans v from j = voted v (slotIn marks views plans (from + j))
+-- The plan of a sender's vote-k (0: proposal), where that is of view v.
+abbrev pub voteIn : List ℕ → ℕ → ℕ → ℕ → Option ℕ
+voteIn block v k j = voted v (slotIn block (blockPlace (frameSlot (k + 1) j)))
+
+-- The plans of the votes of view v that stand from a place on.
+abbrev pub votes : List ℕ → ℕ → ℕ → ℕ → Option ℕ
+votes block v from j = voted v (rowIn block from j)
 
 -- A vote for x: one more for the plan that leads, or one against it.
 unfoldable pub meet : Lead → ℕ → Lead
 meet b x =
-    cond (eqb x (b .plan)) (record { plan = x; by = b .by + 1 })
-    (cond (eqb (b .by) 0) (record { plan = x; by = 1 }) (record { plan = b .plan; by = b .by - 1 }))
+    cond (eqb x (b .plan)) (record { plan = x; margin = b .margin + 1; votes = b .votes + 1 })
+    (cond (eqb (b .margin) 0) (record { plan = x; margin = 1; votes = b .votes + 1 })
+    (record { plan = b .plan; margin = b .margin - 1; votes = b .votes + 1 }))
 
 -- The plan that leads, once a vote, if there is one, has been met.
 abbrev pub after : Lead → Option ℕ → Lead
@@ -36,7 +43,7 @@ after b (some x) = meet b x
 
 -- The plan that leads among the first k votes.
 unfoldable pub leading : (ℕ → Option ℕ) → ℕ → Lead
-leading vote zero = record { plan = 0; by = 0 }
+leading vote zero = record { plan = 0; margin = 0; votes = 0 }
 leading vote (suc k) = after (leading vote k) (vote k)
 
 -- 'A quorum .. for this view and one plan'.

@@ -1,23 +1,27 @@
-// When each step of document 01's pass acts ('One pass', A to H), read off a record's slots. The record's arrays are lent; the
-// answer says what is to be done.
+// When each step of document 01's pass acts ('One pass', A to H), read off a record's lent bytes: A and B are lent its shared part,
+// C to H the practice's block. The answer says what is to be done.
 use frame::Report;
 use safe::Choice;
-ghost use Prim.Native.Nat.{ℕ, _+_, _*_, _≤_, _<_};
+use settings::Settings;
+ghost use Prim.Native.Nat.{ℕ, _+_, _-_, _*_, _≤_, _<_};
 ghost use mathlib.Core.Path.{_≡_};
 ghost use mathlib.Core.Bool.{not, cond};
-ghost use lib.Dec.{eqb};
+ghost use lib.Dec.{leb, ltb, eqb};
 ghost use lib.ListN.{length};
-ghost use Rattle.quorum.specs.Sets.{weigh, equals};
+ghost use Rattle.quorum.specs.Sets.{weigh};
 ghost use Rattle.rules.specs.Options.{isNone, holds};
-ghost use Rattle.rules.specs.Rules.{rule3};
-ghost use Rattle.rules.specs.Counts.{safe, choice};
 ghost use Rattle.frame.specs.Refusal.{leaderOf};
-ghost use Rattle.record.specs.Slots.{slotIn, Arrays};
+ghost use Rattle.record.specs.Slots.{rows, slotCount, frameSlot};
+ghost use Rattle.claims.specs.Table.{column, tableSize};
+ghost use Rattle.layout.specs.Layout.{slotSize, sharedSize, blockSize, slotIn, decodeRecord};
 ghost use Rattle.safe.specs.Choices.{chosen};
 ghost use Rattle.protocol.specs.Pass.{actA, actB, actC, actD, actVote, actH};
-ghost use Rattle.acts.specs.Acts.{asAct, contentsOf, reportsBy, Fit, Marked};
-ghost use Rattle.acts.specs.Changes.{asks, changeIn, changers, enough, newsFrom, climb, Tried, Climbed};
-ghost use Rattle.acts.specs.Votes.{voted, votes, meet, after, leading, agreedIn};
+ghost use Rattle.contents.specs.Contents.{contentsIn, Ready};
+ghost use Rattle.acts.specs.Acts.{asAct, actAt};
+ghost use Rattle.acts.specs.Parts.{blockPlace};
+ghost use Rattle.acts.specs.Changes.{asks, changeIn, newsFrom, enough, times, raisedAt, Gathered, Highest};
+ghost use Rattle.acts.specs.Votes.{voted, voteIn, votes, meet, after, leading, agreedIn};
+ghost use Rattle.acts.specs.Reports.{reportsBy, aboveOf, withVote, withReport, Filled};
 
 // What a step does: ask for a view, enter it, send a vote (0: a proposal) for a plan, decide a plan, or nothing.
 pub enum Act {
@@ -28,126 +32,116 @@ pub enum Act {
     Nothing,
 }
 
-fn wide(x: u8) -> usize
-    ensures { λ r. ⌜ r ≡ x ⌝ }
-{
-    x as usize
-}
-
 // ---- A and B: view-changes
 
-// The slot of the first sender's view-change.
-const CHANGES: usize = 320;
-
-// What a sender adds to those whose view-change is for w.
-fn change_share(mark: u8, view: u32, w: u32) -> usize
-    ensures { λ c. ⌜ c ≡ cond (holds (eqb w) (asks mark view)) 1 0 ⌝ }
+// The view of the view-change at a place, where one is kept and is above low; low where not.
+fn change_above(shared: &[u8], at: usize, low: u32) -> u32
+    requires { ⌜ at + slotSize ≤ length (now shared) ⌝ }
+    ensures { λ r. ⌜ r ≡ newsFrom low (asks (slotIn (now (shared .entry)) at)) ⌝ }
 {
-    if mark != 1 {
-        return 0;
+    if shared[at] != 1 {
+        return low;
     }
-    if w != view {
-        return 0;
-    }
-    1
+    claims::larger(low, layout::view_at(shared, at))
 }
 
-// How many of n senders have a view-change for w.
-fn changers_of<'a>(marks: &'a [u8], views: &'a [u32], n: usize, w: u32) -> usize
-    requires { ⌜ (length (now marks) ≡ 899) × (length (now views) ≡ 899) × (n ≤ 64) ⌝ }
-    ensures { λ c. ⌜ c ≡ weigh (λ i. 1) (changers (now (marks .entry)) (now (views .entry)) w) n ⌝ }
+// What a view adds to those above low.
+fn share_above(low: u32, w: u32) -> usize
+    ensures { λ c. ⌜ c ≡ cond (ltb low w) 1 0 ⌝ }
+{
+    if low < w { 1 } else { 0 }
+}
+
+// Gathers the views above low that the view-changes of n senders are for, and answers how many they are.
+// Each view is put at the next place, and the next one takes that place where it is not above low.
+fn views_above(shared: &[u8], n: usize, low: u32, views: &mut [u32]) -> usize
+    requires { ⌜ (length (now shared) ≡ sharedSize) × (n ≤ rows) × (length (now views) ≡ rows) ⌝ }
+    ensures { λ c. ⌜ Gathered (changeIn (now (shared .entry))) n low (now (views .exit)) c × (length (now (views .exit)) ≡ rows) ⌝ }
 {
     let mut count: usize = 0;
     let mut j: usize = 0;
     while j < n {
-        let s = CHANGES + j;
-        count += change_share(marks[s], views[s], w);
+        let w = change_above(shared, layout::HEAD + layout::SLOT * j, low);
+        views[count] = w;
+        count += share_above(low, w);
         j += 1;
     }
     count
 }
 
-// The highest view found so far that enough view-changes are for, and the view that was counted last.
-pub struct Climb {
-    pub best: u32,
-    pub tried: u32,
+// What a view adds to those that are w.
+fn share_same(x: u32, w: u32) -> u32
+    ensures { λ c. ⌜ c ≡ cond (eqb w x) 1 0 ⌝ }
+{
+    if w == x { 1 } else { 0 }
 }
 
-// The same, once the view-change of sender j has been tried. Only a view above the one found is counted, and not twice in a row.
-fn climbed<'a>(
-    marks: &'a [u8],
-    views: &'a [u32],
-    n: usize,
-    need: usize,
-    b: Climb,
-    j: usize,
-) -> Climb
-    requires { ⌜ (length (now marks) ≡ 899) × (length (now views) ≡ 899) × (n ≤ 64) × (j < n) × Tried (enough (now marks) (now views) n need) b ⌝ }
-    ensures { λ r. ⌜ Climbed (enough (now (marks .entry)) (now (views .entry)) n need) (b .best) (changeIn (now (marks .entry)) (now (views .entry)) j) r ⌝ }
+// How many of the views from a place on are w.
+fn times_from(views: &[u32], from: usize, w: u32) -> usize
+    requires { ⌜ (from ≤ length (now views)) × (length (now views) ≤ rows) ⌝ }
+    ensures { λ c. ⌜ times (now (views .entry)) from w + c ≡ times (now (views .entry)) (length (now (views .entry))) w ⌝ }
 {
-    let s = CHANGES + j;
-    if marks[s] != 1 {
-        return b;
-    }
-    let w = views[s];
-    if w <= b.best {
-        return b;
-    }
-    if w == b.tried {
-        return b;
-    }
-    if changers_of(marks, views, n, w) < need {
-        return Climb {
-            best: b.best,
-            tried: w,
-        };
-    }
-    Climb { best: w, tried: w }
-}
-
-// The highest view above low that at least `need` view-changes are for, low where there is none.
-fn highest_change<'a>(marks: &'a [u8], views: &'a [u32], n: usize, need: usize, low: u32) -> u32
-    requires { ⌜ (length (now marks) ≡ 899) × (length (now views) ≡ 899) × (n ≤ 64) ⌝ }
-    ensures { λ w. ⌜ w ≡ climb (enough (now (marks .entry)) (now (views .entry)) n need) (changeIn (now (marks .entry)) (now (views .entry))) low n ⌝ }
-{
-    let mut b = Climb {
-        best: low,
-        tried: low,
-    };
-    let mut j: usize = 0;
-    while j < n {
-        b = climbed(marks, views, n, need, b, j);
+    let mut count: u32 = 0;
+    let mut j = from;
+    while j < views.len() {
+        count += share_same(views[j], w);
         j += 1;
     }
-    b.best
+    count as usize
 }
 
-// The view above which a view-change is news: the current one, or that of the own view-change where it is higher.
-fn news_from(mark: u8, own: u32, view: u32) -> u32
-    ensures { λ r. ⌜ r ≡ newsFrom view (asks mark own) ⌝ }
+// The highest view so far, once the one at a place is tried.
+// A view met here for the first time has all its askers from here on; one met before has passed or failed there.
+fn raised(views: &[u32], i: usize, need: usize, best: u32) -> u32
+    requires { ⌜ (i < length (now views)) × (length (now views) ≤ rows) ⌝ }
+    ensures { λ r. ⌜ r ≡ raisedAt (now (views .entry)) i need best ⌝ }
 {
-    if mark != 1 {
-        return view;
+    let w = views[i];
+    if w <= best {
+        return best;
     }
-    claims::larger(view, own)
+    if times_from(views, i, w) < need {
+        return best;
+    }
+    w
+}
+
+// The highest view above low that is there as often as is needed, low where there is none. It stops where too few are left.
+fn highest_of(views: &[u32], need: usize, low: u32) -> u32
+    requires { ⌜ (length (now views) ≤ rows) × (0 < need) × (need ≤ rows) ⌝ }
+    ensures { λ r. ⌜ Highest (λ w. leb need (times (now (views .entry)) (length (now (views .entry))) w)) low r ⌝ }
+{
+    let mut best = low;
+    let mut i: usize = 0;
+    while i + need <= views.len() {
+        best = raised(views, i, need, best);
+        i += 1;
+    }
+    best
+}
+
+// The highest view above low that as many of n view-changes as are needed are for, low where there is none.
+fn highest_change(shared: &[u8], n: usize, need: usize, low: u32) -> u32
+    requires { ⌜ (length (now shared) ≡ sharedSize) × (n ≤ rows) × (0 < need) × (need ≤ rows) ⌝ }
+    ensures { λ r. ⌜ Highest (enough (changeIn (now (shared .entry))) n need) low r ⌝ }
+{
+    let mut views = [0u32; layout::ROWS];
+    let count = views_above(shared, n, low, &mut views);
+    highest_of(&views[0..count], need, low)
 }
 
 // Step A.
-pub fn act_a<'a>(
-    marks: &'a [u8],
-    views: &'a [u32],
-    plans: &'a [u64],
-    n: usize,
-    f: usize,
-    id: usize,
-    view: u32,
-) -> Act
-    requires { ⌜ Fit n f id (now marks) (now views) (now plans) ⌝ }
-    ensures { λ r. ⌜ ((class start : ℕ) → asAct r ≡ actA (contentsOf n f id class view start (now (marks .entry)) (now (views .entry)) (now (plans .entry)))) ⌝ }
+fn act_a(rec: &[u8], set: Settings, view: u32) -> Act
+    requires { ⌜ Ready (now rec) × (set ≡ decodeRecord (now rec) .set) × (view ≡ decodeRecord (now rec) .view) ⌝ }
+    ensures { λ r. ⌜ asAct r ≡ actA (contentsIn (now (rec .entry))) ⌝ }
 {
-    let s = CHANGES + id;
-    let low = news_from(marks[s], views[s], view);
-    let w = highest_change(marks, views, n, f + 1, low);
+    let shared = &rec[0..layout::SHARED];
+    let low = change_above(
+        shared,
+        layout::HEAD + layout::SLOT * (set.id as usize),
+        view,
+    );
+    let w = highest_change(shared, set.n as usize, (set.f as usize) + 1, low);
     if low < w {
         return Act::Ask(w);
     }
@@ -155,36 +149,56 @@ pub fn act_a<'a>(
 }
 
 // Step B.
-pub fn act_b<'a>(
-    marks: &'a [u8],
-    views: &'a [u32],
-    plans: &'a [u64],
-    n: usize,
-    f: usize,
-    id: usize,
-    view: u32,
-) -> Act
-    requires { ⌜ Fit n f id (now marks) (now views) (now plans) ⌝ }
-    ensures { λ r. ⌜ ((class start : ℕ) → asAct r ≡ actB (contentsOf n f id class view start (now (marks .entry)) (now (views .entry)) (now (plans .entry)))) ⌝ }
+fn act_b(rec: &[u8], set: Settings, view: u32) -> Act
+    requires { ⌜ Ready (now rec) × (set ≡ decodeRecord (now rec) .set) × (view ≡ decodeRecord (now rec) .view) ⌝ }
+    ensures { λ r. ⌜ asAct r ≡ actB (contentsIn (now (rec .entry))) ⌝ }
 {
-    let w = highest_change(marks, views, n, n - f, view);
+    let n = set.n as usize;
+    let w = highest_change(&rec[0..layout::SHARED], n, n - (set.f as usize), view);
     if view < w {
         return Act::Enter(w);
     }
     Act::Nothing
 }
 
-// ---- C and D: proposals, and what is safe
+// ---- the block
 
-// Whether the vote in a slot is of view v: 'once a view'.
-pub fn sent(slot: Report, v: u32) -> bool
-    ensures { λ b. ⌜ b ≡ not (isNone (voted v slot)) ⌝ }
+// Where slot i of a record stands in the block.
+fn block_place(i: usize) -> usize
+    requires { ⌜ (rows ≤ i) × (i < slotCount) ⌝ }
+    ensures { λ r. ⌜ (r ≡ blockPlace i) × (r + slotSize ≤ blockSize) ⌝ }
 {
-    if slot.mark != 1 {
+    layout::HEAD + layout::SLOT * (i - layout::ROWS)
+}
+
+// Where a sender's vote-k, for k = 0 its proposal, stands.
+fn vote_place(k: u8, sender: u8) -> usize
+    requires { ⌜ (k ≤ 4) × (sender < rows) ⌝ }
+    ensures { λ r. ⌜ (r ≡ blockPlace (frameSlot (k + 1) sender)) × (r + slotSize * (rows - sender) ≤ blockSize) ⌝ }
+{
+    block_place(layout::frame_slot(k + 1, sender))
+}
+
+// Whether the vote at a place is of view v.
+fn is_of_view(block: &[u8], at: usize, v: u32) -> bool
+    requires { ⌜ at + slotSize ≤ length (now block) ⌝ }
+    ensures { λ b. ⌜ b ≡ not (isNone (voted v (slotIn (now (block .entry)) at))) ⌝ }
+{
+    if block[at] != 1 {
         return false;
     }
-    slot.view == v
+    layout::view_at(block, at) == v
 }
+
+// Whether a sender's vote-k, for k = 0 its proposal, is of view v: 'once a view'.
+fn sent(block: &[u8], k: u8, sender: u8, v: u32) -> bool
+    requires { ⌜ (length (now block) ≡ blockSize) × (k ≤ 4) × (sender < rows) ⌝ }
+    ensures { λ b. ⌜ b ≡ not (isNone (voteIn (now (block .entry)) v k sender)) ⌝ }
+{
+    is_of_view(block, vote_place(k, sender), v)
+}
+
+// ---- C and D: proposals, and what is safe
 
 // 'its leader is vault (view mod n)'.
 pub fn leader(view: u32, n: usize) -> usize
@@ -194,105 +208,103 @@ pub fn leader(view: u32, n: usize) -> usize
     (view as usize) % n
 }
 
-// The plan to propose by the kept suggests: their frames lie in slots 384 to 447, their reports in 512 to 703.
-fn proposal<'a>(
-    marks: &'a [u8],
-    views: &'a [u32],
-    plans: &'a [u64],
-    n: usize,
-    f: usize,
-    view: u32,
-    start: u64,
-) -> Choice
-    requires { ⌜ Arrays (now marks) (now views) (now plans) × (n ≤ 64) × (3 * f < n) ⌝ }
-    ensures { λ r. ⌜ chosen r ≡ choice (equals n f) (reportsBy 7 (now (marks .entry)) (now (views .entry)) (now (plans .entry)) view) view start ⌝ }
+// The size of the search's table: seven columns.
+const TABLE: usize = 7 * claims::COLUMN;
+
+// A vote's view + 1, 0 where it is absent.
+fn above(x: Report) -> u64
+    ensures { λ r. ⌜ r ≡ aboveOf x ⌝ }
 {
-    safe::choose(
-        &marks[384..448],
-        &views[384..448],
-        &marks[512..704],
-        &views[512..704],
-        &plans[512..704],
-        n,
-        f,
-        view,
-        start,
-    )
+    if x.mark == 1 {
+        claims::long(x.view) + 1
+    } else {
+        0
+    }
 }
 
-// Whether p is safe by the kept proofs: their frames lie in slots 448 to 511, their reports in 704 to 895.
-fn approved<'a>(
-    marks: &'a [u8],
-    views: &'a [u32],
-    plans: &'a [u64],
-    n: usize,
-    f: usize,
-    view: u32,
-    p: u64,
-) -> bool
-    requires { ⌜ Arrays (now marks) (now views) (now plans) × (n ≤ 64) × (3 * f < n) ⌝ }
-    ensures { λ b. ⌜ b ≡ safe rule3 (equals n f) (reportsBy 8 (now (marks .entry)) (now (views .entry)) (now (plans .entry)) view) view p ⌝ }
+// Puts a vote into two columns of the table.
+fn put_vote(table: &mut [u64], at: usize, x: Report)
+    requires { ⌜ at + column < length (now table) ⌝ }
+    ensures { λ _. ⌜ now (table .exit) ≡ withVote (now (table .entry)) at x ⌝ }
 {
-    safe::safe_by(
-        &marks[448..512],
-        &views[448..512],
-        &marks[704..896],
-        &views[704..896],
-        &plans[704..896],
-        n,
-        f,
-        view,
-        p,
-        true,
-    )
+    table[at] = above(x);
+    table[at + claims::COLUMN] = x.plan;
+}
+
+// Puts what sender i reports into the table: three votes, of which the first stands at a place of the block.
+fn put_report(table: &mut [u64], i: usize, block: &[u8], from: usize)
+    requires { ⌜ (length (now table) ≡ tableSize) × (i < rows) × (from + slotSize * (2 * rows + 1) ≤ length (now block)) ⌝ }
+    ensures { λ _. ⌜ now (table .exit) ≡ withReport (now (table .entry)) i (slotIn (now (block .entry)) from) (slotIn (now (block .entry)) (from + slotSize * rows)) (slotIn (now (block .entry)) (from + slotSize * (2 * rows))) ⌝ }
+{
+    let highest = layout::slot_at(block, from);
+    let previous = layout::slot_at(block, from + layout::SLOT * layout::ROWS);
+    let lock = layout::slot_at(block, from + layout::SLOT * (2 * layout::ROWS));
+    table[i] = 1;
+    put_vote(table, claims::COLUMN + i, highest);
+    put_vote(table, 3 * claims::COLUMN + i, previous);
+    put_vote(table, 5 * claims::COLUMN + i, lock);
+}
+
+// Puts what sender i reports into the table, where its suggest (kind 7) or proof (kind 8) is of view v.
+fn gather_from(table: &mut [u64], i: u8, block: &[u8], kind: u8, v: u32)
+    requires { ⌜ (length (now block) ≡ blockSize) × (i < rows) × (7 ≤ kind) × (kind ≤ 8) × Filled (reportsBy (now block) kind v) i (now table) ⌝ }
+    ensures { λ _. ⌜ Filled (reportsBy (now (block .entry)) kind v) (i + 1) (now (table .exit)) ⌝ }
+{
+    let at = block_place(layout::frame_slot(kind, i));
+    if is_of_view(block, at, v) {
+        let from = block_place(layout::report_slot(kind, 0, i));
+        put_report(table, i as usize, block, from);
+    }
+}
+
+// The reports of view v in the suggests (kind 7) or proofs (kind 8) of n senders, as the search takes them.
+fn gather(block: &[u8], kind: u8, n: u8, v: u32) -> [u64; TABLE]
+    requires { ⌜ (length (now block) ≡ blockSize) × (n ≤ rows) × (7 ≤ kind) × (kind ≤ 8) ⌝ }
+    ensures { λ t. ⌜ Filled (reportsBy (now (block .entry)) kind v) n t ⌝ }
+{
+    let mut table = [0u64; TABLE];
+    let mut i: u8 = 0;
+    while i < n {
+        gather_from(&mut table, i, block, kind, v);
+        i += 1;
+    }
+    table
 }
 
 // Step C.
-pub fn act_c<'a>(
-    marks: &'a [u8],
-    views: &'a [u32],
-    plans: &'a [u64],
-    n: usize,
-    f: usize,
-    id: usize,
-    view: u32,
-    start: u64,
-) -> Act
-    requires { ⌜ Fit n f id (now marks) (now views) (now plans) × Marked (now marks) ⌝ }
-    ensures { λ r. ⌜ ((class : ℕ) → asAct r ≡ actC (contentsOf n f id class view start (now (marks .entry)) (now (views .entry)) (now (plans .entry)))) ⌝ }
+fn act_c(rec: &[u8], set: Settings, view: u32) -> Act
+    requires { ⌜ Ready (now rec) × (set ≡ decodeRecord (now rec) .set) × (view ≡ decodeRecord (now rec) .view) ⌝ }
+    ensures { λ r. ⌜ asAct r ≡ actC (contentsIn (now (rec .entry))) ⌝ }
 {
-    if leader(view, n) != id {
+    if leader(view, set.n as usize) != set.id as usize {
         return Act::Nothing;
     }
-    if sent(record::slot_in(marks, views, plans, id), view) {
+    let block = &rec[layout::SHARED..layout::SIZE];
+    if sent(block, 0, set.id, view) {
         return Act::Nothing;
     }
-    match proposal(marks, views, plans, n, f, view, start) {
+    let table = gather(block, 7, set.n, view);
+    match safe::choose(&table, set, view, layout::plan_of(rec)) {
         Choice::Plan(p) => Act::Cast(0, p),
         Choice::Nothing => Act::Nothing,
     }
 }
 
 // Step D.
-pub fn act_d<'a>(
-    marks: &'a [u8],
-    views: &'a [u32],
-    plans: &'a [u64],
-    n: usize,
-    f: usize,
-    id: usize,
-    view: u32,
-) -> Act
-    requires { ⌜ Fit n f id (now marks) (now views) (now plans) × Marked (now marks) ⌝ }
-    ensures { λ r. ⌜ ((class start : ℕ) → asAct r ≡ actD (contentsOf n f id class view start (now (marks .entry)) (now (views .entry)) (now (plans .entry)))) ⌝ }
+fn act_d(rec: &[u8], set: Settings, view: u32) -> Act
+    requires { ⌜ Ready (now rec) × (set ≡ decodeRecord (now rec) .set) × (view ≡ decodeRecord (now rec) .view) ⌝ }
+    ensures { λ r. ⌜ asAct r ≡ actD (contentsIn (now (rec .entry))) ⌝ }
 {
-    if sent(record::slot_in(marks, views, plans, 64 + id), view) {
+    let block = &rec[layout::SHARED..layout::SIZE];
+    if sent(block, 1, set.id, view) {
         return Act::Nothing;
     }
-    let slot = record::slot_in(marks, views, plans, leader(view, n));
-    if sent(slot, view) {
-        if approved(marks, views, plans, n, f, view, slot.plan) {
-            return Act::Cast(1, slot.plan);
+    let at = vote_place(0, leader(view, set.n as usize) as u8);
+    if is_of_view(block, at, view) {
+        let p = layout::plan_at(block, at);
+        let table = gather(block, 8, set.n, view);
+        if safe::safe_by(&table, set, view, p, true) {
+            return Act::Cast(1, p);
         }
         return Act::Nothing;
     }
@@ -301,134 +313,160 @@ pub fn act_d<'a>(
 
 // ---- E to H: votes
 
-// The plan that leads among votes, and by how many.
+// The plan that leads among votes, by how many, and how many the votes are.
 pub struct Lead {
     pub plan: u64,
-    pub by: usize,
+    pub margin: usize,
+    pub votes: usize,
 }
 
 // The lead, once a vote for x has been met.
 fn met(b: Lead, x: u64) -> Lead
-    requires { ⌜ b .by < 64 ⌝ }
+    requires { ⌜ (b .margin < rows) × (b .votes < rows) ⌝ }
     ensures { λ r. ⌜ r ≡ meet b x ⌝ }
 {
+    let votes = b.votes + 1;
     if x == b.plan {
         return Lead {
             plan: x,
-            by: b.by + 1,
+            margin: b.margin + 1,
+            votes,
         };
     }
-    if b.by == 0 {
-        return Lead { plan: x, by: 1 };
+    if b.margin == 0 {
+        return Lead {
+            plan: x,
+            margin: 1,
+            votes,
+        };
     }
     Lead {
         plan: b.plan,
-        by: b.by - 1,
+        margin: b.margin - 1,
+        votes,
     }
 }
 
-// The lead, once the vote in a slot has been met, where that is of view v.
-fn met_in(b: Lead, slot: Report, v: u32) -> Lead
-    requires { ⌜ b .by < 64 ⌝ }
-    ensures { λ r. ⌜ r ≡ after b (voted v slot) ⌝ }
+// The lead, once the vote at a place has been met, where that is of view v.
+fn met_at(b: Lead, block: &[u8], at: usize, v: u32) -> Lead
+    requires { ⌜ (b .margin < rows) × (b .votes < rows) × (at + slotSize ≤ length (now block)) ⌝ }
+    ensures { λ r. ⌜ r ≡ after b (voted v (slotIn (now (block .entry)) at)) ⌝ }
 {
-    if slot.mark != 1 {
+    if block[at] != 1 {
         return b;
     }
-    if slot.view != v {
+    if layout::view_at(block, at) != v {
         return b;
     }
-    met(b, slot.plan)
+    met(b, layout::plan_at(block, at))
 }
 
 // The plan that leads among the votes of view v in the n slots from a place on.
-fn lead_of<'a>(
-    marks: &'a [u8],
-    views: &'a [u32],
-    plans: &'a [u64],
-    from: usize,
-    n: usize,
-    v: u32,
-) -> Lead
-    requires { ⌜ Arrays (now marks) (now views) (now plans) × (n ≤ 64) × (from ≤ 320) ⌝ }
-    ensures { λ r. ⌜ r ≡ leading (votes (now (marks .entry)) (now (views .entry)) (now (plans .entry)) v from) n ⌝ }
+fn lead_of(block: &[u8], from: usize, n: usize, v: u32) -> Lead
+    requires { ⌜ (from + slotSize * n ≤ length (now block)) × (n ≤ rows) ⌝ }
+    ensures { λ r. ⌜ r ≡ leading (votes (now (block .entry)) v from) n ⌝ }
 {
-    let mut b = Lead { plan: 0, by: 0 };
+    let mut b = Lead {
+        plan: 0,
+        margin: 0,
+        votes: 0,
+    };
     let mut j: usize = 0;
     while j < n {
-        b = met_in(b, record::slot_in(marks, views, plans, from + j), v);
+        b = met_at(b, block, from + layout::SLOT * j, v);
         j += 1;
     }
     b
 }
 
-// The plan that a quorum of the votes of view v in the n slots from a place on is for.
-// A lead that is too small for that saves the count.
-fn agreed_plan<'a>(
-    marks: &'a [u8],
-    views: &'a [u32],
-    plans: &'a [u64],
-    from: usize,
-    n: usize,
-    f: usize,
-    v: u32,
-) -> Choice
-    requires { ⌜ Arrays (now marks) (now views) (now plans) × (n ≤ 64) × (3 * f < n) × (from ≤ 320) ⌝ }
-    ensures { λ r. ⌜ chosen r ≡ agreedIn (votes (now (marks .entry)) (now (views .entry)) (now (plans .entry)) v from) n f ⌝ }
+// What the vote at a place adds to those of view v for p.
+fn vote_share(block: &[u8], at: usize, v: u32, p: u64) -> usize
+    requires { ⌜ at + slotSize ≤ length (now block) ⌝ }
+    ensures { λ c. ⌜ c ≡ cond (holds (eqb p) (voted v (slotIn (now (block .entry)) at))) 1 0 ⌝ }
 {
-    let b = lead_of(marks, views, plans, from, n, v);
-    if b.by + f + f < n {
+    if is_of_view(block, at, v) {
+        if layout::plan_at(block, at) == p {
+            return 1;
+        }
+        return 0;
+    }
+    0
+}
+
+// How many of the n votes from a place on are of view v and for p.
+fn votes_for(block: &[u8], from: usize, n: usize, v: u32, p: u64) -> usize
+    requires { ⌜ (from + slotSize * n ≤ length (now block)) × (n ≤ rows) ⌝ }
+    ensures { λ c. ⌜ c ≡ weigh (λ i. 1) (λ j. holds (eqb p) (votes (now (block .entry)) v from j)) n ⌝ }
+{
+    let mut count: usize = 0;
+    let mut j: usize = 0;
+    while j < n {
+        count += vote_share(block, from + layout::SLOT * j, v, p);
+        j += 1;
+    }
+    count
+}
+
+// The plan that a quorum of the votes of view v from a place on is for. Where the votes are too few, those for the plan are not counted.
+fn agreed_plan(block: &[u8], from: usize, set: Settings, v: u32) -> Choice
+    requires { ⌜ (from + slotSize * (set .n) ≤ length (now block)) × (set .n ≤ rows) × (3 * set .f < set .n) ⌝ }
+    ensures { λ r. ⌜ chosen r ≡ agreedIn (votes (now (block .entry)) v from) (set .n) (set .f) ⌝ }
+{
+    let n = set.n as usize;
+    let quorum = n - (set.f as usize);
+    let b = lead_of(block, from, n, v);
+    if b.votes < quorum {
         return Choice::Nothing;
     }
-    let count = record::count_in(marks, views, plans, from, n, v, b.plan);
-    if safe::is_quorum(count, n, f) {
-        return Choice::Plan(b.plan);
+    let count = votes_for(block, from, n, v, b.plan);
+    if count < quorum {
+        return Choice::Nothing;
     }
-    Choice::Nothing
+    Choice::Plan(b.plan)
 }
 
 // Steps E, F, G for k = 1, 2, 3.
-pub fn act_vote<'a>(
-    marks: &'a [u8],
-    views: &'a [u32],
-    plans: &'a [u64],
-    n: usize,
-    f: usize,
-    id: usize,
-    view: u32,
-    k: u8,
-) -> Act
-    requires { ⌜ Fit n f id (now marks) (now views) (now plans) × (1 ≤ k) × (k ≤ 3) ⌝ }
-    ensures { λ r. ⌜ ((class start : ℕ) → asAct r ≡ actVote (contentsOf n f id class view start (now (marks .entry)) (now (views .entry)) (now (plans .entry))) k) ⌝ }
+fn act_vote(rec: &[u8], set: Settings, view: u32, k: u8) -> Act
+    requires { ⌜ Ready (now rec) × (set ≡ decodeRecord (now rec) .set) × (view ≡ decodeRecord (now rec) .view) × (1 ≤ k) × (k ≤ 3) ⌝ }
+    ensures { λ r. ⌜ asAct r ≡ actVote (contentsIn (now (rec .entry))) k ⌝ }
 {
-    let from = wide(k) * 64;
-    if sent(record::slot_in(marks, views, plans, from + 64 + id), view) {
+    let block = &rec[layout::SHARED..layout::SIZE];
+    if sent(block, k + 1, set.id, view) {
         return Act::Nothing;
     }
-    match agreed_plan(marks, views, plans, from, n, f, view) {
+    match agreed_plan(block, vote_place(k, 0), set, view) {
         Choice::Plan(p) => Act::Cast(k + 1, p),
         Choice::Nothing => Act::Nothing,
     }
 }
 
 // Step H.
-pub fn act_h<'a>(
-    marks: &'a [u8],
-    views: &'a [u32],
-    plans: &'a [u64],
-    n: usize,
-    f: usize,
-    id: usize,
-    view: u32,
-) -> Act
-    requires { ⌜ Fit n f id (now marks) (now views) (now plans) ⌝ }
-    ensures { λ r. ⌜ ((class start : ℕ) → asAct r ≡ actH (contentsOf n f id class view start (now (marks .entry)) (now (views .entry)) (now (plans .entry)))) ⌝ }
+fn act_h(rec: &[u8], set: Settings, view: u32) -> Act
+    requires { ⌜ Ready (now rec) × (set ≡ decodeRecord (now rec) .set) × (view ≡ decodeRecord (now rec) .view) ⌝ }
+    ensures { λ r. ⌜ asAct r ≡ actH (contentsIn (now (rec .entry))) ⌝ }
 {
-    if marks[record::DECISION] == 1 {
+    let block = &rec[layout::SHARED..layout::SIZE];
+    let decision = block_place(layout::DECISION);
+    if block[decision] == 1 {
         return Act::Nothing;
     }
-    match agreed_plan(marks, views, plans, 256, n, f, view) {
+    match agreed_plan(block, vote_place(4, 0), set, view) {
         Choice::Plan(p) => Act::Decide(p),
         Choice::Nothing => Act::Nothing,
+    }
+}
+
+// What the step of a number, 0 to 7 for A to H, is to do.
+pub fn act_at(rec: &[u8], set: Settings, view: u32, k: u8) -> Act
+    requires { ⌜ Ready (now rec) × (set ≡ decodeRecord (now rec) .set) × (view ≡ decodeRecord (now rec) .view) × (k < 8) ⌝ }
+    ensures { λ r. ⌜ asAct r ≡ actAt k (contentsIn (now (rec .entry))) ⌝ }
+{
+    match k {
+        0 => act_a(rec, set, view),
+        1 => act_b(rec, set, view),
+        2 => act_c(rec, set, view),
+        3 => act_d(rec, set, view),
+        4..=6 => act_vote(rec, set, view, k - 3),
+        _ => act_h(rec, set, view),
     }
 }

@@ -104,6 +104,11 @@ pub countMore : (plans : List ℕ) (at k p : ℕ) → countOf plans at (k + 1) p
 unfolding countOf
 countMore plans at k p = weighMore _ _ k
 
+-- The same with those that are for every plan.
+pub countStep : (plans : List ℕ) (at k p every count share : ℕ) → count ≡ every + countOf plans at k p
+    → share ≡ cond (eqb (getD plans (at + k) 0) p) 1 0 → count + share ≡ every + countOf plans at (k + 1) p
+countStep plans at k p every count share e is = omega (arith, countMore plans at k p)
+
 pub countSame : (before after : List ℕ) (at k p : ℕ) → ((r : ℕ) → r < k → getD after (at + r) 0 ≡ getD before (at + r) 0) → countOf after at k p ≡ countOf before at k p
 unfolding countOf
 countSame before after at k p same = weighSame _ _ _ k (λ r low. ap (λ (x : ℕ). eqb x p) (same r low))
@@ -200,10 +205,17 @@ rowFits c w row t at is here next = rw (at, is) (go (eqb w (c .u)))
     go true = (omega arith, here)
     go false = (omega arith, next)
 
--- One plan more is counted.
-pub claimersMore : (plans : List ℕ) (row k p every claimers share : ℕ) → claimers ≡ every + countOf plans row k p
-    → share ≡ cond (eqb (getD plans (row + k) 0) p) 1 0 → claimers + share ≡ every + countOf plans row (k + 1) p
-claimersMore plans row k p every claimers share e is = omega (arith, countMore plans row k p)
+module _ (test : ℕ → Bool) (low v : ℕ) where
+  -- Views below low are not tried.
+  pub servingNone : (end : ℕ) → end ≤ low → servingView test low v end ≡ v
+  unfolding servingView
+  servingNone zero over = refl
+  servingNone (suc w) over = rw (lt-ltb w low (omega arith))
+
+  -- The next view serves, or the search goes on below it.
+  pub servingNext : (end w : ℕ) → end ≡ suc w → low ≤ w → servingView test low v end ≡ cond (test w) w (servingView test low v w)
+  unfolding servingView
+  servingNext end w is high = rw (is, le-ltb w low high)
 
 module _ (plans : List ℕ) (c : Search) (low p : ℕ) where
   abbrev serves : ℕ → ℕ
@@ -215,12 +227,7 @@ module _ (plans : List ℕ) (c : Search) (low p : ℕ) where
 
   -- Views below low are not tried.
   pub walkOver : (end : ℕ) → Below end → end ≤ low → c .v ≡ serves (endOf c)
-  unfolding servingView
-  walkOver end was over = go end over ∙ sym was
-    where
-      go : (end : ℕ) → end ≤ low → c .v ≡ serves end
-      go zero over = refl
-      go (suc w) over = rw (lt-ltb w low (omega arith))
+  walkOver end was over = sym (was ∙ servingNone (claimedIn plans c p) low (c .v) end over)
 
   -- All claimers of p at the next view w are counted.
   module _ (end w row k claimers : ℕ) (t : Tally) (was : Below end) (above : low < end) (is : w ≡ end - 1)
@@ -230,8 +237,7 @@ module _ (plans : List ℕ) (c : Search) (low p : ℕ) where
     claimersTell = rw (← tally, ← at, ← all) (ap (leb (c .f + 1)) count)
 
     step : serves end ≡ cond (claimedIn plans c p w) w (serves w)
-    unfolding servingView
-    step = let e : end ≡ suc w = omega arith in rw (e, le-ltb w low (omega arith))
+    step = servingNext (claimedIn plans c p) low (c .v) end w (omega arith) (omega arith)
 
     -- They are enough: w serves.
     pub walkFound : leb (c .f + 1) claimers ≡ true → w ≡ serves (endOf c)

@@ -148,7 +148,7 @@ fn end_of(c: Search) -> u32
 }
 
 // The tally of a candidate view, and where its row begins.
-fn tally_at(c: Search, w: u32) -> Tally
+pub fn tally_at(c: Search, w: u32) -> Tally
     ensures { λ t. ⌜ t ≡ tallyAt c w ⌝ }
 {
     if w == c.u {
@@ -157,7 +157,7 @@ fn tally_at(c: Search, w: u32) -> Tally
     c.next
 }
 
-fn place_at(c: Search, w: u32) -> usize
+pub fn place_at(c: Search, w: u32) -> usize
     ensures { λ r. ⌜ r ≡ placeAt c w ⌝ }
 {
     if w == c.u {
@@ -166,7 +166,7 @@ fn place_at(c: Search, w: u32) -> usize
     COLUMN
 }
 
-fn same(x: u64, p: u64) -> usize
+pub fn same(x: u64, p: u64) -> usize
     ensures { λ c. ⌜ c ≡ cond (eqb x p) 1 0 ⌝ }
 {
     if x == p { 1 } else { 0 }

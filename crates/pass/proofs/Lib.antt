@@ -1,4 +1,3 @@
 pub mod Steps
-pub mod Marks
 pub mod Runs
 pub mod Passes

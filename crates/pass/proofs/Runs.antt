@@ -1,26 +1,39 @@
--- Entries written one after the other, and steps run one after the other (document 01, 'Entries lie end to end'; 'One pass').
--- A step writes for one act at most, which has a size, so a pass never comes to the output's end.
+-- Entries written one after the other, and parts of a pass run one after the other (document 01, 'Entries lie end to end'; 'One pass').
 -- Assumes nothing.
 use Prim.Native.Nat.{ℕ, _+_, _≤_}
 use mathlib.Core.Path.{_≡_, refl, sym, _∙_, ap, subst}
 use mathlib.Core.List.{List, [], _∷_, _++_, append-assoc, append-nil}
 use native.Mathlib.Omega.{arith}
 use native.Mathlib.Nat.{add-zero}
-use lib.ListN.{length, length-append}
+use lib.ListN.{length, take, drop, length-append, drop-of-length-le}
+use lib.Seq.{take-all, take-length}
 use Rattle.wire.specs.Placed.{placed}
 use Rattle.wire.proofs.Output.{placed-none, placed-more, length-placed}
 use Rattle.entry.specs.declared.Entry.{Entry}
 use Rattle.entry.specs.Layout.{entryBytes, layout}
 use Rattle.entry.proofs.Theorems.{layout-more}
+use Rattle.layout.specs.Layout.{recordSize}
 use Rattle.protocol.specs.Record.{Record}
 use Rattle.protocol.specs.Pass.{Out, Step, onward, pass}
-use Rattle.protocol.proofs.Passes.{passJoin}
-use Rattle.contents.specs.Contents.{contents}
+use Rattle.contents.specs.Contents.{contentsIn, Ready}
 use Rattle.pass.specs.declared.Entries.{Entries}
 use Rattle.pass.specs.declared.Entries.the-variants.{Zero, One, Two, Three}
 use Rattle.pass.specs.declared.Stepped.{Stepped}
-use Rattle.pass.specs.declared.Passed.{Passed}
 use Rattle.pass.specs.Steps.{listOf, Took, Room, Ran}
+
+-- ---- a record copied
+
+-- All of some bytes, over as many: what is there then is what was copied.
+pub copied : (src dst : List ℕ) {after : List ℕ} → length dst ≡ length src → after ≡ take (length src) src ++ drop (length src) dst → after ≡ src
+copied src dst same e =
+    e ∙ rw (take-length src, drop-of-length-le dst {i = length src} (omega arith)) (append-nil src)
+
+-- The same of a part that is the whole.
+pub loaded : (rec dst : List ℕ) {after : List ℕ} → length rec ≡ recordSize → length dst ≡ recordSize
+    → after ≡ take (length (take recordSize rec)) (take recordSize rec) ++ drop (length (take recordSize rec)) dst → after ≡ rec
+loaded rec dst {after} whole size e =
+    let all : take recordSize rec ≡ rec = take-all recordSize rec (omega arith) in
+    copied rec dst (size ∙ sym whole) (subst (λ (l : List ℕ). after ≡ take (length l) l ++ drop (length l) dst) all e)
 
 -- ---- entries
 
@@ -41,7 +54,8 @@ module _ (at : ℕ) (o : List ℕ) (low : at ≤ length o) where
   wroteNone : Wrote at o [] at o
   wroteNone = (sym (add-zero at), sym (placed-none o at))
 
-  wroteMore : (es : List Entry) (e : Entry) {n m : ℕ} {o' o'' : List ℕ} → Wrote at o es n o' → Put n o' e m o'' → Wrote at o (es ++ (e ∷ [])) m o''
+  wroteMore : (es : List Entry) (e : Entry) {n m : ℕ} {o' o'' : List ℕ} → Wrote at o es n o' → Put n o' e m o''
+      → Wrote at o (es ++ (e ∷ [])) m o''
   wroteMore es e (n, p) (m, q) =
       (omega (arith, n, m, lengthMore es e), q ∙ (λ i. placed (p i) (n i) (entryBytes e)) ∙ layout-more o at es e low)
 
@@ -65,7 +79,8 @@ module _ (e : Entries) (at : ℕ) (o : List ℕ) (room : at + length (layout (li
 
       pub wroteThree : (c : Entry) {k : ℕ} {s : List ℕ} → Put m q c k s → e ≡ Three a b c → Wrote at o (listOf e) k s
       wroteThree c three is =
-          being (Three a b c) is (wroteMore at o low (a ∷ b ∷ []) c (wroteMore at o low (a ∷ []) b (wroteMore at o low [] a (wroteNone at o low) one) two) three)
+          being (Three a b c) is (wroteMore at o low (a ∷ b ∷ []) c
+          (wroteMore at o low (a ∷ []) b (wroteMore at o low [] a (wroteNone at o low) one) two) three)
 
 -- Their sizes.
 pub sizeOne : (e : Entries) (a : Entry) → e ≡ One a → length (layout (listOf e)) ≡ length (entryBytes a)
@@ -76,9 +91,41 @@ sizeTwo e a b is = ap (λ (f : Entries). length (layout (listOf f))) is ∙ omeg
 
 pub sizeThree : (e : Entries) (a b c : Entry) → e ≡ Three a b c
     → length (layout (listOf e)) ≡ length (entryBytes a) + length (entryBytes b) + length (entryBytes c)
-sizeThree e a b c is = ap (λ (f : Entries). length (layout (listOf f))) is ∙ omega (arith, lengthMore (a ∷ b ∷ []) c, lengthMore (a ∷ []) b, lengthMore [] a)
+sizeThree e a b c is =
+    ap (λ (f : Entries). length (layout (listOf f))) is ∙ omega (arith, lengthMore (a ∷ b ∷ []) c, lengthMore (a ∷ []) b, lengthMore [] a)
 
--- ---- steps
+-- ---- what an act or a step leaves, with its entries written
+
+module _ (o : Out) (e : Entries) (wrote : listOf e ≡ o .wrote) (at : ℕ) (out : List ℕ) where
+  -- The entries have the room that the act's have.
+  pub roomWritten : Room o at out → at + length (layout (listOf e)) ≤ length out
+  roomWritten = subst (λ (es : List Entry). at + length (layout es) ≤ length out) (sym wrote)
+
+  pub ranWritten : {rec : List ℕ} {n : ℕ} {after : List ℕ} → contentsIn rec ≡ o .left → Ready rec → Wrote at out (listOf e) n after
+      → Ran o at out after n rec
+  ranWritten left ready (count, bytes) = record {
+    left = left;
+    ready = ready;
+    count = count ∙ ap (λ (es : List Entry). at + length (layout es)) wrote;
+    bytes = bytes ∙ ap (λ (es : List Entry). placed out at (layout es)) wrote;
+  }
+
+-- A step on a copy of the record is one on the record, and what it left is stored.
+pub tookFrom : (s : Step) (t : Stepped) {copy rec : List ℕ} → copy ≡ rec → Took (s (contentsIn copy)) t → Took (s (contentsIn rec)) t
+tookFrom s t e = subst (λ (l : List ℕ). Took (s (contentsIn l)) t) e
+
+pub ranStored : (o : Out) (t : Stepped) → Took o t → (at : ℕ) (out : List ℕ) {rec : List ℕ} {n : ℕ} {after : List ℕ} → rec ≡ t .left .bytes
+    → Wrote at out (listOf (t .entries)) n after → Ran o at out after n rec
+ranStored o t took at out stored =
+    ranWritten o (t .entries) (took .wrote) at out (ap contentsIn stored ∙ took .left) (subst Ready (sym stored) (took .ready))
+
+-- Where there is nothing to do, nothing is written.
+pub ranNothing : (o : Out) (at : ℕ) (out rec : List ℕ) → o ≡ record { left = contentsIn rec; wrote = [] } → Ready rec → Ran o at out out at rec
+ranNothing o at out rec e ready =
+    subst (λ (u : Out). Ran u at out out at rec) (sym e)
+    (record { left = refl; ready = ready; count = sym (add-zero at); bytes = sym (placed-none out at) })
+
+-- ---- one part of a pass after the other
 
 layoutAppend : (es fs : List Entry) → layout (es ++ fs) ≡ layout es ++ layout fs
 layoutAppend [] fs = refl
@@ -87,57 +134,39 @@ layoutAppend (e ∷ es) fs = rw (append-assoc, layoutAppend es fs)
 lengthJoin : (es fs : List Entry) → length (layout (es ++ fs)) ≡ length (layout es) + length (layout fs)
 lengthJoin es fs = ap length (layoutAppend es fs) ∙ length-append (layout es) (layout fs)
 
--- A step alone is a pass.
-alone : (s : Step) (c : Record) → pass (s ∷ []) c ≡ s c
-unfolding pass
-alone s c = λ i. record { left = (s c) .left; wrote = append-nil ((s c) .wrote) i }
+-- What an act or a step leaves, and then the steps of a list.
+abbrev pub joined : Out → List Step → Out
+joined o rest = onward (o .wrote) (pass rest (o .left))
 
--- The entries of a step have the room that a pass of it has.
-pub roomOne : (s : Step) (c : Record) (t : Stepped) → Took (s c) t → (at : ℕ) (o : List ℕ) → Room (pass (s ∷ []) c) at o
-    → at + length (layout (listOf (t .entries))) ≤ length o
-roomOne s c t took at o room =
-    rw (took .wrote) (subst (λ (u : Out). Room u at o) (alone s c) room)
+module _ (o : Out) (rest : List Step) (at : ℕ) (out : List ℕ) where
+  size : length (layout ((joined o rest) .wrote)) ≡ length (layout (o .wrote)) + length (layout ((pass rest (o .left)) .wrote))
+  size = lengthJoin (o .wrote) ((pass rest (o .left)) .wrote)
 
-pub ranOne : (s : Step) (c : Record) (t : Stepped) → Took (s c) t → (at : ℕ) (o o' : List ℕ) (n : ℕ) → Wrote at o (listOf (t .entries)) n o'
-    → Ran (pass (s ∷ []) c) at o o' (record { left = t .left; count = n })
-ranOne s c t took at o o' n (count, bytes) =
-    subst (λ (u : Out). Ran u at o o' (record { left = t .left; count = n })) (sym (alone s c)) (record {
-      left = took .left;
-      ready = took .ready;
-      count = count ∙ ap (λ (es : List Entry). at + length (layout es)) (took .wrote);
-      bytes = bytes ∙ ap (λ (es : List Entry). placed o at (layout es)) (took .wrote);
-    })
+  pub roomFirst : Room (joined o rest) at out → Room o at out
+  roomFirst room = omega (arith, room, size)
 
--- A pass in two parts.
-module _ (a b : List Step) (c : Record) (at : ℕ) (o : List ℕ) where
-  abbrev joined : Out
-  joined = onward ((pass a c) .wrote) (pass b ((pass a c) .left))
+  module _ (room : Room (joined o rest) at out) {out' : List ℕ} {n : ℕ} {rec : List ℕ} (one : Ran o at out out' n rec) where
+    pub sizeNext : length out' ≡ length out
+    sizeNext = ap length (one .bytes) ∙ length-placed out at (layout (o .wrote)) (roomFirst room)
 
-  pub roomFirst : Room (pass (a ++ b) c) at o → Room (pass a c) at o
-  roomFirst room =
-      let all : Room joined at o = subst (λ (u : Out). Room u at o) (passJoin a b c) room in
-      omega (arith, all, lengthJoin ((pass a c) .wrote) ((pass b ((pass a c) .left)) .wrote))
+    pub roomNext : Room (pass rest (contentsIn rec)) n out'
+    roomNext = subst (λ (x : Record). Room (pass rest x) n out') (sym (one .left)) (omega (arith, room, size, one .count, sizeNext))
 
-  pub roomNext : Room (pass (a ++ b) c) at o → (p : Passed) (o' : List ℕ) → Ran (pass a c) at o o' p
-      → Room (pass b (contents (p .left))) (p .count) o'
-  roomNext room p o' ran =
-      let all : Room joined at o = subst (λ (u : Out). Room u at o) (passJoin a b c) room in
-      let size = lengthJoin ((pass a c) .wrote) ((pass b ((pass a c) .left)) .wrote) in
-      let same : length o' ≡ length o = ap length (ran .bytes) ∙ length-placed o at (layout ((pass a c) .wrote)) (roomFirst room) in
-      subst (λ (x : Record). Room (pass b x) (p .count) o') (sym (ran .left)) (omega (arith, all, size, ran .count, same))
+    pub ranJoin : {out'' : List ℕ} {m : ℕ} {left : List ℕ} → Ran (pass rest (contentsIn rec)) n out' out'' m left
+        → Ran (joined o rest) at out out'' m left
+    ranJoin {out''} {m} {left} two =
+        let low : at ≤ length out = omega (arith, room) in
+        record {
+          left = next .left;
+          ready = next .ready;
+          count = omega (arith, next .count, one .count, size);
+          bytes = next .bytes ∙ (λ i. placed (one .bytes i) (one .count i) more)
+              ∙ placed-more out at (layout (o .wrote)) more low
+              ∙ ap (placed out at) (sym (layoutAppend (o .wrote) ((pass rest (o .left)) .wrote)));
+        }
+      where
+        more : List ℕ
+        more = layout ((pass rest (o .left)) .wrote)
 
-  pub ranJoin : (p q : Passed) (o' o'' : List ℕ) → Room (pass (a ++ b) c) at o → Ran (pass a c) at o o' p
-      → Ran (pass b (contents (p .left))) (p .count) o' o'' q → Ran (pass (a ++ b) c) at o o'' q
-  ranJoin p q o' o'' room one two =
-      let low : at ≤ length o = omega (arith, room) in
-      subst (λ (u : Out). Ran u at o o'' q) (sym (passJoin a b c)) (record {
-        left = next .left;
-        ready = next .ready;
-        count = omega (arith, next .count, one .count, lengthJoin ((pass a c) .wrote) ((pass b ((pass a c) .left)) .wrote));
-        bytes = next .bytes ∙ (λ i. placed (one .bytes i) (one .count i) (layout ((pass b ((pass a c) .left)) .wrote)))
-            ∙ placed-more o at (layout ((pass a c) .wrote)) (layout ((pass b ((pass a c) .left)) .wrote)) low
-            ∙ ap (placed o at) (sym (layoutAppend ((pass a c) .wrote) ((pass b ((pass a c) .left)) .wrote)));
-      })
-    where
-      next : Ran (pass b ((pass a c) .left)) (p .count) o' o'' q
-      next = subst (λ (x : Record). Ran (pass b x) (p .count) o' o'' q) (one .left) two
+        next : Ran (pass rest (o .left)) n out' out'' m left
+        next = subst (λ (x : Record). Ran (pass rest x) n out' out'' m left) (one .left) two

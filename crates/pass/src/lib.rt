@@ -1,27 +1,30 @@
-// One pass: steps A to H, each on the record that the one before it left, with the entries that it writes.
-// A record has 12 KB, and is copied where it is handed over by value. So what only reads it has its arrays lent, and a step is entered
-// only where a test of the arrays lets it act.
+// Steps A to H of document 01's pass, by value, and one pass over lent bytes. What a step is to do is found where the record lies;
+// a record is loaded only where a step acts. What an act does to the bytes is said once, for both.
 use acts::Act;
 use entry::Entry;
 use frame::Body;
 use frame::Frame;
 use frame::Report;
 use frame::Reports;
-use record::Record;
-ghost use Prim.Native.Nat.{ℕ, _+_, _≤_, _<_};
+use settings::Settings;
+ghost use Prim.Native.Nat.{_+_, _≤_, _<_};
 ghost use mathlib.Core.Path.{_≡_};
-ghost use mathlib.Core.Bool.{false};
-ghost use mathlib.Core.List.{[], _∷_};
-ghost use mathlib.Core.Option.{none, some};
+ghost use mathlib.Core.Option.{some};
 ghost use lib.ListN.{length};
 ghost use Rattle.wire.specs.Placed.{placed};
 ghost use Rattle.entry.specs.Layout.{layout};
-ghost use Rattle.record.specs.Slots.{Arrays};
-ghost use Rattle.protocol.specs.Pass.{ask, enter, cast, decide, taken, stepA, stepB, stepC, stepD, stepVote, stepH, pass, fromC, fromA};
-ghost use Rattle.contents.specs.Contents.{contents, Clean};
-ghost use Rattle.acts.specs.Acts.{asAct, contentsOf, Fit, Marked};
-ghost use Rattle.pass.specs.Steps.{listOf, Ready, Seated, Votes, withNone, withOne, toldFor, Did, Took, Room, Ran};
-ghost use Rattle.pass.specs.Passes.{actAt, stepAt, stepsFrom, Skipped};
+ghost use Rattle.record.specs.Slots.{slotOf};
+ghost use Rattle.layout.specs.Layout.{recordSize, decodeRecord};
+ghost use Rattle.protocol.specs.Pass.{ask, enter, cast, decide, taken, actA, actB, actC, actD, actVote, actH, stepA, stepB, stepC, stepD, stepVote, stepH, pass};
+ghost use Rattle.contents.specs.Contents.{contentsIn, Ready};
+ghost use Rattle.acts.specs.Acts.{asAct, actAt};
+ghost use Rattle.pass.specs.Steps.{listOf, Votes, toldFor, Did, Took, Room, Ran};
+ghost use Rattle.pass.specs.Passes.{stepAt, stepsFrom};
+
+// A record by value: its bytes.
+pub struct Record {
+    pub bytes: [u8; layout::SIZE],
+}
 
 // The entries that a step writes: no step writes more than three.
 pub enum Entries {
@@ -37,97 +40,67 @@ pub struct Stepped {
     pub entries: Entries,
 }
 
-// What a pass hands back: the record, and where its bytes end.
-pub struct Passed {
-    pub left: Record,
-    pub count: usize,
-}
-
-// ---- what an act does
-
-// A record with no entry.
-fn no_entry(left: Record) -> Stepped
-    ensures { λ s. ⌜ s ≡ withNone left ⌝ }
+fn wide(x: u8) -> usize
+    ensures { λ r. ⌜ r ≡ x ⌝ }
 {
-    Stepped {
-        left,
-        entries: Entries::Zero,
-    }
+    x as usize
 }
 
-// A record with one entry.
-fn one_entry(left: Record, e: Entry) -> Stepped
-    ensures { λ s. ⌜ s ≡ withOne left e ⌝ }
-{
-    Stepped {
-        left,
-        entries: Entries::One(e),
-    }
-}
+// ---- what an act does, where the bytes lie
 
 // To ask for a view.
-pub fn ask_for(r: Record, w: u32) -> Stepped
-    requires { ⌜ Clean r × Seated r ⌝ }
-    ensures { λ s. ⌜ Did (taken (contents r) (some (ask w))) s ⌝ }
+fn ask_in(rec: &mut [u8], id: u8, w: u32) -> Entries
+    requires { ⌜ Ready (now rec) × (id ≡ decodeRecord (now rec) .set .id) ⌝ }
+    ensures { λ e. ⌜ Did (taken (contentsIn (now (rec .entry))) (some (ask w))) (now (rec .exit)) e ⌝ }
 {
     let f = Frame {
         kind: 6,
-        sender: r.id,
+        sender: id,
         view: w,
         body: Body::Empty,
     };
-    one_entry(kept::keep(r, r.id, f), Entry::ForAll(f))
+    keeping::keep(rec, id, f);
+    Entries::One(Entry::ForAll(f))
 }
 
 // To send a vote, or a proposal (0).
-fn send_vote(r: Record, k: u8, p: u64) -> Stepped
-    requires { ⌜ Clean r × Seated r × (k ≤ 4) ⌝ }
-    ensures { λ s. ⌜ Did (taken (contents r) (some (cast k p))) s ⌝ }
+fn cast_in(rec: &mut [u8], id: u8, view: u32, k: u8, p: u64) -> Entries
+    requires { ⌜ Ready (now rec) × (id ≡ decodeRecord (now rec) .set .id) × (view ≡ decodeRecord (now rec) .view) × (k ≤ 4) ⌝ }
+    ensures { λ e. ⌜ Did (taken (contentsIn (now (rec .entry))) (some (cast k p))) (now (rec .exit)) e ⌝ }
 {
     let f = Frame {
         kind: k + 1,
-        sender: r.id,
-        view: r.view,
+        sender: id,
+        view,
         body: Body::Plan(p),
     };
-    one_entry(keeping::own_broadcast(r, f), Entry::ForAll(f))
+    keeping::own_broadcast(rec, id, f);
+    Entries::One(Entry::ForAll(f))
 }
 
 // To decide a plan.
-fn decide_on(r: Record, p: u64) -> Stepped
-    requires { ⌜ Clean r ⌝ }
-    ensures { λ s. ⌜ Did (taken (contents r) (some (decide p))) s ⌝ }
+fn decide_in(rec: &mut [u8], view: u32, p: u64) -> Entries
+    requires { ⌜ Ready (now rec) × (view ≡ decodeRecord (now rec) .view) ⌝ }
+    ensures { λ e. ⌜ Did (taken (contentsIn (now (rec .entry))) (some (decide p))) (now (rec .exit)) e ⌝ }
 {
-    let view = r.view;
     let decision = Report {
         mark: 1,
         view,
         plan: p,
     };
-    one_entry(
-        r.with_slot(record::DECISION, decision),
-        Entry::Decision { view, plan: p },
-    )
+    layout::put_slot(rec, layout::DECISION, decision);
+    Entries::One(Entry::Decision { view, plan: p })
 }
 
 // The own suggest (kind 7) or proof (kind 8) for a view: the highest and the previous own vote of the kind `claim`, and the highest of
 // the kind `lock`.
-fn report_for<'a>(
-    marks: &'a [u8],
-    views: &'a [u32],
-    plans: &'a [u64],
-    id: u8,
-    w: u32,
-    kind: u8,
-    claim: u8,
-    lock: u8,
-) -> Frame
-    requires { ⌜ Arrays (now marks) (now views) (now plans) × (id < 64) × (2 ≤ claim) × (claim ≤ 3) × (1 ≤ lock) × (lock ≤ 8) ⌝ }
-    ensures { λ f. ⌜ f ≡ toldFor (now (marks .entry)) (now (views .entry)) (now (plans .entry)) id w kind claim lock ⌝ }
+fn report_for(rec: &[u8], id: u8, w: u32, kind: u8, claim: u8, lock: u8) -> Frame
+    requires { ⌜ (length (now rec) ≡ recordSize) × (id < 64) × (2 ≤ claim) × (claim ≤ 3) × (1 ≤ lock) × (lock ≤ 8) ⌝ }
+    ensures { λ f. ⌜ f ≡ toldFor (slotOf (decodeRecord (now (rec .entry)))) id w kind claim lock ⌝ }
 {
-    let highest = record::slot_in(marks, views, plans, record::frame_slot(claim, id));
-    let previous = record::slot_in(marks, views, plans, record::previous_slot(claim));
-    let locked = record::slot_in(marks, views, plans, record::frame_slot(lock, id));
+    let highest = layout::slot_of(rec, layout::frame_slot(claim, id));
+    let previous = layout::slot_of(rec, layout::previous_slot(claim));
+    let locked = layout::slot_of(rec, layout::frame_slot(lock, id));
     Frame {
         kind,
         sender: id,
@@ -141,150 +114,165 @@ fn report_for<'a>(
 }
 
 // To enter a view.
-fn enter_view(r: Record, w: u32) -> Stepped
-    requires { ⌜ Clean r × Seated r ⌝ }
-    ensures { λ s. ⌜ Did (taken (contents r) (some (enter w))) s ⌝ }
+fn enter_in(rec: &mut [u8], set: Settings, w: u32) -> Entries
+    requires { ⌜ Ready (now rec) × (set ≡ decodeRecord (now rec) .set) ⌝ }
+    ensures { λ e. ⌜ Did (taken (contentsIn (now (rec .entry))) (some (enter w))) (now (rec .exit)) e ⌝ }
 {
-    let proof = report_for(&r.marks, &r.views, &r.plans, r.id, w, 8, 2, 5);
-    let suggest = report_for(&r.marks, &r.views, &r.plans, r.id, w, 7, 3, 4);
-    let millis = settings::timer_millis(r.class);
-    let to = acts::leader(w, r.n as usize) as u8;
-    let proved = kept::keep(r.with_view(w), r.id, proof);
-    if to == r.id {
-        return Stepped {
-            left: kept::keep(proved, r.id, suggest),
-            entries: Entries::Two(Entry::Timer { view: w, millis }, Entry::ForAll(proof)),
-        };
+    let proof = report_for(rec, set.id, w, 8, 2, 5);
+    let suggest = report_for(rec, set.id, w, 7, 3, 4);
+    let millis = settings::timer_millis(set.class);
+    let to = acts::leader(w, wide(set.n)) as u8;
+    layout::put_view(rec, w);
+    keeping::keep(rec, set.id, proof);
+    if to == set.id {
+        keeping::keep(rec, set.id, suggest);
+        return Entries::Two(Entry::Timer { view: w, millis }, Entry::ForAll(proof));
     }
-    Stepped {
-        left: proved,
-        entries: Entries::Three(
-            Entry::Timer { view: w, millis },
-            Entry::ForAll(proof),
-            Entry::ForOne(to, suggest),
-        ),
-    }
+    Entries::Three(
+        Entry::Timer { view: w, millis },
+        Entry::ForAll(proof),
+        Entry::ForOne(to, suggest),
+    )
 }
 
 // The act is done.
-fn act_on(r: Record, act: Act) -> Stepped
-    requires { ⌜ Clean r × Seated r × Votes (asAct act) ⌝ }
-    ensures { λ s. ⌜ Did (taken (contents r) (asAct act)) s ⌝ }
+fn act_in(rec: &mut [u8], act: Act) -> Entries
+    requires { ⌜ Ready (now rec) × Votes (asAct act) ⌝ }
+    ensures { λ e. ⌜ Did (taken (contentsIn (now (rec .entry))) (asAct act)) (now (rec .exit)) e ⌝ }
 {
+    let set = layout::settings_of(rec);
+    let view = layout::view_of(rec);
     match act {
-        Act::Ask(w) => ask_for(r, w),
-        Act::Enter(w) => enter_view(r, w),
-        Act::Cast(k, p) => send_vote(r, k, p),
-        Act::Decide(p) => decide_on(r, p),
-        Act::Nothing => no_entry(r),
+        Act::Ask(w) => ask_in(rec, set.id, w),
+        Act::Enter(w) => enter_in(rec, set, w),
+        Act::Cast(k, p) => cast_in(rec, set.id, view, k, p),
+        Act::Decide(p) => decide_in(rec, view, p),
+        Act::Nothing => Entries::Zero,
     }
 }
 
 // ---- steps
 
-// What the step of a number, 0 to 7 for A to H, is to do.
-fn act_at<'a>(
-    marks: &'a [u8],
-    views: &'a [u32],
-    plans: &'a [u64],
-    n: usize,
-    f: usize,
-    id: usize,
-    view: u32,
-    start: u64,
-    k: u8,
-) -> Act
-    requires { ⌜ Fit n f id (now marks) (now views) (now plans) × Marked (now marks) × (k < 8) ⌝ }
-    ensures { λ r. ⌜ ((class : ℕ) → asAct r ≡ actAt k (contentsOf n f id class view start (now (marks .entry)) (now (views .entry)) (now (plans .entry)))) ⌝ }
-{
-    match k {
-        0 => acts::act_a(marks, views, plans, n, f, id, view),
-        1 => acts::act_b(marks, views, plans, n, f, id, view),
-        2 => acts::act_c(marks, views, plans, n, f, id, view, start),
-        3 => acts::act_d(marks, views, plans, n, f, id, view),
-        4..=6 => acts::act_vote(marks, views, plans, n, f, id, view, k - 3),
-        _ => acts::act_h(marks, views, plans, n, f, id, view),
-    }
-}
-
-// A vault by value: each step takes it, and hands back its record with the entries.
-pub struct Vault {
-    pub state: Record,
-}
-
-impl Vault {
-    // The step of a number.
-    fn step(self, k: u8) -> Stepped
-        requires { ⌜ Ready (self .state) × (k < 8) ⌝ }
-        ensures { λ s. ⌜ Took (stepAt k (contents (self .state))) s ⌝ }
+impl Record {
+    // The act is done on a record by value.
+    fn act_on(self, act: Act) -> Stepped
+        requires { ⌜ Ready (self .bytes) × Votes (asAct act) ⌝ }
+        ensures { λ s. ⌜ Did (taken (contentsIn (self .bytes)) (asAct act)) (s .left .bytes) (s .entries) ⌝ }
     {
-        let act = act_at(
-            &self.state.marks,
-            &self.state.views,
-            &self.state.plans,
-            self.state.n as usize,
-            self.state.f as usize,
-            self.state.id as usize,
-            self.state.view,
-            self.state.plan,
-            k,
-        );
-        act_on(self.state, act)
+        let mut bytes = self.bytes;
+        let entries = act_in(&mut bytes, act);
+        Stepped {
+            left: Record { bytes },
+            entries,
+        }
     }
 
     // A: to ask for a view that f + 1 vaults ask for.
-    pub fn step_a(self) -> Stepped
-        requires { ⌜ Ready (self .state) ⌝ }
-        ensures { λ s. ⌜ Took (stepA (contents (self .state))) s ⌝ }
+    pub fn step_a(self, act: Act) -> Stepped
+        requires { ⌜ Ready (self .bytes) × (asAct act ≡ actA (contentsIn (self .bytes))) ⌝ }
+        ensures { λ s. ⌜ Took (stepA (contentsIn (self .bytes))) s ⌝ }
     {
-        self.step(0)
+        self.act_on(act)
     }
 
     // B: to enter a view that a quorum asks for.
-    pub fn step_b(self) -> Stepped
-        requires { ⌜ Ready (self .state) ⌝ }
-        ensures { λ s. ⌜ Took (stepB (contents (self .state))) s ⌝ }
+    pub fn step_b(self, act: Act) -> Stepped
+        requires { ⌜ Ready (self .bytes) × (asAct act ≡ actB (contentsIn (self .bytes))) ⌝ }
+        ensures { λ s. ⌜ Took (stepB (contentsIn (self .bytes))) s ⌝ }
     {
-        self.step(1)
+        self.act_on(act)
     }
 
     // C: to propose, where the vault leads.
-    pub fn step_c(self) -> Stepped
-        requires { ⌜ Ready (self .state) ⌝ }
-        ensures { λ s. ⌜ Took (stepC (contents (self .state))) s ⌝ }
+    pub fn step_c(self, act: Act) -> Stepped
+        requires { ⌜ Ready (self .bytes) × (asAct act ≡ actC (contentsIn (self .bytes))) ⌝ }
+        ensures { λ s. ⌜ Took (stepC (contentsIn (self .bytes))) s ⌝ }
     {
-        self.step(2)
+        self.act_on(act)
     }
 
     // D: to send vote-1 for the leader's proposal.
-    pub fn step_d(self) -> Stepped
-        requires { ⌜ Ready (self .state) ⌝ }
-        ensures { λ s. ⌜ Took (stepD (contents (self .state))) s ⌝ }
+    pub fn step_d(self, act: Act) -> Stepped
+        requires { ⌜ Ready (self .bytes) × (asAct act ≡ actD (contentsIn (self .bytes))) ⌝ }
+        ensures { λ s. ⌜ Took (stepD (contentsIn (self .bytes))) s ⌝ }
     {
-        self.step(3)
+        self.act_on(act)
     }
 
-    // E, F, G for k = 1, 2, 3: to send vote-2, vote-3, vote-4.
-    pub fn step_vote(self, k: u8) -> Stepped
-        requires { ⌜ Ready (self .state) × (1 ≤ k) × (k ≤ 3) ⌝ }
-        ensures { λ s. ⌜ Took (stepVote k (contents (self .state))) s ⌝ }
+    // E: to send vote-2 on a quorum of vote-1.
+    pub fn step_e(self, act: Act) -> Stepped
+        requires { ⌜ Ready (self .bytes) × (asAct act ≡ actVote (contentsIn (self .bytes)) 1) ⌝ }
+        ensures { λ s. ⌜ Took (stepVote 1 (contentsIn (self .bytes))) s ⌝ }
     {
-        self.step(k + 3)
+        self.act_on(act)
+    }
+
+    // F: to send vote-3 on a quorum of vote-2.
+    pub fn step_f(self, act: Act) -> Stepped
+        requires { ⌜ Ready (self .bytes) × (asAct act ≡ actVote (contentsIn (self .bytes)) 2) ⌝ }
+        ensures { λ s. ⌜ Took (stepVote 2 (contentsIn (self .bytes))) s ⌝ }
+    {
+        self.act_on(act)
+    }
+
+    // G: to send vote-4 on a quorum of vote-3.
+    pub fn step_g(self, act: Act) -> Stepped
+        requires { ⌜ Ready (self .bytes) × (asAct act ≡ actVote (contentsIn (self .bytes)) 3) ⌝ }
+        ensures { λ s. ⌜ Took (stepVote 3 (contentsIn (self .bytes))) s ⌝ }
+    {
+        self.act_on(act)
     }
 
     // H: to decide.
-    pub fn step_h(self) -> Stepped
-        requires { ⌜ Ready (self .state) ⌝ }
-        ensures { λ s. ⌜ Took (stepH (contents (self .state))) s ⌝ }
+    pub fn step_h(self, act: Act) -> Stepped
+        requires { ⌜ Ready (self .bytes) × (asAct act ≡ actH (contentsIn (self .bytes))) ⌝ }
+        ensures { λ s. ⌜ Took (stepH (contentsIn (self .bytes))) s ⌝ }
     {
-        self.step(7)
+        self.act_on(act)
     }
+
+    // The step of a number, 0 to 7 for A to H.
+    fn step_at(self, k: u8, act: Act) -> Stepped
+        requires { ⌜ Ready (self .bytes) × (k < 8) × (asAct act ≡ actAt k (contentsIn (self .bytes))) ⌝ }
+        ensures { λ s. ⌜ Took (stepAt k (contentsIn (self .bytes))) s ⌝ }
+    {
+        match k {
+            0 => self.step_a(act),
+            1 => self.step_b(act),
+            2 => self.step_c(act),
+            3 => self.step_d(act),
+            4 => self.step_e(act),
+            5 => self.step_f(act),
+            6 => self.step_g(act),
+            _ => self.step_h(act),
+        }
+    }
+}
+
+// ---- the record by value, and back
+
+// One copy. Its length is a constant, so that the array is not filled first.
+fn load(rec: &[u8]) -> Record
+    requires { ⌜ length (now rec) ≡ recordSize ⌝ }
+    ensures { λ r. ⌜ r .bytes ≡ now (rec .entry) ⌝ }
+{
+    let mut bytes = [0; layout::SIZE];
+    let count = bytes::copy(&rec[0..layout::SIZE], &mut bytes);
+    Record { bytes }
+}
+
+// One copy back.
+fn store(r: Record, rec: &mut [u8])
+    requires { ⌜ length (now rec) ≡ recordSize ⌝ }
+    ensures { λ _. ⌜ now (rec .exit) ≡ r .bytes ⌝ }
+{
+    let count = bytes::copy(&r.bytes, rec);
 }
 
 // ---- the entries, end to end
 
 // Writes the entries of a step from a place on, and answers the next place.
-pub fn write_entries(out: &mut [u8], at: usize, e: Entries) -> usize
+fn write_entries(out: &mut [u8], at: usize, e: Entries) -> usize
     requires { ⌜ at + length (layout (listOf e)) ≤ length (now out) ⌝ }
     ensures { λ r. ⌜ (r ≡ at + length (layout (listOf e))) × (now (out .exit) ≡ placed (now (out .entry)) at (layout (listOf e))) ⌝ }
 {
@@ -305,150 +293,51 @@ pub fn write_entries(out: &mut [u8], at: usize, e: Entries) -> usize
 
 // ---- one step after the other, with the entries written from a place on
 
-// Whether C has a plan to look for: the vault leads its view and has not proposed in it.
-fn may_propose<'a>(
-    marks: &'a [u8],
-    views: &'a [u32],
-    plans: &'a [u64],
-    n: usize,
-    id: usize,
-    view: u32,
-) -> bool
-    requires { ⌜ Arrays (now marks) (now views) (now plans) × (n ≤ 64) × (id < n) × Marked (now marks) ⌝ }
-    ensures { λ b. ⌜ (b ≡ false → (f class start : ℕ) → actAt 2 (contentsOf n f id class view start (now (marks .entry)) (now (views .entry)) (now (plans .entry))) ≡ none) ⌝ }
+// The step of a number on a record by value, with its entries written.
+fn run_step(rec: &mut [u8], k: u8, act: Act, out: &mut [u8], at: usize) -> usize
+    requires { ⌜ Ready (now rec) × (k < 8) × (asAct act ≡ actAt k (contentsIn (now rec))) × Room (stepAt k (contentsIn (now rec))) at (now out) ⌝ }
+    ensures { λ count. ⌜ Ran (stepAt k (contentsIn (now (rec .entry)))) at (now (out .entry)) (now (out .exit)) count (now (rec .exit)) ⌝ }
 {
-    if acts::leader(view, n) != id {
-        return false;
-    }
-    !acts::sent(record::slot_in(marks, views, plans, id), view)
-}
-
-// Whether D has a plan to look at: vote-1 was not sent in this view, and the leader's proposal for it is kept.
-fn may_approve<'a>(
-    marks: &'a [u8],
-    views: &'a [u32],
-    plans: &'a [u64],
-    n: usize,
-    id: usize,
-    view: u32,
-) -> bool
-    requires { ⌜ Arrays (now marks) (now views) (now plans) × (n ≤ 64) × (id < n) × Marked (now marks) ⌝ }
-    ensures { λ b. ⌜ (b ≡ false → (f class start : ℕ) → actAt 3 (contentsOf n f id class view start (now (marks .entry)) (now (views .entry)) (now (plans .entry))) ≡ none) ⌝ }
-{
-    if acts::sent(record::slot_in(marks, views, plans, 64 + id), view) {
-        return false;
-    }
-    acts::sent(
-        record::slot_in(marks, views, plans, acts::leader(view, n)),
-        view,
-    )
-}
-
-// Whether the step of a number may act. C's and D's searches for safe plans are dear, and are left to the steps.
-fn may_act<'a>(
-    marks: &'a [u8],
-    views: &'a [u32],
-    plans: &'a [u64],
-    n: usize,
-    f: usize,
-    id: usize,
-    view: u32,
-    start: u64,
-    k: u8,
-) -> bool
-    requires { ⌜ Fit n f id (now marks) (now views) (now plans) × Marked (now marks) × (k < 8) ⌝ }
-    ensures { λ b. ⌜ (b ≡ false → (class : ℕ) → actAt k (contentsOf n f id class view start (now (marks .entry)) (now (views .entry)) (now (plans .entry))) ≡ none) ⌝ }
-{
-    if k == 2 {
-        return may_propose(marks, views, plans, n, id, view);
-    }
-    if k == 3 {
-        return may_approve(marks, views, plans, n, id, view);
-    }
-    let act = act_at(marks, views, plans, n, f, id, view, start, k);
-    match act {
-        Act::Nothing => false,
-        _ => true,
-    }
-}
-
-// The first step from a number on that may act, 8 where none does.
-fn next_step<'a>(
-    marks: &'a [u8],
-    views: &'a [u32],
-    plans: &'a [u64],
-    n: usize,
-    f: usize,
-    id: usize,
-    view: u32,
-    start: u64,
-    from: u8,
-) -> u8
-    requires { ⌜ Fit n f id (now marks) (now views) (now plans) × Marked (now marks) × (from ≤ 8) ⌝ }
-    ensures { λ k. ⌜ Skipped from k (λ class. contentsOf n f id class view start (now (marks .entry)) (now (views .entry)) (now (plans .entry))) ⌝ }
-{
-    let mut k = from;
-    while k < 8 {
-        if may_act(marks, views, plans, n, f, id, view, start, k) {
-            return k;
-        }
-        k += 1;
-    }
-    k
-}
-
-// The step of a number, with its entries written from a place on.
-fn run_step(r: Record, k: u8, out: &mut [u8], at: usize) -> Passed
-    requires { ⌜ Ready r × (k < 8) × Room (pass (stepAt k ∷ []) (contents r)) at (now out) ⌝ }
-    ensures { λ p. ⌜ Ran (pass (stepAt k ∷ []) (contents r)) at (now (out .entry)) (now (out .exit)) p ⌝ }
-{
-    let v = Vault { state: r };
-    let s = v.step(k);
+    let r = load(rec);
+    let s = r.step_at(k, act);
     let entries = s.entries;
     let left = s.left;
-    let count = write_entries(out, at, entries);
-    Passed { left, count }
+    store(left, rec);
+    write_entries(out, at, entries)
 }
 
-// The steps from a number on, of which those are taken that may act.
-fn pass_from(r: Record, from: u8, out: &mut [u8], at: usize) -> Passed
-    requires { ⌜ Ready r × (from ≤ 8) × Room (pass (stepsFrom from) (contents r)) at (now out) ⌝ }
-    ensures { λ p. ⌜ Ran (pass (stepsFrom from) (contents r)) at (now (out .entry)) (now (out .exit)) p ⌝ }
+// The same; where there is nothing to do, no record is loaded.
+fn take_step(rec: &mut [u8], k: u8, act: Act, out: &mut [u8], at: usize) -> usize
+    requires { ⌜ Ready (now rec) × (k < 8) × (asAct act ≡ actAt k (contentsIn (now rec))) × Room (stepAt k (contentsIn (now rec))) at (now out) ⌝ }
+    ensures { λ count. ⌜ Ran (stepAt k (contentsIn (now (rec .entry)))) at (now (out .entry)) (now (out .exit)) count (now (rec .exit)) ⌝ }
 {
-    let mut p = Passed { left: r, count: at };
-    let mut k = from;
-    loop {
-        k = next_step(
-            &p.left.marks,
-            &p.left.views,
-            &p.left.plans,
-            p.left.n as usize,
-            p.left.f as usize,
-            p.left.id as usize,
-            p.left.view,
-            p.left.plan,
-            k,
-        );
-        if k == 8 {
-            return p;
-        }
-        p = run_step(p.left, k, out, p.count);
-        k += 1;
+    match act {
+        Act::Nothing => at,
+        _ => run_step(rec, k, act, out, at),
     }
 }
 
-// One pass from C, as after a start.
-pub fn pass_c(r: Record, out: &mut [u8], at: usize) -> Passed
-    requires { ⌜ Ready r × Room (pass fromC (contents r)) at (now out) ⌝ }
-    ensures { λ p. ⌜ Ran (pass fromC (contents r)) at (now (out .entry)) (now (out .exit)) p ⌝ }
+// One pass from the step of a number on: 0 from A, 2 from C.
+pub fn pass_from(rec: &mut [u8], set: Settings, from: u8, out: &mut [u8], at: usize) -> usize
+    requires { ⌜ Ready (now rec) × (set ≡ decodeRecord (now rec) .set) × (from ≤ 8) × Room (pass (stepsFrom from) (contentsIn (now rec))) at (now out) ⌝ }
+    ensures { λ count. ⌜ Ran (pass (stepsFrom from) (contentsIn (now (rec .entry)))) at (now (out .entry)) (now (out .exit)) count (now (rec .exit)) ⌝ }
 {
-    pass_from(r, 2, out, at)
+    let mut count = at;
+    let mut k = from;
+    while k < 8 {
+        let view = layout::view_of(rec);
+        let act = acts::act_at(rec, set, view, k);
+        count = take_step(rec, k, act, out, count);
+        k += 1;
+    }
+    count
 }
 
-// One pass from A.
-pub fn pass_a(r: Record, out: &mut [u8], at: usize) -> Passed
-    requires { ⌜ Ready r × Room (pass fromA (contents r)) at (now out) ⌝ }
-    ensures { λ p. ⌜ Ran (pass fromA (contents r)) at (now (out .entry)) (now (out .exit)) p ⌝ }
+// To ask for a view when the timer says so: where the bytes lie, with the entry written.
+pub fn ask_for(rec: &mut [u8], set: Settings, w: u32, out: &mut [u8], at: usize) -> usize
+    requires { ⌜ Ready (now rec) × (set ≡ decodeRecord (now rec) .set) × (decodeRecord (now rec) .view < w) × Room (taken (contentsIn (now rec)) (some (ask w))) at (now out) ⌝ }
+    ensures { λ count. ⌜ Ran (taken (contentsIn (now (rec .entry))) (some (ask w))) at (now (out .entry)) (now (out .exit)) count (now (rec .exit)) ⌝ }
 {
-    pass_from(r, 0, out, at)
+    let entries = ask_in(rec, set.id, w);
+    write_entries(out, at, entries)
 }

@@ -1,40 +1,45 @@
-// Safe plans (document 01, 'When a plan is safe'): Rule 1, Rule 3, and step C's choice, over the reports kept.
-ghost use Prim.Native.Nat.{_+_, _-_, _≤_, _<_, min};
+// Safe plans (document 01, 'When a plan is safe'): Rule 1, Rule 3, and step C's choice, over a lent table of reports.
+// What a search needs is prepared once: who claims which plan at view u and at the next view, and whose lock allows which plan at view u.
+use claims::Search;
+use claims::Tally;
+use settings::Settings;
+ghost use Prim.Native.Nat.{_+_, _-_, _*_, _≤_, _<_};
 ghost use mathlib.Core.Path.{_≡_};
-ghost use mathlib.Core.Bool.{cond, not, true, false, _&&_, _||_};
-ghost use lib.Dec.{leb};
+ghost use mathlib.Core.Bool.{cond, not, true, false, _&&_};
+ghost use mathlib.Core.Option.{none};
+ghost use lib.ListN.{length, getD};
 ghost use Rattle.quorum.specs.Sets.{equals};
-ghost use Rattle.rules.specs.Options.{isNone, holds};
-ghost use Rattle.rules.specs.Rules.{reporting, unlocked, fits, allows, rule1, rule3};
-ghost use Rattle.rules.specs.Counts.{claimed, free, allowed, planOr, twoSets, safe, namedPlan, smaller, smallest, choice};
+ghost use Rattle.settings.specs.Settings.{vaultsOf};
+ghost use Rattle.rules.specs.Options.{isNone};
+ghost use Rattle.rules.specs.Rules.{reporting, unlocked, allows, rule1, rule3};
+ghost use Rattle.rules.specs.Counts.{free, twoSets, safe, smaller, choice};
 ghost use Rattle.rules.specs.Views.{lockSpan, lowestView, Lowest};
-ghost use Rattle.claims.specs.Layout.{voteOf, voteAt, reporter, reportsIn, Laid};
+ghost use Rattle.claims.specs.Rows.{rowsSize, Stance, Tells, SameBelow, claimedIn, endOf};
 ghost use Rattle.claims.specs.Spans.{AreSpans};
+ghost use Rattle.claims.specs.Table.{column, tableSize, reportsIn};
 ghost use Rattle.safe.specs.Choices.{ruleOf, chosen, better, apart, Found};
+ghost use Rattle.safe.specs.Searches.{lockRow, allowedIn, servedFrom, safeIn, passesIn, triedAt, triedCount, smallestFrom, smallestOf, Pair, Falling, Laid, Prepared};
 
-// 'A quorum is n - f or more vaults'.
-pub fn is_quorum(count: usize, n: usize, f: usize) -> bool
-    requires { ⌜ f < n ⌝ }
-    ensures { λ b. ⌜ b ≡ leb (n - f) count ⌝ }
+// Where the row of locks begins, and the places of all rows.
+const LOCKS: usize = 128;
+
+const ROOM: usize = 192;
+
+fn wide(x: u8) -> usize
+    ensures { λ r. ⌜ r ≡ x ⌝ }
 {
-    n - f <= count
+    x as usize
 }
 
+// ---- locks
+
 // What vault r adds to the reporters that have no lock.
-fn unlocked_share<'a>(
-    kept: &'a [u8],
-    at: &'a [u32],
-    marks: &'a [u8],
-    views: &'a [u32],
-    plans: &'a [u64],
-    r: usize,
-    v: u32,
-) -> usize
-    requires { ⌜ Laid (now kept) (now at) (now marks) (now views) (now plans) × (r < 64) ⌝ }
-    ensures { λ c. ⌜ c ≡ cond (reporting (reportsIn (now (kept .entry)) (now (at .entry)) (now (marks .entry)) (now (views .entry)) (now (plans .entry)) v) unlocked r) 1 0 ⌝ }
+fn unlocked_share<'a>(table: &'a [u64], r: usize) -> usize
+    requires { ⌜ (length (now table) ≡ tableSize) × (r < column) ⌝ }
+    ensures { λ c. ⌜ c ≡ cond (reporting (reportsIn (now (table .entry))) unlocked r) 1 0 ⌝ }
 {
-    if claims::reported(kept, at, r, v) {
-        if marks[128 + r] == 0 {
+    if claims::reported(table, r) {
+        if table[claims::LOCK + r] == 0 {
             return 1;
         }
         return 0;
@@ -43,137 +48,46 @@ fn unlocked_share<'a>(
 }
 
 // Whether 'some quorum q of reporters has no lock at all'.
-fn free<'a>(
-    kept: &'a [u8],
-    at: &'a [u32],
-    marks: &'a [u8],
-    views: &'a [u32],
-    plans: &'a [u64],
-    n: usize,
-    f: usize,
-    v: u32,
-) -> bool
-    requires { ⌜ Laid (now kept) (now at) (now marks) (now views) (now plans) × (n ≤ 64) × (f < n) ⌝ }
-    ensures { λ b. ⌜ b ≡ free (equals n f) (reportsIn (now (kept .entry)) (now (at .entry)) (now (marks .entry)) (now (views .entry)) (now (plans .entry)) v) ⌝ }
-{
-    let mut unlocked: usize = 0;
-    let mut r: usize = 0;
-    while r < n {
-        unlocked += unlocked_share(kept, at, marks, views, plans, r, v);
-        r += 1;
-    }
-    is_quorum(unlocked, n, f)
-}
-
-// Whether a lock, if there is one, does not stand against p at view u.
-fn lock_allows(mark: u8, view: u32, plan: u64, p: u64, u: u32) -> bool
-    ensures { λ b. ⌜ b ≡ (isNone (voteOf mark view plan) || holds (fits p u) (voteOf mark view plan)) ⌝ }
-{
-    if mark == 0 {
-        return true;
-    }
-    if u < view {
-        return false;
-    }
-    if view == u {
-        return plan == p;
-    }
-    true
-}
-
-// What vault r adds to the reporters whose lock does not stand against p at view u.
-fn allow_share<'a>(
-    kept: &'a [u8],
-    at: &'a [u32],
-    marks: &'a [u8],
-    views: &'a [u32],
-    plans: &'a [u64],
-    r: usize,
-    v: u32,
-    p: u64,
-    u: u32,
-) -> usize
-    requires { ⌜ Laid (now kept) (now at) (now marks) (now views) (now plans) × (r < 64) ⌝ }
-    ensures { λ c. ⌜ c ≡ cond (reporting (reportsIn (now (kept .entry)) (now (at .entry)) (now (marks .entry)) (now (views .entry)) (now (plans .entry)) v) (allows p u) r) 1 0 ⌝ }
-{
-    if claims::reported(kept, at, r, v) {
-        let s = 128 + r;
-        if lock_allows(marks[s], views[s], plans[s], p, u) {
-            return 1;
-        }
-        return 0;
-    }
-    0
-}
-
-// Whether some quorum of reporters has no lock that stands against p at view u.
-fn allowed<'a>(
-    kept: &'a [u8],
-    at: &'a [u32],
-    marks: &'a [u8],
-    views: &'a [u32],
-    plans: &'a [u64],
-    n: usize,
-    f: usize,
-    v: u32,
-    p: u64,
-    u: u32,
-) -> bool
-    requires { ⌜ Laid (now kept) (now at) (now marks) (now views) (now plans) × (n ≤ 64) × (f < n) ⌝ }
-    ensures { λ b. ⌜ b ≡ allowed (equals n f) (reportsIn (now (kept .entry)) (now (at .entry)) (now (marks .entry)) (now (views .entry)) (now (plans .entry)) v) p u ⌝ }
+fn free<'a>(table: &'a [u64], n: usize, f: usize) -> bool
+    requires { ⌜ (length (now table) ≡ tableSize) × (n ≤ column) × (f < n) ⌝ }
+    ensures { λ b. ⌜ b ≡ free (equals n f) (reportsIn (now (table .entry))) ⌝ }
 {
     let mut count: usize = 0;
     let mut r: usize = 0;
     while r < n {
-        count += allow_share(kept, at, marks, views, plans, r, v, p, u);
+        count += unlocked_share(table, r);
         r += 1;
     }
-    is_quorum(count, n, f)
-}
-
-fn lesser(a: u32, b: u32) -> u32
-    ensures { λ r. ⌜ r ≡ min a b ⌝ }
-{
-    if a < b { a } else { b }
+    claims::is_quorum(count, n, f)
 }
 
 // In how many views below v vault r has a lock above the view: in all where it has not reported.
-fn lock_span<'a>(
-    kept: &'a [u8],
-    at: &'a [u32],
-    marks: &'a [u8],
-    views: &'a [u32],
-    plans: &'a [u64],
-    r: usize,
-    v: u32,
-) -> u32
-    requires { ⌜ Laid (now kept) (now at) (now marks) (now views) (now plans) × (r < 64) ⌝ }
-    ensures { λ t. ⌜ t ≡ lockSpan v (reportsIn (now (kept .entry)) (now (at .entry)) (now (marks .entry)) (now (views .entry)) (now (plans .entry)) v r) ⌝ }
+fn lock_span<'a>(table: &'a [u64], r: usize, v: u32) -> u32
+    requires { ⌜ (length (now table) ≡ tableSize) × (r < column) ⌝ }
+    ensures { λ t. ⌜ t ≡ lockSpan v (reportsIn (now (table .entry)) r) ⌝ }
 {
-    if claims::reported(kept, at, r, v) {
-        let s = 128 + r;
-        return lesser(claims::view_of(marks[s], views[s]), v);
+    if claims::reported(table, r) {
+        let above = table[claims::LOCK + r];
+        if claims::long(v) < above {
+            return v;
+        }
+        if above == 0 {
+            return 0;
+        }
+        return (above - 1) as u32;
     }
     v
 }
 
 // These spans of the first n vaults.
-fn lock_spans<'a>(
-    kept: &'a [u8],
-    at: &'a [u32],
-    marks: &'a [u8],
-    views: &'a [u32],
-    plans: &'a [u64],
-    n: usize,
-    v: u32,
-) -> [u32; 64]
-    requires { ⌜ Laid (now kept) (now at) (now marks) (now views) (now plans) × (n ≤ 64) ⌝ }
-    ensures { λ t. ⌜ AreSpans t n (λ i. lockSpan v (reportsIn (now (kept .entry)) (now (at .entry)) (now (marks .entry)) (now (views .entry)) (now (plans .entry)) v i)) ⌝ }
+fn lock_spans<'a>(table: &'a [u64], n: usize, v: u32) -> [u32; claims::COLUMN]
+    requires { ⌜ (length (now table) ≡ tableSize) × (n ≤ column) ⌝ }
+    ensures { λ t. ⌜ AreSpans t n (λ i. lockSpan v (reportsIn (now (table .entry)) i)) ⌝ }
 {
-    let mut spans = [0u32; 64];
+    let mut spans = [0u32; claims::COLUMN];
     let mut r: usize = 0;
     while r < n {
-        spans[r] = lock_span(kept, at, marks, views, plans, r, v);
+        spans[r] = lock_span(table, r, v);
         r += 1;
     }
     spans
@@ -181,22 +95,121 @@ fn lock_spans<'a>(
 
 // The lowest view that can serve a plan, v where there is none: some quorum of reporters has no lock above it.
 // Below it no plan is allowed, above it every plan is.
-fn lowest_view<'a>(
-    kept: &'a [u8],
-    at: &'a [u32],
-    marks: &'a [u8],
-    views: &'a [u32],
-    plans: &'a [u64],
-    n: usize,
-    f: usize,
-    v: u32,
-) -> u32
-    requires { ⌜ Laid (now kept) (now at) (now marks) (now views) (now plans) × (n ≤ 64) ⌝ }
-    ensures { λ u. ⌜ u ≡ lowestView (equals n f) (reportsIn (now (kept .entry)) (now (at .entry)) (now (marks .entry)) (now (views .entry)) (now (plans .entry)) v) v ⌝ }
+fn lowest_view<'a>(table: &'a [u64], n: usize, f: usize, v: u32) -> u32
+    requires { ⌜ (length (now table) ≡ tableSize) × (n ≤ column) ⌝ }
+    ensures { λ u. ⌜ u ≡ lowestView (equals n f) (reportsIn (now (table .entry))) v ⌝ }
 {
-    let spans = lock_spans(kept, at, marks, views, plans, n, v);
-    claims::serving_view(&spans, n, f, v)
+    let spans = lock_spans(table, n, v);
+    claims::lowest_cleared(&spans, n, f, v)
 }
+
+// Which plans the lock of vault r allows at view u: every plan where it has none or a lower one, its own where it is at view u.
+fn allow_share<'a>(table: &'a [u64], r: usize, u: u64) -> Tally
+    requires { ⌜ (length (now table) ≡ tableSize) × (r < column) ⌝ }
+    ensures { λ t. ⌜ Stance (λ p. reporting (reportsIn (now (table .entry))) (allows p u) r) (getD (now (table .entry)) (column * 6 + r) 0) (t .every) (t .some) ⌝ }
+{
+    if claims::reported(table, r) {
+        let above = table[claims::LOCK + r];
+        if above <= u {
+            return Tally { every: 1, some: 0 };
+        }
+        if above - 1 == u {
+            return Tally { every: 0, some: 1 };
+        }
+        return Tally { every: 0, some: 0 };
+    }
+    Tally { every: 0, some: 0 }
+}
+
+// Whose lock allows which plan at view u: the row of locks is written.
+fn locks_at<'a>(table: &'a [u64], n: usize, u: u32, plans: &mut [u64]) -> Tally
+    requires { ⌜ (length (now table) ≡ tableSize) × (n ≤ column) × (length (now plans) ≡ rowsSize) ⌝ }
+    ensures { λ t. ⌜ (length (now (plans .exit)) ≡ rowsSize) × SameBelow (now (plans .entry)) (now (plans .exit)) lockRow × Tells (reportsIn (now (table .entry))) n (λ p. allows p u) (now (plans .exit)) lockRow t ⌝ }
+{
+    let view = claims::long(u);
+    let mut every: usize = 0;
+    let mut some: usize = 0;
+    let mut r: usize = 0;
+    while r < n {
+        let share = allow_share(table, r, view);
+        plans[LOCKS + some] = table[claims::LOCKED + r];
+        every += share.every;
+        some += share.some;
+        r += 1;
+    }
+    Tally {
+        every: every,
+        some: some,
+    }
+}
+
+// ---- what is prepared
+
+struct Parts {
+    plans: [u64; ROOM],
+    search: Search,
+}
+
+// All rows, for the search that starts at view u.
+fn prepare<'a>(table: &'a [u64], n: usize, f: usize, u: u32, v: u32) -> Parts
+    requires { ⌜ (length (now table) ≡ tableSize) × (n ≤ column) × (f < n) × (u < v) ⌝ }
+    ensures { λ r. ⌜ Prepared (reportsIn (now (table .entry))) (r .search) (r .plans) × (r .search .n ≡ n) × (r .search .f ≡ f) × (r .search .u ≡ u) × (r .search .v ≡ v) ⌝ }
+{
+    let mut plans = [0u64; ROOM];
+    let here = claims::claims_at(table, n, u, &mut plans, 0);
+    let next = claims::claims_at(table, n, u + 1, &mut plans, claims::COLUMN);
+    let locks = locks_at(table, n, u, &mut plans);
+    Parts {
+        plans: plans,
+        search: Search {
+            n: n,
+            f: f,
+            u: u,
+            v: v,
+            here: here,
+            next: next,
+            locks: locks,
+        },
+    }
+}
+
+// ---- one plan
+
+// Whether some quorum of reporters has no lock that stands against p at view u.
+fn allowed<'a>(plans: &'a [u64], c: Search, p: u64) -> bool
+    requires { ⌜ Laid c (now plans) ⌝ }
+    ensures { λ b. ⌜ b ≡ allowedIn (now (plans .entry)) c p ⌝ }
+{
+    let some = c.locks.some;
+    let mut count = c.locks.every;
+    let mut r: usize = 0;
+    while r < some {
+        count += claims::same(plans[LOCKS + r], p);
+        r += 1;
+    }
+    claims::is_quorum(count, c.n, c.f)
+}
+
+// Whether a candidate view, not below low, serves p.
+fn served<'a>(plans: &'a [u64], c: Search, low: u32, p: u64) -> bool
+    requires { ⌜ Laid c (now plans) ⌝ }
+    ensures { λ b. ⌜ b ≡ servedFrom (now (plans .entry)) c low p ⌝ }
+{
+    claims::serving_view(plans, c, low, p) < c.v
+}
+
+// Whether p is safe by Rule 1: view u can serve it where the locks there allow it, and the next view can.
+fn safe_one<'a>(plans: &'a [u64], c: Search, p: u64) -> bool
+    requires { ⌜ Laid c (now plans) ⌝ }
+    ensures { λ b. ⌜ b ≡ safeIn (now (plans .entry)) c p ⌝ }
+{
+    if allowed(plans, c, p) {
+        return served(plans, c, c.u, p);
+    }
+    served(plans, c, c.u + 1, p)
+}
+
+// ---- the two-set clause
 
 // A plan, or none.
 pub enum Choice {
@@ -223,89 +236,43 @@ fn differs(spare: Choice, x: u64) -> bool
     }
 }
 
-// Plan 0, or 1 where 0 is left out: it stands for all plans that no highest vote is for.
+// Plan 0, or 1 where 0 is left out: it stands for all plans that are in no row.
 fn first_plan(spare: Choice) -> u64
     ensures { λ x. ⌜ apart x (chosen spare) ≡ true ⌝ }
 {
     if differs(spare, 0) { 0 } else { 1 }
 }
 
-// The plan in slot s of vault r, d where the vault has not reported or the slot is empty.
-fn plan_or<'a>(
-    kept: &'a [u8],
-    at: &'a [u32],
-    marks: &'a [u8],
-    views: &'a [u32],
-    plans: &'a [u64],
-    r: usize,
-    s: usize,
-    v: u32,
-    d: u64,
-) -> u64
-    requires { ⌜ Laid (now kept) (now at) (now marks) (now views) (now plans) × (r < 64) × (s < 192) ⌝ }
-    ensures { λ x. ⌜ x ≡ cond (reporter (now (kept .entry)) (now (at .entry)) v r) (planOr d (voteAt (now (marks .entry)) (now (views .entry)) (now (plans .entry)) s)) d ⌝ }
-{
-    if claims::reported(kept, at, r, v) {
-        if marks[s] == 0 {
-            return d;
-        }
-        return plans[s];
-    }
-    d
-}
-
-// Whether plan x is not left out and is claimed at view u. The plan tried last, which did not pass, is not tried again.
-fn other_claimed<'a>(
-    kept: &'a [u8],
-    at: &'a [u32],
-    marks: &'a [u8],
-    views: &'a [u32],
-    plans: &'a [u64],
-    n: usize,
-    f: usize,
-    v: u32,
-    u: u32,
-    spare: Choice,
-    last: u64,
-    x: u64,
-) -> bool
-    requires { ⌜ Laid (now kept) (now at) (now marks) (now views) (now plans) × (n ≤ 64) × ((apart last (chosen spare) && claimed (equals n f) (reportsIn (now kept) (now at) (now marks) (now views) (now plans) v) last u) ≡ false) ⌝ }
-    ensures { λ b. ⌜ b ≡ (apart x (chosen spare) && claimed (equals n f) (reportsIn (now (kept .entry)) (now (at .entry)) (now (marks .entry)) (now (views .entry)) (now (plans .entry)) v) x u) ⌝ }
+// Whether plan x is not left out and is claimed at view w. The plan tried last, which did not pass, is not tried again.
+fn other_claimed<'a>(plans: &'a [u64], c: Search, w: u32, spare: Choice, last: u64, x: u64) -> bool
+    requires { ⌜ Laid c (now plans) × ((apart last (chosen spare) && servedFrom (now plans) c w last) ≡ false) ⌝ }
+    ensures { λ b. ⌜ b ≡ (apart x (chosen spare) && servedFrom (now (plans .entry)) c w x) ⌝ }
 {
     if x != last {
         if differs(spare, x) {
-            return claims::claimed(kept, at, marks, views, plans, n, f, v, x, u);
+            return served(plans, c, w, x);
         }
     }
     false
 }
 
-// A plan that is claimed at view u, if any, and is not left out: the first plan, or a highest vote's.
-// Where a vault has no highest vote, the plan tried last stands in.
-fn find_claimed<'a>(
-    kept: &'a [u8],
-    at: &'a [u32],
-    marks: &'a [u8],
-    views: &'a [u32],
-    plans: &'a [u64],
-    n: usize,
-    f: usize,
-    v: u32,
-    u: u32,
-    spare: Choice,
-) -> Choice
-    requires { ⌜ Laid (now kept) (now at) (now marks) (now views) (now plans) × (n ≤ 64) ⌝ }
-    ensures { λ c. ⌜ Found (λ x. apart x (chosen spare) && claimed (equals n f) (reportsIn (now (kept .entry)) (now (at .entry)) (now (marks .entry)) (now (views .entry)) (now (plans .entry)) v) x u) (chosen c) ⌝ }
+// A plan that is claimed at the candidate view w, if any, and is not left out: the first plan, or one of the row.
+fn find_claimed<'a>(plans: &'a [u64], c: Search, w: u32, spare: Choice) -> Choice
+    requires { ⌜ Laid c (now plans) × Falling (now plans) c × (c .u ≤ w) × (w < endOf c) ⌝ }
+    ensures { λ r. ⌜ Found (λ x. apart x (chosen spare) && claimedIn (now (plans .entry)) c x w) (chosen r) ⌝ }
 {
     let first = first_plan(spare);
-    if claims::claimed(kept, at, marks, views, plans, n, f, v, first, u) {
+    if served(plans, c, w, first) {
         return Choice::Plan(first);
     }
+    let row = claims::place_at(c, w);
+    let tally = claims::tally_at(c, w);
+    let some = tally.some;
     let mut last = first;
     let mut r: usize = 0;
-    while r < n {
-        let x = plan_or(kept, at, marks, views, plans, r, r, v, last);
-        if other_claimed(kept, at, marks, views, plans, n, f, v, u, spare, last, x) {
+    while r < some {
+        let x = plans[row + r];
+        if other_claimed(plans, c, w, spare, last, x) {
             return Choice::Plan(x);
         }
         last = x;
@@ -315,127 +282,79 @@ fn find_claimed<'a>(
 }
 
 // The two-set clause at view u: a plan that is claimed at the next view, and another plan that is claimed at u.
-fn two_sets<'a>(
-    kept: &'a [u8],
-    at: &'a [u32],
-    marks: &'a [u8],
-    views: &'a [u32],
-    plans: &'a [u64],
-    n: usize,
-    f: usize,
-    v: u32,
-    u: u32,
-) -> bool
-    requires { ⌜ Laid (now kept) (now at) (now marks) (now views) (now plans) × (n ≤ 64) × (u < v) ⌝ }
-    ensures { λ b. ⌜ b ≡ twoSets (equals n f) (reportsIn (now (kept .entry)) (now (at .entry)) (now (marks .entry)) (now (views .entry)) (now (plans .entry)) v) v u ⌝ }
+fn two_sets<'a>(plans: &'a [u64], c: Search) -> bool
+    requires { ⌜ Laid c (now plans) × Falling (now plans) c × (c .u + 1 < c .v) ⌝ }
+    ensures { λ b. ⌜ Pair (λ x. claimedIn (now (plans .entry)) c x (c .u + 1)) (λ x. claimedIn (now (plans .entry)) c x (c .u)) b ⌝ }
 {
-    if u + 1 < v {
-        let next = find_claimed(
-            kept,
-            at,
-            marks,
-            views,
-            plans,
-            n,
-            f,
-            v,
-            u + 1,
-            Choice::Nothing,
-        );
-        if is_plan(next) {
-            return is_plan(find_claimed(kept, at, marks, views, plans, n, f, v, u, next));
-        }
+    let next = find_claimed(plans, c, c.u + 1, Choice::Nothing);
+    if is_plan(next) {
+        return is_plan(find_claimed(plans, c, c.u, next));
     }
     false
 }
 
-// Whether p is safe by Rule 1 in view v above 0, where u is the lowest view that can serve a plan.
-// View u serves p or, where its locks stand against p, the next view does; or none does, as claims fall with the view.
-fn safe_one<'a>(
-    kept: &'a [u8],
-    at: &'a [u32],
-    marks: &'a [u8],
-    views: &'a [u32],
-    plans: &'a [u64],
-    n: usize,
-    f: usize,
-    v: u32,
-    p: u64,
-    u: u32,
-) -> bool
-    requires { ⌜ Laid (now kept) (now at) (now marks) (now views) (now plans) × (n ≤ 64) × (f < n) × Lowest (equals n f) (reportsIn (now kept) (now at) (now marks) (now views) (now plans) v) v u ⌝ }
-    ensures { λ b. ⌜ b ≡ safe rule1 (equals n f) (reportsIn (now (kept .entry)) (now (at .entry)) (now (marks .entry)) (now (views .entry)) (now (plans .entry)) v) v p ⌝ }
+// The same at the next view, where that is below v.
+fn two_sets_after<'a>(table: &'a [u64], c: Search) -> bool
+    requires { ⌜ (length (now table) ≡ tableSize) × (c .n ≤ column) × (c .f < c .n) × (c .u + 1 < c .v) ⌝ }
+    ensures { λ b. ⌜ b ≡ twoSets (equals (c .n) (c .f)) (reportsIn (now (table .entry))) (c .v) (c .u + 1) ⌝ }
 {
-    if claims::claimed(kept, at, marks, views, plans, n, f, v, p, u) {
-        if allowed(kept, at, marks, views, plans, n, f, v, p, u) {
-            return true;
-        }
-        if u + 1 < v {
-            return claims::claimed(kept, at, marks, views, plans, n, f, v, p, u + 1);
-        }
+    let low = c.u + 1;
+    if low + 1 < c.v {
+        let later = prepare(table, c.n, c.f, low, c.v);
+        return two_sets(&later.plans, later.search);
     }
     false
 }
 
-// The same by Rule 3, which also accepts the two-set clause at that view.
-fn safe_three<'a>(
-    kept: &'a [u8],
-    at: &'a [u32],
-    marks: &'a [u8],
-    views: &'a [u32],
-    plans: &'a [u64],
-    n: usize,
-    f: usize,
-    v: u32,
-    p: u64,
-    u: u32,
-) -> bool
-    requires { ⌜ Laid (now kept) (now at) (now marks) (now views) (now plans) × (n ≤ 64) × (f < n) × Lowest (equals n f) (reportsIn (now kept) (now at) (now marks) (now views) (now plans) v) v u ⌝ }
-    ensures { λ b. ⌜ b ≡ safe rule3 (equals n f) (reportsIn (now (kept .entry)) (now (at .entry)) (now (marks .entry)) (now (views .entry)) (now (plans .entry)) v) v p ⌝ }
+// ---- Rules 1 and 3
+
+// Whether p is safe by Rule 3, which also accepts the two-set clause at the view that Rule 1 goes by.
+fn safe_three<'a>(table: &'a [u64], plans: &'a [u64], c: Search, p: u64) -> bool
+    requires { ⌜ (length (now table) ≡ tableSize) × (c .n ≤ column) × Prepared (reportsIn (now table)) c (now plans) × Lowest (equals (c .n) (c .f)) (reportsIn (now table)) (c .v) (c .u) ⌝ }
+    ensures { λ b. ⌜ b ≡ safe rule3 (equals (c .n) (c .f)) (reportsIn (now (table .entry))) (c .v) p ⌝ }
 {
-    if safe_one(kept, at, marks, views, plans, n, f, v, p, u) {
+    if safe_one(plans, c, p) {
         return true;
     }
-    if allowed(kept, at, marks, views, plans, n, f, v, p, u) {
-        return two_sets(kept, at, marks, views, plans, n, f, v, u);
-    }
-    if u + 1 < v {
-        return two_sets(kept, at, marks, views, plans, n, f, v, u + 1);
+    if c.u + 1 < c.v {
+        if allowed(plans, c, p) {
+            return two_sets(plans, c);
+        }
+        return two_sets_after(table, c);
     }
     false
 }
 
 // Whether p is safe in view v: by Rule 3 where three is set, by Rule 1 where not.
-pub fn safe_by<'a>(
-    kept: &'a [u8],
-    at: &'a [u32],
-    marks: &'a [u8],
-    views: &'a [u32],
-    plans: &'a [u64],
-    n: usize,
-    f: usize,
-    v: u32,
-    p: u64,
-    three: bool,
-) -> bool
-    requires { ⌜ Laid (now kept) (now at) (now marks) (now views) (now plans) × (n ≤ 64) × (f < n) ⌝ }
-    ensures { λ b. ⌜ b ≡ safe (ruleOf three) (equals n f) (reportsIn (now (kept .entry)) (now (at .entry)) (now (marks .entry)) (now (views .entry)) (now (plans .entry)) v) v p ⌝ }
+fn safe_among<'a>(table: &'a [u64], n: usize, f: usize, v: u32, p: u64, three: bool) -> bool
+    requires { ⌜ (length (now table) ≡ tableSize) × (n ≤ column) × (f < n) ⌝ }
+    ensures { λ b. ⌜ b ≡ safe (ruleOf three) (equals n f) (reportsIn (now (table .entry))) v p ⌝ }
 {
     if v == 0 {
         return true;
     }
-    if free(kept, at, marks, views, plans, n, f, v) {
+    if free(table, n, f) {
         return true;
     }
-    let u = lowest_view(kept, at, marks, views, plans, n, f, v);
+    let u = lowest_view(table, n, f, v);
     if u < v {
+        let s = prepare(table, n, f, u, v);
         if three {
-            return safe_three(kept, at, marks, views, plans, n, f, v, p, u);
+            return safe_three(table, &s.plans, s.search, p);
         }
-        return safe_one(kept, at, marks, views, plans, n, f, v, p, u);
+        return safe_one(&s.plans, s.search, p);
     }
     false
 }
+
+pub fn safe_by<'a>(table: &'a [u64], set: Settings, v: u32, p: u64, three: bool) -> bool
+    requires { ⌜ (length (now table) ≡ tableSize) × (set .n ≤ 64) × (set .f < set .n) ⌝ }
+    ensures { λ b. ⌜ b ≡ safe (ruleOf three) (vaultsOf set) (reportsIn (now (table .entry))) v p ⌝ }
+{
+    safe_among(table, wide(set.n), wide(set.f), v, p, three)
+}
+
+// ---- step C
 
 // Whether x is smaller than the plan chosen so far, if any.
 fn improves(best: Choice, x: u64) -> bool
@@ -447,29 +366,37 @@ fn improves(best: Choice, x: u64) -> bool
     }
 }
 
-// The smallest safe plan, once x has been tried. The plan tried last is not tried again.
-fn smaller_safe<'a>(
-    kept: &'a [u8],
-    at: &'a [u32],
-    marks: &'a [u8],
-    views: &'a [u32],
+// Whether view u serves a lock's plan, or the next view a highest vote's.
+fn passes<'a>(plans: &'a [u64], c: Search, locked: bool, x: u64) -> bool
+    requires { ⌜ Laid c (now plans) ⌝ }
+    ensures { λ b. ⌜ b ≡ passesIn (now (plans .entry)) c locked x ⌝ }
+{
+    if locked {
+        if allowed(plans, c, x) {
+            return served(plans, c, c.u, x);
+        }
+        return false;
+    }
+    served(plans, c, c.u + 1, x)
+}
+
+// The smallest plan that passes, once x has been tried. The plan tried last is not tried again.
+fn smaller_passing<'a>(
     plans: &'a [u64],
-    n: usize,
-    f: usize,
-    v: u32,
-    u: u32,
+    c: Search,
+    locked: bool,
     last: u64,
     x: u64,
     best: Choice,
 ) -> Choice
-    requires { ⌜ Laid (now kept) (now at) (now marks) (now views) (now plans) × (n ≤ 64) × (f < n) × Lowest (equals n f) (reportsIn (now kept) (now at) (now marks) (now views) (now plans) v) v u × (smaller (safe rule1 (equals n f) (reportsIn (now kept) (now at) (now marks) (now views) (now plans) v) v last) last (chosen best) ≡ chosen best) ⌝ }
-    ensures { λ c. ⌜ chosen c ≡ smaller (safe rule1 (equals n f) (reportsIn (now (kept .entry)) (now (at .entry)) (now (marks .entry)) (now (views .entry)) (now (plans .entry)) v) v x) x (chosen best) ⌝ }
+    requires { ⌜ Laid c (now plans) × (smaller (passesIn (now plans) c locked last) last (chosen best) ≡ chosen best) ⌝ }
+    ensures { λ r. ⌜ chosen r ≡ smaller (passesIn (now (plans .entry)) c locked x) x (chosen best) ⌝ }
 {
     if x == last {
         return best;
     }
     if improves(best, x) {
-        if safe_one(kept, at, marks, views, plans, n, f, v, x, u) {
+        if passes(plans, c, locked, x) {
             return Choice::Plan(x);
         }
         return best;
@@ -477,85 +404,72 @@ fn smaller_safe<'a>(
     best
 }
 
-// The i-th of the plans that reports name, of locks and then of highest votes; d where there is none.
-fn plan_at<'a>(
-    kept: &'a [u8],
-    at: &'a [u32],
-    marks: &'a [u8],
-    views: &'a [u32],
-    plans: &'a [u64],
-    n: usize,
-    v: u32,
-    i: usize,
-    d: u64,
-) -> u64
-    requires { ⌜ Laid (now kept) (now at) (now marks) (now views) (now plans) × (n ≤ 64) × (i < n + n) ⌝ }
-    ensures { λ x. ⌜ x ≡ namedPlan (reportsIn (now (kept .entry)) (now (at .entry)) (now (marks .entry)) (now (views .entry)) (now (plans .entry)) v) n d i ⌝ }
+// Where the plans to try begin, of locks or of votes, and how many there are.
+fn tried_at(locked: bool) -> usize
+    ensures { λ r. ⌜ r ≡ triedAt locked ⌝ }
 {
-    if i < n {
-        return plan_or(kept, at, marks, views, plans, i, 128 + i, v, d);
-    }
-    let r = i - n;
-    plan_or(kept, at, marks, views, plans, r, r, v, d)
+    if locked { LOCKS } else { claims::COLUMN }
 }
 
-// The smallest plan that is safe by Rule 1, where start is not: among the plans that reports name.
-// Where one names none, the plan tried last stands in.
-fn smallest_safe<'a>(
-    kept: &'a [u8],
-    at: &'a [u32],
-    marks: &'a [u8],
-    views: &'a [u32],
-    plans: &'a [u64],
-    n: usize,
-    f: usize,
-    v: u32,
-    u: u32,
-    start: u64,
-) -> Choice
-    requires { ⌜ Laid (now kept) (now at) (now marks) (now views) (now plans) × (n ≤ 64) × (f < n) × Lowest (equals n f) (reportsIn (now kept) (now at) (now marks) (now views) (now plans) v) v u × (safe rule1 (equals n f) (reportsIn (now kept) (now at) (now marks) (now views) (now plans) v) v start ≡ false) ⌝ }
-    ensures { λ c. ⌜ chosen c ≡ smallest (safe rule1 (equals n f) (reportsIn (now (kept .entry)) (now (at .entry)) (now (marks .entry)) (now (views .entry)) (now (plans .entry)) v) v) (namedPlan (reportsIn (now (kept .entry)) (now (at .entry)) (now (marks .entry)) (now (views .entry)) (now (plans .entry)) v) n start) (n + n) ⌝ }
+fn tried_count(c: Search, locked: bool) -> usize
+    ensures { λ r. ⌜ r ≡ triedCount c locked ⌝ }
 {
-    let end = n + n;
-    let mut best = Choice::Nothing;
+    if locked { c.locks.some } else { c.next.some }
+}
+
+// The smallest plan that passes, of one row, or the best so far where that is smaller. The plan start does not pass.
+fn smallest_in<'a>(plans: &'a [u64], c: Search, locked: bool, start: u64, best: Choice) -> Choice
+    requires { ⌜ Laid c (now plans) × (passesIn (now plans) c locked start ≡ false) ⌝ }
+    ensures { λ r. ⌜ chosen r ≡ smallestFrom (chosen best) (passesIn (now (plans .entry)) c locked) (λ i. getD (now (plans .entry)) (triedAt locked + i) 0) (triedCount c locked) ⌝ }
+{
+    let at = tried_at(locked);
+    let count = tried_count(c, locked);
+    let mut found = best;
     let mut last = start;
-    let mut i: usize = 0;
-    while i < end {
-        let x = plan_at(kept, at, marks, views, plans, n, v, i, last);
-        best = smaller_safe(kept, at, marks, views, plans, n, f, v, u, last, x, best);
+    let mut r: usize = 0;
+    while r < count {
+        let x = plans[at + r];
+        found = smaller_passing(plans, c, locked, last, x, found);
         last = x;
-        i += 1;
+        r += 1;
     }
-    best
+    found
+}
+
+// The smallest plan that is safe by Rule 1, where start is not: of the locks at view u, and of the votes that claim at the next view.
+fn smallest_safe<'a>(plans: &'a [u64], c: Search, start: u64) -> Choice
+    requires { ⌜ Laid c (now plans) × (passesIn (now plans) c true start ≡ false) × (passesIn (now plans) c false start ≡ false) ⌝ }
+    ensures { λ r. ⌜ chosen r ≡ smallestOf (now (plans .entry)) c ⌝ }
+{
+    let best = smallest_in(plans, c, true, start, Choice::Nothing);
+    smallest_in(plans, c, false, start, best)
 }
 
 // Step C: 'proposes its starting plan if that is safe by Rule 1, else the smallest safe plan, else waits'.
-pub fn choose<'a>(
-    kept: &'a [u8],
-    at: &'a [u32],
-    marks: &'a [u8],
-    views: &'a [u32],
-    plans: &'a [u64],
-    n: usize,
-    f: usize,
-    v: u32,
-    start: u64,
-) -> Choice
-    requires { ⌜ Laid (now kept) (now at) (now marks) (now views) (now plans) × (n ≤ 64) × (f < n) ⌝ }
-    ensures { λ c. ⌜ chosen c ≡ choice (equals n f) (reportsIn (now (kept .entry)) (now (at .entry)) (now (marks .entry)) (now (views .entry)) (now (plans .entry)) v) v start ⌝ }
+fn choose_among<'a>(table: &'a [u64], n: usize, f: usize, v: u32, start: u64) -> Choice
+    requires { ⌜ (length (now table) ≡ tableSize) × (n ≤ column) × (f < n) ⌝ }
+    ensures { λ c. ⌜ chosen c ≡ choice (equals n f) (reportsIn (now (table .entry))) v start ⌝ }
 {
     if v == 0 {
         return Choice::Plan(start);
     }
-    if free(kept, at, marks, views, plans, n, f, v) {
+    if free(table, n, f) {
         return Choice::Plan(start);
     }
-    let u = lowest_view(kept, at, marks, views, plans, n, f, v);
+    let u = lowest_view(table, n, f, v);
     if u < v {
-        if safe_one(kept, at, marks, views, plans, n, f, v, start, u) {
+        let s = prepare(table, n, f, u, v);
+        if safe_one(&s.plans, s.search, start) {
             return Choice::Plan(start);
         }
-        return smallest_safe(kept, at, marks, views, plans, n, f, v, u, start);
+        return smallest_safe(&s.plans, s.search, start);
     }
     Choice::Nothing
+}
+
+pub fn choose<'a>(table: &'a [u64], set: Settings, v: u32, start: u64) -> Choice
+    requires { ⌜ (length (now table) ≡ tableSize) × (set .n ≤ 64) × (set .f < set .n) ⌝ }
+    ensures { λ c. ⌜ chosen c ≡ choice (vaultsOf set) (reportsIn (now (table .entry))) v start ⌝ }
+{
+    choose_among(table, wide(set.n), wide(set.f), v, start)
 }

@@ -18,7 +18,7 @@ use Rattle.runs.proofs.Demand.{demand3By}
 use Rattle.tied.specs.Tied.{Contract, byStart, byFrame, byTimer}
 
 contractFixed : (rec : List ℕ) (a : Call) (out : List ℕ) (left : Left) → Contract rec a out left → left ≡ leaves rec a out
-contractFixed rec a out left (byStart κs r o n f id class plan answer rec′ out′ learnt) = learnt
+contractFixed rec a out left (byStart κs r o set plan answer rec′ out′ learnt) = learnt
 contractFixed rec a out left (byFrame κs r s o link answer rec′ out′ learnt) = learnt
 contractFixed rec a out left (byTimer κs r o view answer rec′ out′ learnt) = learnt
 
@@ -42,8 +42,8 @@ lent xs = record { ptr = (0, 0); name = 0; now = xs }
 
 fixedContract : (rec : List ℕ) (a : Call) (out : List ℕ) (left : Left) → left ≡ leaves rec a out → Contract rec a out left
 unfolding lent
-fixedContract rec (start n f id class plan) out (wrote count rec′ out′) e = byStart ([], ([], tt)) (lent rec) (lent out) n f id class plan (Written count) rec′ out′ e
-fixedContract rec (start n f id class plan) out (gave number rec′ out′) e = byStart ([], ([], tt)) (lent rec) (lent out) n f id class plan (Refused number) rec′ out′ e
+fixedContract rec (start set plan) out (wrote count rec′ out′) e = byStart ([], ([], tt)) (lent rec) (lent out) set plan (Written count) rec′ out′ e
+fixedContract rec (start set plan) out (gave number rec′ out′) e = byStart ([], ([], tt)) (lent rec) (lent out) set plan (Refused number) rec′ out′ e
 fixedContract rec (frame link bytes) out (wrote count rec′ out′) e = byFrame ([], ([], ([], tt))) (lent rec) (lent bytes) (lent out) link (Written count) rec′ out′ e
 fixedContract rec (frame link bytes) out (gave number rec′ out′) e = byFrame ([], ([], ([], tt))) (lent rec) (lent bytes) (lent out) link (Refused number) rec′ out′ e
 fixedContract rec (timer view) out (wrote count rec′ out′) e = byTimer ([], ([], tt)) (lent rec) (lent out) view (Written count) rec′ out′ e

@@ -4,6 +4,7 @@ use Prim.Native.Nat.{ℕ}
 use mathlib.Core.List.{List}
 use contract.Lifetimes.{Lfts}
 use denote.Ref.{RefT, now, at-last}
+use Rattle.settings.specs.declared.Settings.{Settings}
 use Rattle.vault.specs.declared.Answer.{Answer}
 use Rattle.vault.specs.Answers.{leftBy}
 use Rattle.vault.proofs.start.Reads as ofStart
@@ -14,9 +15,9 @@ use Rattle.runs.specs.Runs.{Call, start, frame, timer}
 
 -- Record r and output space o are lent, and have the bytes rec′ and out′ when the call is back.
 pub data Contract : List ℕ → Call → List ℕ → Left → Type 0 where
-  byStart : (κs : Lfts 2) (r o : RefT (List ℕ)) (n f id class plan : ℕ) (a : Answer) (rec′ out′ : List ℕ)
-      → ofStart.Learnt κs (r, (n, (f, (id, (class, (plan, (o, tt))))))) a (at-last r rec′, (n, (f, (id, (class, (plan, (at-last o out′, tt)))))))
-      → Contract (now r) (start n f id class plan) (now o) (leftBy a rec′ out′)
+  byStart : (κs : Lfts 2) (r o : RefT (List ℕ)) (set : Settings) (plan : ℕ) (a : Answer) (rec′ out′ : List ℕ)
+      → ofStart.Learnt κs (r, (set, (plan, (o, tt)))) a (at-last r rec′, (set, (plan, (at-last o out′, tt))))
+      → Contract (now r) (start set plan) (now o) (leftBy a rec′ out′)
   byFrame : (κs : Lfts 3) (r s o : RefT (List ℕ)) (link : ℕ) (a : Answer) (rec′ out′ : List ℕ)
       → ofFrame.Learnt κs (r, (link, (s, (o, tt)))) a (at-last r rec′, (link, (s, (at-last o out′, tt))))
       → Contract (now r) (frame link (now s)) (now o) (leftBy a rec′ out′)

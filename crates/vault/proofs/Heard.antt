@@ -1,13 +1,12 @@
--- What a frame leaves, by the test that decides it (document 01, 'Refusals, place by place', rows 9 to 17, and 'One pass'): the
--- code's rows 16 and 17 read slots, and document 01's read contents; they agree. A frame that the reader accepted, once kept, leaves a
--- record from which a pass can run, and its output is short enough.
+-- A frame (document 01, 'Refusals, place by place', rows 9 to 17, and 'One pass'): the code's rows 16 and 17 read slots, and document
+-- 01's read contents; they agree. A frame that the reader accepted, once kept, leaves a record from which a pass can run.
 -- Assumes nothing.
 use Prim.Native.Nat.{ℕ, _≤_, _<_}
 use mathlib.Core.Path.{_≡_, refl, sym, _∙_, ap, subst}
 use mathlib.Core.Logic.{_⊎_, inl, inr}
 use mathlib.Core.Bool.{Bool, true, false, cond, _&&_, _||_, or-false}
 use mathlib.Core.List.{List}
-use mathlib.Core.Option.{some}
+use mathlib.Core.Option.{none, some}
 use native.Mathlib.Omega.{arith}
 use lib.Dec.{leb, ltb, eqb}
 use lib.ListN.{length}
@@ -18,36 +17,33 @@ use Rattle.wire.specs.Fields.{Bytes}
 use Rattle.frame.specs.declared.Frame.{Frame}
 use Rattle.frame.specs.declared.Reading.{Reading}
 use Rattle.frame.specs.declared.Reading.the-variants.{Accepted, Refused}
+use Rattle.frame.specs.Format.{fits}
 use Rattle.frame.specs.Refusal.{first, present, linkRows, readFrame, refusalOf}
 use Rattle.frame.proofs.Laws.{neither}
-use Rattle.entry.specs.Layout.{layout}
-use Rattle.record.specs.declared.Record as slots
-use Rattle.record.specs.Slots.{frameSlot, slotOf, Place}
-use Rattle.kept.specs.Kept.{frameIn, keepFrame}
-use Rattle.kept.proofs.Forms.{fits-kind}
+use Rattle.settings.specs.declared.Settings.{Settings}
+use Rattle.record.specs.Slots as slots
+use Rattle.record.specs.Slots.{rows, frameSlot, slotOf, Place}
+use Rattle.layout.specs.Layout.{recordSize, decodeRecord, Holds}
+use Rattle.keeping.specs.Kept.{frameIn, keptIn, keepFrame}
 use Rattle.keeping.specs.Keeping.{stale, outdone, keepRows}
-use Rattle.layout.specs.Layout.{decodeRecord}
-use Rattle.sound.specs.declared.Lent.{Lent}
-use Rattle.sound.specs.declared.Lent.the-variants.{Blank, Unsound, Sound}
-use Rattle.sound.specs.Sound.{sound, lentIs}
-use Rattle.protocol.specs.Record.{Record, when}
+use Rattle.keeping.proofs.Forms.{fitsKind}
+use Rattle.sound.specs.declared.Lent.the-variants.{Sound}
+use Rattle.sound.specs.Sound.{lentIs}
+use Rattle.protocol.specs.Record.{Record}
 use Rattle.protocol.specs.Pass.{pass, fromA}
-use Rattle.protocol.specs.Calls.{recordRows, keep, heard, Readable, frame, Answer, unless, accepted, answer}
+use Rattle.protocol.specs.Calls.{recordRows, keep, heard, Readable, frame, unless, accepted, answer}
 use Rattle.protocol.proofs.Sound.{Whole}
 use Rattle.protocol.proofs.Went.{noneGiven}
 use Rattle.protocol.proofs.Proper.{heardWhole}
-use Rattle.protocol.proofs.Size.{outputShort}
 use Rattle.protocol.proofs.Read.{acceptedReadable}
-use Rattle.contents.specs.Contents.{contents, Clean}
-use Rattle.contents.specs.Calls.{gave, after, called, frameLeft}
+use Rattle.contents.specs.Contents.{contents, contentsIn, Ready}
+use Rattle.contents.specs.Calls.{gave, after, frameLeft}
 use Rattle.contents.proofs.Kept.{contentsKeep}
-use Rattle.contents.proofs.Clean.{cleanKeep}
-use Rattle.contents.proofs.Sound.{soundRead}
-use Rattle.acts.proofs.Kept.{keptAt}
-use Rattle.pass.specs.declared.Passed.{Passed}
-use Rattle.pass.specs.Steps.{Ready, Room, Ran}
-use Rattle.pass.proofs.Steps.{seatOf}
-use Rattle.vault.proofs.Laws.{soundReady, refusedBy, acceptedBy, calledShort, calledLent}
+use Rattle.contents.proofs.Clean.{keptAt, cleanKeep}
+use Rattle.contents.proofs.Ready.{contentsHeld, readyAs, readyAllowed, readyLent}
+use Rattle.pass.specs.Steps.{Room, Ran}
+use Rattle.vault.specs.Answers.{wayIn, Read, readLeft}
+use Rattle.vault.proofs.Laws.{acceptedRoom, refusedBy, acceptedBy, calledLent, wayRefused}
 
 -- ---- rows 16 and 17
 
@@ -74,124 +70,138 @@ staleOld current kind v = go (eqb kind 6)
 
 module _ (r : slots.Record) (f : Frame) (at : Place (f .kind) (f .sender)) where
   -- 'same sender and kind kept at this view or a higher one'.
-  outdoneKept : outdone (slotOf r (frameSlot (f .kind) (f .sender))) (f .view) ≡ holds (λ (g : Frame). leb (f .view) (g .view)) (contents r .kept (f .kind) (f .sender))
-  unfolding outdone contents frameIn
+  outdoneKept : outdone (slotOf r (frameSlot (f .kind) (f .sender))) (f .view)
+      ≡ holds (λ (g : Frame). leb (f .view) (g .view)) (contents r .kept (f .kind) (f .sender))
+  unfolding outdone keptIn frameIn
   outdoneKept =
       go (present (slotOf r (frameSlot (f .kind) (f .sender))))
       ∙ ap (holds (λ (g : Frame). leb (f .view) (g .view))) (sym (keptAt r (f .kind) (f .sender) (at .low) (at .high) (at .row)))
     where
       go : (b : Bool) → (b && leb (f .view) (slotOf r (frameSlot (f .kind) (f .sender)) .view))
-          ≡ holds (λ (g : Frame). leb (f .view) (g .view)) (when b (some (frameIn (slotOf r) (f .kind) (f .sender))))
+          ≡ holds (λ (g : Frame). leb (f .view) (g .view)) (cond b (some (frameIn (slotOf r) (f .kind) (f .sender))) none)
       go true = refl
       go false = refl
 
   -- Rows 16 and 17 on slots are those on contents.
-  pub rowsContents : first (keepRows (slotOf r) (r .view) (f .sender) (f .kind) (f .view)) ≡ first (recordRows (contents r) f)
+  rowsContents : first (keepRows (slotOf r) (r .view) (f .sender) (f .kind) (f .view)) ≡ first (recordRows (contents r) f)
   unfolding contents
   rowsContents = let old = staleOld (r .view) (f .kind) (f .view) in λ i. cond (old i) 16 (cond (outdoneKept i) 17 0)
 
--- What they give, for the number that the code finds.
-module _ (r : slots.Record) (f : Frame) (at : Place (f .kind) (f .sender)) (k : ℕ)
-    (is : k ≡ first (keepRows (slotOf r) (r .view) (f .sender) (f .kind) (f .view))) where
-  pub rowsPass : k ≡ 0 → first (recordRows (contents r) f) ≡ 0
-  rowsPass e = sym (rowsContents r f at) ∙ sym is ∙ e
+-- ---- a frame that the reader accepted, against the record
 
-  pub rowsRefused : (rec out : List ℕ) → (k ≡ 0 → ⊥) → gave k rec out ≡ after rec out (answer (some (contents r)) (frame (Accepted f)))
-  unfolding answer
-  rowsRefused rec out given = refusedBy rec out (heard (contents r) f) (first (recordRows (contents r) f)) k (is ∙ rowsContents r f at) given
+module _ {rec : List ℕ} {set : Settings} {f : Frame} (g : Read rec set f) where
+  abbrev ready : Ready rec
+  ready = g .held .ready
 
-  pub rowsAccepted : (rec out : List ℕ) → k ≡ 0 → after rec out (accepted (heard (contents r) f)) ≡ after rec out (answer (some (contents r)) (frame (Accepted f)))
-  unfolding answer
-  rowsAccepted rec out e = acceptedBy rec out (heard (contents r) f) (first (recordRows (contents r) f)) (rowsPass e)
+  abbrev shape : fits (f .kind) (f .body) ≡ true
+  shape = g .readable .valid .shape
 
--- ---- a frame that the reader accepted
-
-module _ (r : slots.Record) (f : Frame) (ready : Ready r) (read : Readable (r .n) (r .id) f) where
   -- Rows 9 and 11 leave a kind and a sender that a record has a slot for.
   pub placeOf : Place (f .kind) (f .sender)
   placeOf =
-      let (low, high) = fits-kind (f .kind) (f .body) (read .valid .shape) in
-      let row = leb-false (r .n) (f .sender) (neither (leb (r .n) (f .sender)) (eqb (f .sender) (r .id)) (noneGiven (linkRows (f .sender) (f .sender) (r .n) (r .id)) (read .link) .0) .0) in
-      record { low = low; high = high; row = omega (arith, row, seatOf r ready .most) }
+      let (low, high) = fitsKind (f .kind) (f .body) shape in
+      let given = noneGiven (linkRows (f .sender) (f .sender) (set .n) (set .id)) (g .readable .link) .0 in
+      let row = leb-false (set .n) (f .sender) (neither (leb (set .n) (f .sender)) (eqb (f .sender) (set .id)) given .0) in
+      record { low = low; high = high; row = omega (arith, row, ap (λ (s : Settings). s .n) (g .held .its), readyAllowed ready .most) }
 
-  module _ (s : slots.Record) (e : s ≡ keepFrame r (f .sender) f) where
-    held : contents s ≡ keep f (contents r)
-    held = ap contents e ∙ contentsKeep r f refl (ready .clean .sized) (placeOf .row) (read .valid .shape)
+  pub keepRequires : (fits (f .kind) (f .body) ≡ true) × (f .sender < rows) × (length rec ≡ recordSize)
+  keepRequires = (shape, placeOf .row, ready .size)
 
-    -- With the frame kept, the record is one that calls leave.
-    pub heardReady : Ready s
+  -- Rows 16 and 17, by the number that the code finds.
+  module _ (view : ℕ) (current : view ≡ decodeRecord rec .view) (k : ℕ)
+      (found : k ≡ first (keepRows (slotOf (decodeRecord rec)) view (f .sender) (f .kind) (f .view))) where
+    given : k ≡ first (recordRows (contentsIn rec) f)
+    given =
+        found
+        ∙ ap (λ (v : ℕ). first (keepRows (slotOf (decodeRecord rec)) v (f .sender) (f .kind) (f .view))) current
+        ∙ rowsContents (decodeRecord rec) f placeOf
+
+    pub rowsPass : k ≡ 0 → first (recordRows (contentsIn rec) f) ≡ 0
+    rowsPass e = sym given ∙ e
+
+    pub rowsRefused : (out : List ℕ) → (k ≡ 0 → ⊥) → gave k rec out ≡ readLeft rec f out
+    unfolding answer
+    rowsRefused out = refusedBy rec out (heard (contentsIn rec) f) (first (recordRows (contentsIn rec) f)) k given
+
+    pub rowsAccepted : (out : List ℕ) → k ≡ 0 → after rec out (accepted (heard (contentsIn rec) f)) ≡ readLeft rec f out
+    unfolding answer
+    rowsAccepted out e = acceptedBy rec out (heard (contentsIn rec) f) (first (recordRows (contentsIn rec) f)) (rowsPass e)
+
+  -- ---- the frame is kept
+
+  module _ (rec' : List ℕ) (holds : Holds rec' (keepFrame (decodeRecord rec) (f .sender) f)) where
+    held : contentsIn rec' ≡ keep f (contentsIn rec)
+    held = contentsHeld holds ∙ contentsKeep (decodeRecord rec) f refl (placeOf .row) shape
+
+    -- The record is one that calls leave.
+    heardReady : Ready rec'
     unfolding contents
-    heardReady = record {
-      clean = subst Clean (sym e) (cleanKeep r f refl (ready .clean) (placeOf .row) (read .valid .shape));
-      sound = whole .sound;
-      ranged = whole .ranged;
-    }
+    heardReady = readyAs holds (contentsKeep (decodeRecord rec) f refl (placeOf .row) shape)
+        (cleanKeep (decodeRecord rec) f refl (ready .clean) (placeOf .row) shape) (whole .sound) (whole .ranged)
       where
-        whole : Whole (contents s)
-        whole = subst Whole (sym held) (heardWhole (contents r) f read (record { sound = ready .sound; ranged = ready .ranged }))
+        whole : Whole (keep f (contentsIn rec))
+        whole = heardWhole (contentsIn rec) f (subst (λ (s : Settings). Readable (s .n) (s .id) f) (g .held .its) (g .readable))
+            (record { sound = ready .sound; ranged = ready .ranged })
 
-    -- Every accepted call writes at most 205 bytes.
-    pub heardRoom : (o : List ℕ) → first (recordRows (contents r) f) ≡ 0 → 256 ≤ length o → Room (pass fromA (contents s)) 0 o
+    heardSet : set ≡ decodeRecord rec' .set
+    unfolding contents keep
+    heardSet = g .held .its ∙ ap (λ (c : Record). c .set) (sym held)
+
+    pub hearRequires : (out : List ℕ) → first (recordRows (contentsIn rec) f) ≡ 0 → 256 ≤ length out
+        → Ready rec' × (set ≡ decodeRecord rec' .set) × (0 ≤ 8) × Room (pass fromA (contentsIn rec')) 0 out
     unfolding heard answer
-    heardRoom o given room = subst (λ (x : Record). Room (pass fromA x) 0 o) (sym held) (omega (arith, short, room))
+    hearRequires out passed room = (
+      heardReady,
+      heardSet,
+      omega arith,
+      subst (λ (c : Record). Room (pass fromA c) 0 out) (sym held)
+          (acceptedRoom (some (contentsIn rec)) (frame (Accepted f)) (heard (contentsIn rec) f) out accepts room),
+    )
       where
-        short : length (layout ((heard (contents r) f) .wrote)) ≤ 205
-        short = outputShort (some (contents r)) (frame (Accepted f)) (heard (contents r) f) accepts
-          where
-            accepts : answer (some (contents r)) (frame (Accepted f)) ≡ accepted (heard (contents r) f)
-            accepts = ap (λ (k : ℕ). unless k (heard (contents r) f)) given
+        accepts : answer (some (contentsIn rec)) (frame (Accepted f)) ≡ accepted (heard (contentsIn rec) f)
+        accepts = ap (λ (k : ℕ). unless k (heard (contentsIn rec) f)) passed
 
-    pub heardRan : (o o' : List ℕ) (p : Passed) → Ran (pass fromA (contents s)) 0 o o' p → Ran (heard (contents r) f) 0 o o' p
+    pub hearRan : (out out' : List ℕ) (n : ℕ) (rec'' : List ℕ) → Ran (pass fromA (contentsIn rec')) 0 out out' n rec''
+        → Ran (heard (contentsIn rec) f) 0 out out' n rec''
     unfolding heard
-    heardRan o o' p ran = subst (λ (x : Record). Ran (pass fromA x) 0 o o' p) held ran
+    hearRan out out' n rec'' ran = subst (λ (c : Record). Ran (pass fromA c) 0 out out' n rec'') held ran
 
 -- ---- what the reader answers on a sound record
 
-module _ (rec bytes : List ℕ) (link : ℕ) (r : slots.Record) (er : r ≡ decodeRecord rec) (x : Reading) (ex : x ≡ readFrame bytes link (r .n) (r .id)) where
-  abbrev target : Answer
-  target = answer (some (contents (decodeRecord rec))) (frame (readFrame bytes link (decodeRecord rec .n) (decodeRecord rec .id)))
-
-  toTarget : answer (some (contents r)) (frame x) ≡ target
-  toTarget =
-      ap (λ (y : Reading). answer (some (contents r)) (frame y)) ex
-      ∙ ap (λ (q : slots.Record). answer (some (contents q)) (frame (readFrame bytes link (q .n) (q .id)))) er
-
-  -- 'Each gives its number, .. record and output unchanged': the reader's refusal is passed on.
-  pub readRefused : (j : ℕ) → x ≡ Refused j → (k : ℕ) → k ≡ refusalOf x → (out : List ℕ) → gave k rec out ≡ after rec out target
-  unfolding answer
-  readRefused j e k is out =
-      ap (λ (k : ℕ). gave k rec out) (is ∙ ap refusalOf e)
-      ∙ ap (λ (y : Reading). after rec out (answer (some (contents r)) (frame y))) (sym e)
-      ∙ ap (after rec out) toTarget
-
-  pub readAccepted : (f : Frame) → x ≡ Accepted f → (out : List ℕ) → after rec out (answer (some (contents r)) (frame (Accepted f))) ≡ after rec out target
-  readAccepted f e out = ap (λ (y : Reading). after rec out (answer (some (contents r)) (frame y))) (sym e) ∙ ap (after rec out) toTarget
-
-  -- What the function after the reading asks: a record that calls leave, and a frame that the reader accepts.
-  pub readReady : Bytes rec → lentIs rec ≡ Sound → Ready r
-  readReady known is = subst Ready (sym er) (soundReady rec known is)
-
-  pub readReadable : Bytes bytes → (f : Frame) → x ≡ Accepted f → Readable (r .n) (r .id) f
-  readReadable known f e = acceptedReadable bytes link (r .n) (r .id) f known (sym ex ∙ e) .1
-
--- ---- what a frame leaves, by the output and the record
-
-module _ (rec : List ℕ) (link : ℕ) (bytes out : List ℕ) where
+module _ (rec bytes : List ℕ) (link : ℕ) (out : List ℕ) where
+  -- The reader has the settings of the record.
   abbrev reading : Reading
-  reading = readFrame bytes link (decodeRecord rec .n) (decodeRecord rec .id)
+  reading = readFrame bytes link (decodeRecord rec .set .n) (decodeRecord rec .set .id)
 
-  pub frameShort : length out < 256 → gave 1 rec out ≡ frameLeft rec link bytes out
-  unfolding frameLeft
-  frameShort low = calledShort 3 rec out (frame reading) low
+  module _ (sound : lentIs rec ≡ Sound) (room : 256 ≤ length out) (set : Settings) (is : set ≡ decodeRecord rec .set) (x : Reading)
+      (got : x ≡ readFrame bytes link (set .n) (set .id)) where
+    reads : x ≡ reading
+    reads = got ∙ ap (λ (s : Settings). readFrame bytes link (s .n) (s .id)) is
 
-  pub frameBlank : 256 ≤ length out → lentIs rec ≡ Blank → gave 2 rec out ≡ frameLeft rec link bytes out
-  unfolding frameLeft answer
-  frameBlank room e = calledLent 3 rec out (frame reading) room Blank e
+    pub frameAnswered : after rec out (answer (some (contentsIn rec)) (frame x)) ≡ frameLeft rec link bytes out
+    unfolding frameLeft
+    frameAnswered =
+        ap (λ (y : Reading). after rec out (answer (some (contentsIn rec)) (frame y))) reads ∙ calledLent 3 rec out (frame reading) room Sound sound
 
-  pub frameUnsound : 256 ≤ length out → lentIs rec ≡ Unsound → gave 3 rec out ≡ frameLeft rec link bytes out
-  unfolding frameLeft
-  frameUnsound room e = calledLent 3 rec out (frame reading) room Unsound e
+    -- 'Each gives its number, .. record and output unchanged': the reader's refusal is passed on.
+    pub readRefused : (j k : ℕ) → x ≡ Refused j → k ≡ refusalOf x → gave k rec out ≡ frameLeft rec link bytes out
+    unfolding answer
+    readRefused j k e number =
+        ap (λ (i : ℕ). gave i rec out) (number ∙ ap refusalOf e)
+        ∙ ap (λ (y : Reading). after rec out (answer (some (contentsIn rec)) (frame y))) (sym e) ∙ frameAnswered
 
-  pub frameSound : 256 ≤ length out → lentIs rec ≡ Sound → after rec out (answer (some (contents (decodeRecord rec))) (frame reading)) ≡ frameLeft rec link bytes out
-  unfolding frameLeft
-  frameSound room e = calledLent 3 rec out (frame reading) room Sound e
+    pub readAccepted : (f : Frame) → x ≡ Accepted f → readLeft rec f out ≡ frameLeft rec link bytes out
+    readAccepted f e = ap (λ (y : Reading). after rec out (answer (some (contentsIn rec)) (frame y))) (sym e) ∙ frameAnswered
+
+    pub readThen : Bytes rec → Bytes bytes → (f : Frame) → x ≡ Accepted f → Read rec set f
+    readThen lent known f e = record {
+      held = record { ready = readyLent rec lent sound; its = is };
+      readable = acceptedReadable bytes link (set .n) (set .id) f known (sym got ∙ e) .1;
+    }
+
+-- ---- the way in
+
+pub frameRefused : (rec : List ℕ) (link : ℕ) (bytes out : List ℕ) (k : ℕ) → k ≡ wayIn rec (length out) → (k ≡ 0 → ⊥)
+    → gave k rec out ≡ frameLeft rec link bytes out
+unfolding frameLeft answer
+frameRefused rec link bytes out k way = wayRefused rec out k way (frame (reading rec bytes link out)) refl

@@ -1,64 +1,72 @@
--- A timer call (document 01, 'Refusals, place by place', rows 18 and 19; 'An accepted timer broadcasts view-change .., then goes
--- from A'). To ask for a view is a step like those of the pass, so an accepted timer is a pass of one step more.
+-- A timer (document 01, 'Refusals, place by place', rows 18 and 19; 'An accepted timer broadcasts view-change .., then goes from A'):
+-- the view that is asked for, read off the own view-change's slot; and what is left by the view that is named.
 -- Assumes nothing.
 use Prim.Native.Nat.{ℕ, _+_, _^_, _≤_, _<_}
 use mathlib.Core.Path.{_≡_, refl, sym, _∙_, ap, subst}
-use mathlib.Core.List.{List, [], _∷_}
-use mathlib.Core.Option.{some}
+use mathlib.Core.Bool.{Bool, true, false, cond}
+use mathlib.Core.List.{List}
+use mathlib.Core.Option.{Option, none, some}
 use native.Mathlib.Omega.{arith}
 use native.Mathlib.Numerals.{add-one}
-use lib.ListN.{length, getD}
+use lib.ListN.{length}
 use borrow.Author.Tests.{lt-ltb, le-ltb, eq-eqb, ne-eqb, eqb-false}
-use Rattle.frame.specs.Refusal.{first}
-use Rattle.entry.specs.Layout.{layout}
-use Rattle.record.specs.declared.Record as slots
-use Rattle.record.specs.Slots.{frameSlot}
+use Rattle.frame.specs.declared.Report.{Report}
+use Rattle.frame.specs.declared.Frame.{Frame}
+use Rattle.frame.specs.Refusal.{first, present}
+use Rattle.settings.specs.declared.Settings.{Settings}
+use Rattle.record.specs.Slots as slots
+use Rattle.record.specs.Slots.{rows, frameSlot, slotOf}
 use Rattle.layout.specs.Layout.{decodeRecord}
-use Rattle.sound.specs.declared.Lent.the-variants.{Blank, Unsound, Sound}
+use Rattle.keeping.specs.Kept.{keptIn, frameIn}
+use Rattle.sound.specs.declared.Lent.the-variants.{Sound}
 use Rattle.sound.specs.Sound.{lentIs}
-use Rattle.protocol.specs.Record.{Record}
-use Rattle.protocol.specs.Pass.{Out, Step, ask, taken, pass, fromA}
-use Rattle.protocol.specs.Calls.{timerRows, wantedFrom, wanted, rung, timer, Answer, accepted, unless, answer}
+use Rattle.protocol.specs.Record.{Record, each, changeOf}
+use Rattle.protocol.specs.Pass.{Out, ask, taken, pass, fromA}
+use Rattle.protocol.specs.Calls.{timerRows, wantedFrom, wanted, rung, timer, accepted, unless, answer}
+use Rattle.protocol.proofs.Good.{doesSet}
 use Rattle.protocol.proofs.Went.{noneGiven, wantedMay}
-use Rattle.protocol.proofs.Sound.{Whole, actWhole}
-use Rattle.protocol.proofs.Size.{outputShort}
-use Rattle.contents.specs.Contents.{contents}
+use Rattle.contents.specs.Contents.{contents, contentsIn, Ready}
 use Rattle.contents.specs.Calls.{gave, after, timerLeft}
-use Rattle.acts.specs.Changes.{asks, changeIn}
-use Rattle.acts.proofs.Kept.{changeAt}
-use Rattle.pass.specs.declared.Stepped.{Stepped}
-use Rattle.pass.specs.declared.Passed.{Passed}
-use Rattle.pass.specs.Steps.{listOf, Ready, Did, Took, Room, Ran}
-use Rattle.pass.proofs.Steps.{rowOf, seatOf}
-use Rattle.pass.proofs.Runs.{Wrote, roomOne, ranOne, roomFirst, roomNext, ranJoin}
-use Rattle.vault.specs.Answers.{TimerGives}
-use Rattle.vault.proofs.Laws.{refusedBy, acceptedBy, calledShort, calledLent}
+use Rattle.contents.proofs.Clean.{keptAt}
+use Rattle.contents.proofs.Ready.{readyRow}
+use Rattle.pass.specs.Steps.{Room, Ran}
+use Rattle.pass.proofs.Runs.{joined, roomFirst, roomNext, ranJoin}
+use Rattle.vault.specs.Answers.{wayIn, Held, TimerGives}
+use Rattle.vault.proofs.Laws.{acceptedRoom, refusedBy, acceptedBy, calledLent, wayRefused}
 
 -- ---- the view that is asked for
 
--- The own view-change stands in slot s.
-module _ (marks views : List ℕ) (id view s : ℕ) (es : s ≡ frameSlot 6 id) where
+-- What a slot of the view-changes asks for.
+abbrev asks : Report → Option ℕ
+asks x = cond (present x) (some (x .view)) none
+
+changeAt : (r : slots.Record) (j : ℕ) → j < rows → changeOf (contents r) j ≡ asks (slotOf r (frameSlot 6 j))
+unfolding keptIn frameIn
+changeAt r j low =
+    ap (λ (o : Option Frame). each o (λ f. some (f .view))) (keptAt r 6 j (omega arith) (omega arith) low) ∙ go (present (slotOf r (frameSlot 6 j)))
+  where
+    go : (b : Bool) → each (cond b (some (frameIn (slotOf r) 6 j)) none) (λ (f : Frame). some (f .view)) ≡ cond b (some (slotOf r (frameSlot 6 j) .view)) none
+    go true = refl
+    go false = refl
+
+-- The own view-change stands in slot `at`, and is x.
+module _ (rec : List ℕ) (id view at : ℕ) (row : id < rows) (place : at ≡ frameSlot 6 id) (x : Report) (own : x ≡ slotOf (decodeRecord rec) at) where
   abbrev Wanted : ℕ → Type 0
-  Wanted w = w ≡ wantedFrom view (changeIn marks views id)
+  Wanted w = w ≡ wantedFrom view (changeOf (contentsIn rec) id)
 
-  there : (w : ℕ) → w ≡ wantedFrom view (asks (getD marks s 0) (getD views s 0)) → Wanted w
-  there w = subst (λ (i : ℕ). w ≡ wantedFrom view (asks (getD marks i 0) (getD views i 0))) es
+  there : (w : ℕ) → w ≡ wantedFrom view (asks x) → Wanted w
+  there w e =
+      e ∙ ap (λ (y : Report). wantedFrom view (asks y)) (own ∙ ap (slotOf (decodeRecord rec)) place)
+      ∙ ap (wantedFrom view) (sym (changeAt (decodeRecord rec) id row))
 
-  pub wantedNone : (getD marks s 0 ≡ 1 → ⊥) → Wanted (view + 1)
-  unfolding asks
-  wantedNone ne = there (view + 1) (rw (ne-eqb (getD marks s 0) 1 ne) (add-one view))
+  pub wantedNone : (x .mark ≡ 1 → ⊥) → Wanted (view + 1)
+  wantedNone ne = there (view + 1) (rw (ne-eqb (x .mark) 1 ne) (add-one view))
 
-  pub wantedOwn : getD marks s 0 ≡ 1 → view < getD views s 0 → Wanted (getD views s 0)
-  unfolding asks
-  wantedOwn is above = there (getD views s 0) (rw (eq-eqb (getD marks s 0) 1 is, lt-ltb view (getD views s 0) above) refl)
+  pub wantedOwn : x .mark ≡ 1 → view < x .view → Wanted (x .view)
+  wantedOwn is above = there (x .view) (rw (eq-eqb (x .mark) 1 is, lt-ltb view (x .view) above) refl)
 
-  pub wantedNext : getD marks s 0 ≡ 1 → getD views s 0 ≤ view → Wanted (view + 1)
-  unfolding asks
-  wantedNext is low = there (view + 1) (rw (eq-eqb (getD marks s 0) 1 is, le-ltb view (getD views s 0) low) (add-one view))
-
-wantedIn : (r : slots.Record) → r .id < 64 → wantedFrom (r .view) (changeIn (r .marks) (r .views) (r .id)) ≡ wanted (contents r)
-unfolding contents
-wantedIn r row = ap (wantedFrom (r .view)) (sym (changeAt r (r .id) row))
+  pub wantedNext : x .mark ≡ 1 → x .view ≤ view → Wanted (view + 1)
+  wantedNext is low = there (view + 1) (rw (eq-eqb (x .mark) 1 is, le-ltb view (x .view) low) (add-one view))
 
 -- ---- the refusals
 
@@ -74,107 +82,85 @@ module _ (current v : ℕ) where
 
 -- ---- the view is asked for, and one pass from A
 
--- To ask for the wanted view, as a step.
-abbrev asking : Step
-asking c = taken c (some (ask (wanted c)))
+-- The own number has a row.
+pub ownRow : {rec : List ℕ} {set : Settings} → Held rec set → set .id < rows
+ownRow h = subst (λ (s : Settings). s .id < rows) (sym (h .its)) (readyRow (h .ready))
 
-rungPass : (c : Record) → rung c ≡ pass (asking ∷ fromA) c
-unfolding rung pass
-rungPass c = refl
-
-rungShort : (c : Record) → (c .view ≡ 4294967295 → ⊥) → length (layout ((rung c) .wrote)) ≤ 205
-unfolding answer
-rungShort c room = outputShort (some c) (timer (c .view)) (rung c) accepts
-  where
-    accepts : answer (some c) (timer (c .view)) ≡ accepted (rung c)
-    accepts = ap (λ (k : ℕ). unless k (rung c)) (sym (mayRing (c .view) (c .view) refl room c refl))
-
--- The record's own view-change, the entries of asking, and the pass, as the code has them.
-module _ (r : slots.Record) (h : Ready r) (low : r .view < 4294967295) (w : ℕ) (ew : w ≡ wantedFrom (r .view) (changeIn (r .marks) (r .views) (r .id)))
-    (t : Stepped) (did : Did (taken (contents r) (some (ask w))) t) (o : List ℕ) (room : 256 ≤ length o) where
-  abbrev c : Record
-  c = contents r
-
-  notLast : c .view ≡ 4294967295 → ⊥
+module _ {rec : List ℕ} {set : Settings} (h : Held rec set) (view : ℕ) (current : view ≡ decodeRecord rec .view)
+    (low : view < 4294967295) (w : ℕ) (found : w ≡ wantedFrom view (changeOf (contentsIn rec) (set .id))) (out : List ℕ) (room : 256 ≤ length out) where
+  notLast : contentsIn rec .view ≡ 4294967295 → ⊥
   unfolding contents
-  notLast e = omega (arith, e, low)
+  notLast e = omega (arith, e, low, current)
 
-  tookAsk : Took (asking c) t
-  tookAsk = record {
-    left = left;
-    wrote = did .wrote ∙ ap (λ (o : Out). o .wrote) same;
-    ready = record { clean = did .clean; sound = there .sound; ranged = there .ranged };
-  }
-    where
-      same : taken c (some (ask w)) ≡ asking c
-      same = ap (λ (v : ℕ). taken c (some (ask v))) (ew ∙ wantedIn r (rowOf r (seatOf r h)))
+  wants : w ≡ wanted (contentsIn rec)
+  unfolding contents
+  wants =
+      found ∙ ap (λ (v : ℕ). wantedFrom v (changeOf (contentsIn rec) (set .id))) current
+      ∙ ap (λ (s : Settings). wantedFrom (decodeRecord rec .view) (changeOf (contentsIn rec) (s .id))) (h .its)
 
-      left : contents (t .left) ≡ (asking c) .left
-      left = did .left ∙ ap (λ (o : Out). o .left) same
+  above : decodeRecord rec .view < w
+  unfolding contents
+  above = omega (arith, wants, wantedMay (contentsIn rec) notLast .0)
 
-      there : Whole (contents (t .left))
-      there = subst Whole (sym left) (actWhole (record { sound = h .sound; ranged = h .ranged }) (ask (wanted c)) (wantedMay c notLast))
+  abbrev asking : Out
+  asking = taken (contentsIn rec) (some (ask w))
 
-  roomAll : Room (pass (asking ∷ fromA) c) 0 o
-  roomAll = subst (λ (u : Out). Room u 0 o) (rungPass c) (omega (arith, room, rungShort c notLast))
+  -- An accepted timer is the asking, then the pass.
+  rungIs : joined asking fromA ≡ rung (contentsIn rec)
+  unfolding rung
+  rungIs = ap (λ (v : ℕ). joined (taken (contentsIn rec) (some (ask v))) fromA) wants
 
-  pub askRoom : 0 + length (layout (listOf (t .entries))) ≤ length o
-  askRoom = roomOne asking c t tookAsk 0 o (roomFirst (asking ∷ []) fromA c 0 o roomAll)
+  roomAll : Room (joined asking fromA) 0 out
+  unfolding answer
+  roomAll = subst (λ (o : Out). Room o 0 out) (sym rungIs)
+      (acceptedRoom (some (contentsIn rec)) (timer (contentsIn rec .view)) (rung (contentsIn rec)) out
+      (ap (λ (k : ℕ). unless k (rung (contentsIn rec))) (sym (mayRing (contentsIn rec .view) (contentsIn rec .view) refl notLast (contentsIn rec) refl))) room)
 
-  module _ (at : ℕ) (o' : List ℕ) (wrote : Wrote 0 o (listOf (t .entries)) at o') where
-    asked : Ran (pass (asking ∷ []) c) 0 o o' (record { left = t .left; count = at })
-    asked = ranOne asking c t tookAsk 0 o o' at wrote
+  pub askRequires : Ready rec × (set ≡ decodeRecord rec .set) × (decodeRecord rec .view < w) × Room asking 0 out
+  askRequires = (h .ready, h .its, above, roomFirst asking fromA 0 out roomAll)
 
-    pub passReady : Ready (t .left) × Room (pass fromA (contents (t .left))) at o'
-    passReady = (tookAsk .ready, roomNext (asking ∷ []) fromA c 0 o roomAll (record { left = t .left; count = at }) o' asked)
+  module _ (at : ℕ) (rec' out' : List ℕ) (ran : Ran asking 0 out out' at rec') where
+    pub ringRequires : Ready rec' × (set ≡ decodeRecord rec' .set) × (0 ≤ 8) × Room (pass fromA (contentsIn rec')) at out'
+    unfolding contents
+    ringRequires = (
+      ran .ready,
+      h .its ∙ sym (ap (λ (c : Record). c .set) (ran .left) ∙ doesSet (contentsIn rec) (ask w)),
+      omega arith,
+      roomNext asking fromA 0 out roomAll ran,
+    )
 
-    pub ringRan : (p : Passed) (o'' : List ℕ) → Ran (pass fromA (contents (t .left))) at o' o'' p → Ran (rung c) 0 o o'' p
-    ringRan p o'' ran =
-        subst (λ (u : Out). Ran u 0 o o'' p) (sym (rungPass c))
-        (ranJoin (asking ∷ []) fromA c 0 o (record { left = t .left; count = at }) p o' o'' roomAll asked ran)
+    pub ringRan : (n : ℕ) (rec'' out'' : List ℕ) → Ran (pass fromA (contentsIn rec')) at out' out'' n rec'' → Ran (rung (contentsIn rec)) 0 out out'' n rec''
+    ringRan n rec'' out'' then =
+        subst (λ (o : Out). Ran o 0 out out'' n rec'') rungIs (ranJoin asking fromA 0 out roomAll ran then)
 
 -- ---- what a timer leaves
 
-module _ (rec out : List ℕ) (r : slots.Record) (er : r ≡ decodeRecord rec) (view k : ℕ) (given : TimerGives (r .view) view k) where
-  -- The answer on a sound record.
-  abbrev answered : Answer
-  answered = answer (some (contents (decodeRecord rec))) (timer view)
-
-  rows : k ≡ first (timerRows (contents (decodeRecord rec)) view)
+module _ (rec out : List ℕ) (sound : lentIs rec ≡ Sound) (room : 256 ≤ length out) (current : ℕ) (now : current ≡ decodeRecord rec .view) (view k : ℕ)
+    (given : TimerGives current view k) where
+  rows′ : k ≡ first (timerRows (contentsIn rec) view)
   unfolding contents
-  rows = given (contents (decodeRecord rec)) (ap (λ (q : slots.Record). q .view) (sym er))
+  rows′ = given (contentsIn rec) (sym now)
 
-  pub timerRefused : (k ≡ 0 → ⊥) → gave k rec out ≡ after rec out answered
+  answered : after rec out (answer (some (contentsIn rec)) (timer view)) ≡ timerLeft rec view out
+  unfolding timerLeft
+  answered = calledLent 3 rec out (timer view) room Sound sound
+
+  pub timerRefused : (k ≡ 0 → ⊥) → gave k rec out ≡ timerLeft rec view out
   unfolding answer
-  timerRefused = refusedBy rec out (rung (contents (decodeRecord rec))) (first (timerRows (contents (decodeRecord rec)) view)) k rows
+  timerRefused other = refusedBy rec out (rung (contentsIn rec)) (first (timerRows (contentsIn rec) view)) k rows′ other ∙ answered
 
-  pub timerAccepted : k ≡ 0 → after rec out (accepted (rung (contents r))) ≡ after rec out answered
+  pub timerAccepted : k ≡ 0 → after rec out (accepted (rung (contentsIn rec))) ≡ timerLeft rec view out
   unfolding answer
-  timerAccepted e =
-      ap (λ (q : slots.Record). after rec out (accepted (rung (contents q)))) er
-      ∙ acceptedBy rec out (rung (contents (decodeRecord rec))) (first (timerRows (contents (decodeRecord rec)) view)) (sym rows ∙ e)
+  timerAccepted e = acceptedBy rec out (rung (contentsIn rec)) (first (timerRows (contentsIn rec) view)) (sym rows′ ∙ e) ∙ answered
 
-  pub viewBelow : Ready r → k ≡ 0 → r .view < 4294967295
+  pub viewBelow : Ready rec → k ≡ 0 → current < 4294967295
   unfolding contents
-  viewBelow h e =
-      let other = noneGiven (timerRows (contents r) view) (sym (given (contents r) refl) ∙ e) .1 .0 in
-      let wide : r .view < 2 ^ 32 = h .ranged .view in
-      let ne : r .view ≡ 4294967295 → ⊥ = eqb-false (r .view) 4294967295 other in
-      omega (arith, wide, ne)
+  viewBelow ready e =
+      let other = noneGiven (timerRows (contentsIn rec) view) (sym rows′ ∙ e) .1 .0 in
+      let wide : decodeRecord rec .view < 2 ^ 32 = ready .ranged .view in
+      let ne : decodeRecord rec .view ≡ 4294967295 → ⊥ = eqb-false (decodeRecord rec .view) 4294967295 other in
+      omega (arith, wide, ne, now)
 
-module _ (rec : List ℕ) (view : ℕ) (out : List ℕ) where
-  pub timerShort : length out < 256 → gave 1 rec out ≡ timerLeft rec view out
-  unfolding timerLeft
-  timerShort = calledShort 3 rec out (timer view)
-
-  pub timerBlank : 256 ≤ length out → lentIs rec ≡ Blank → gave 2 rec out ≡ timerLeft rec view out
-  unfolding timerLeft answer
-  timerBlank room = calledLent 3 rec out (timer view) room Blank
-
-  pub timerUnsound : 256 ≤ length out → lentIs rec ≡ Unsound → gave 3 rec out ≡ timerLeft rec view out
-  unfolding timerLeft
-  timerUnsound room = calledLent 3 rec out (timer view) room Unsound
-
-  pub timerSound : 256 ≤ length out → lentIs rec ≡ Sound → after rec out (answer (some (contents (decodeRecord rec))) (timer view)) ≡ timerLeft rec view out
-  unfolding timerLeft
-  timerSound room = calledLent 3 rec out (timer view) room Sound
+pub timerShut : (rec : List ℕ) (view : ℕ) (out : List ℕ) (k : ℕ) → k ≡ wayIn rec (length out) → (k ≡ 0 → ⊥) → gave k rec out ≡ timerLeft rec view out
+unfolding timerLeft answer
+timerShut rec view out k way = wayRefused rec out k way (timer view) refl

@@ -6,6 +6,7 @@ use mathlib.Core.Path.{_≡_}
 use mathlib.Core.List.{List}
 use contract.Lifetimes.{Lfts}
 use denote.Ref.{RefT, now, at-last}
+use Rattle.settings.specs.declared.Settings.{Settings}
 use Rattle.contents.specs.Calls.{startLeft, frameLeft, timerLeft}
 use Rattle.vault.specs.declared.Answer.{Answer}
 use Rattle.vault.specs.Answers.{leftBy}
@@ -14,13 +15,13 @@ use Rattle.vault.proofs.frame.Reads as ofFrame
 use Rattle.vault.proofs.timer.Reads as ofTimer
 
 -- Start asks for nothing of what it is lent.
-startTakes : (κs : Lfts 2) (r o : RefT (List ℕ)) (n f id class plan : ℕ) → ofStart.Asked κs (r, (n, (f, (id, (class, (plan, (o, tt)))))))
-startTakes κs r o n f id class plan = tt
+startTakes : (κs : Lfts 2) (r o : RefT (List ℕ)) (set : Settings) (plan : ℕ) → ofStart.Asked κs (r, (set, (plan, (o, tt))))
+startTakes κs r o set plan = tt
 
-startSaid : (κs : Lfts 2) (r o : RefT (List ℕ)) (n f id class plan : ℕ) (a : Answer) (rec out : List ℕ)
-    → ofStart.Learnt κs (r, (n, (f, (id, (class, (plan, (o, tt))))))) a (at-last r rec, (n, (f, (id, (class, (plan, (at-last o out, tt)))))))
-    → leftBy a rec out ≡ startLeft (now r) n f id class plan (now o)
-startSaid κs r o n f id class plan a rec out learnt = learnt
+startSaid : (κs : Lfts 2) (r o : RefT (List ℕ)) (set : Settings) (plan : ℕ) (a : Answer) (rec out : List ℕ)
+    → ofStart.Learnt κs (r, (set, (plan, (o, tt)))) a (at-last r rec, (set, (plan, (at-last o out, tt))))
+    → leftBy a rec out ≡ startLeft (now r) set plan (now o)
+startSaid κs r o set plan a rec out learnt = learnt
 
 -- So does frame.
 frameTakes : (κs : Lfts 3) (r s o : RefT (List ℕ)) (link : ℕ) → ofFrame.Asked κs (r, (link, (s, (o, tt))))

@@ -1,25 +1,25 @@
-// The vault's calls on lent bytes: the record's bytes before and after, and the output's.
+// The vault's calls on lent bytes. The record stays where it lies: what a call asks of it, and what it puts there, goes over its bytes;
+// every refusal comes before the first write.
 use entry::Entry;
 use frame::Frame;
 use frame::Reading;
-use pass::Passed;
-use record::Record;
+use settings::Settings;
+use sound::Lent;
 ghost use Prim.Native.Nat.{_≤_, _<_};
 ghost use mathlib.Core.Path.{_≡_};
 ghost use lib.ListN.{length};
-ghost use Rattle.frame.specs.declared.Reading.the-variants.{Accepted};
-ghost use Rattle.frame.specs.Refusal.{first, readFrame};
+ghost use Rattle.frame.specs.Refusal.{first};
 ghost use Rattle.settings.specs.Settings.{settingRows};
-ghost use mathlib.Core.Option.{none, some};
-ghost use Rattle.layout.specs.Layout.{decodeRecord};
-ghost use Rattle.sound.specs.declared.Lent.the-variants.{Blank, Sound};
+ghost use Rattle.record.specs.Slots.{rows};
+ghost use Rattle.layout.specs.Layout.{recordSize, decodeRecord};
+ghost use Rattle.sound.specs.declared.Lent.the-variants.{Sound};
 ghost use Rattle.sound.specs.Sound.{lentIs};
-ghost use Rattle.protocol.specs.Calls.{Readable, recordRows, wantedFrom, started, heard, rung, answer};
-ghost use Rattle.contents.specs.Contents.{contents};
-ghost use Rattle.contents.specs.Calls.{after, startLeft, frameLeft, timerLeft};
-ghost use Rattle.acts.specs.Changes.{changeIn};
-ghost use Rattle.pass.specs.Steps.{Ready, Ran};
-ghost use Rattle.vault.specs.Answers.{leftBy, begins, hears, rings, TimerGives};
+ghost use Rattle.protocol.specs.Record.{changeOf};
+ghost use Rattle.protocol.specs.Calls.{recordRows, wantedFrom, started, heard, rung};
+ghost use Rattle.contents.specs.Contents.{contentsIn};
+ghost use Rattle.contents.specs.Calls.{startLeft, frameLeft, timerLeft};
+ghost use Rattle.pass.specs.Steps.{Ran};
+ghost use Rattle.vault.specs.Answers.{leftBy, wayIn, Held, Read, readLeft, TimerGives};
 
 // What a call answers: how many bytes it wrote, or the number of a refusal.
 pub enum Answer {
@@ -27,209 +27,198 @@ pub enum Answer {
     Refused(u8),
 }
 
+// The output space that every call asks for.
+const ROOM: usize = 256;
+
+// The refusals that are given here, by number: output space below 256 bytes, a blank record, one that is not sound, start on a record
+// that is not blank, a timer for another view, a timer in the last view.
+const SHORT: u8 = 1;
+
+const BLANK: u8 = 2;
+
+const UNSOUND: u8 = 3;
+
+const STARTED: u8 = 4;
+
+const OTHER_VIEW: u8 = 18;
+
+const NO_VIEW: u8 = 19;
+
+// The last view that there is.
+const LAST: u32 = 4294967295;
+
+// A vault's own view-change stands in the row of this kind.
+const VIEW_CHANGE: u8 = 6;
+
+// Where a pass begins: with A, or after a start with C.
+const FROM_A: u8 = 0;
+
+const FROM_C: u8 = 2;
+
 // ---- start
 
-// View 0 is entered with a timer entry; then one pass from C.
-fn begin(n: u8, f: u8, id: u8, class: u8, plan: u64, out: &mut [u8]) -> Passed
-    requires { ⌜ (first (settingRows n f id class) ≡ 0) × (256 ≤ length (now out)) ⌝ }
-    ensures { λ p. ⌜ Ran (started (record { n = n; f = f; id = id; class = class }) plan) 0 (now (out .entry)) (now (out .exit)) p ⌝ }
+// The record is fresh, and view 0 is entered with a timer entry; then one pass from C.
+fn begin(rec: &mut [u8], set: Settings, plan: u64, out: &mut [u8]) -> usize
+    requires { ⌜ (length (now rec) ≡ recordSize) × (first (settingRows set) ≡ 0) × (256 ≤ length (now out)) ⌝ }
+    ensures { λ n. ⌜ Ran (started set plan) 0 (now (out .entry)) (now (out .exit)) n (now (rec .exit)) ⌝ }
 {
-    let r = record::fresh_record(n, f, id, class, plan);
-    let millis = settings::timer_millis(class);
+    layout::put_fresh(rec, set, plan);
+    let millis = settings::timer_millis(set.class);
     let at = entry::put_entry(out, 0, Entry::Timer { view: 0, millis });
-    pass::pass_c(r, out, at)
-}
-
-// Start on a blank record.
-fn start_blank(rec: &mut [u8], n: u8, f: u8, id: u8, class: u8, plan: u64, out: &mut [u8]) -> Answer
-    requires { ⌜ (lentIs (now rec) ≡ Blank) × (256 ≤ length (now out)) ⌝ }
-    ensures { λ r. ⌜ leftBy r (now (rec .exit)) (now (out .exit)) ≡ after (now (rec .entry)) (now (out .entry)) (answer none (begins (record { n = n; f = f; id = id; class = class }) plan)) ⌝ }
-{
-    let why = settings::settings_refusal(n, f, id, class);
-    if why != 0 {
-        return Answer::Refused(why);
-    }
-    let begun = begin(n, f, id, class, plan, out);
-    let left = begun.left;
-    layout::encode(left, rec);
-    Answer::Written(begun.count)
+    pass::pass_from(rec, set, FROM_C, out, at)
 }
 
 // Start, with settings and a starting plan.
-pub fn start(rec: &mut [u8], n: u8, f: u8, id: u8, class: u8, plan: u64, out: &mut [u8]) -> Answer
-    ensures { λ r. ⌜ leftBy r (now (rec .exit)) (now (out .exit)) ≡ startLeft (now (rec .entry)) n f id class plan (now (out .entry)) ⌝ }
+pub fn start(rec: &mut [u8], set: Settings, plan: u64, out: &mut [u8]) -> Answer
+    ensures { λ r. ⌜ leftBy r (now (rec .exit)) (now (out .exit)) ≡ startLeft (now (rec .entry)) set plan (now (out .entry)) ⌝ }
 {
-    if out.len() < 256 {
-        return Answer::Refused(1);
+    if out.len() < ROOM {
+        return Answer::Refused(SHORT);
     }
     if rec.len() != layout::SIZE {
-        return Answer::Refused(4);
+        return Answer::Refused(STARTED);
     }
-    if rec[0] != 0 {
-        return Answer::Refused(4);
+    let held = layout::settings_of(rec);
+    if held.n != 0 {
+        return Answer::Refused(STARTED);
     }
-    start_blank(rec, n, f, id, class, plan, out)
+    let why = settings::settings_refusal(set);
+    if why != 0 {
+        return Answer::Refused(why);
+    }
+    let begun = begin(rec, set, plan, out);
+    Answer::Written(begun)
+}
+
+// ---- the way in to a vault's record, for frame and timer
+
+// Refusals 1 to 3 in their order, 0 where the record is sound.
+fn way_in(rec: &[u8], room: usize) -> u8
+    ensures { λ k. ⌜ k ≡ wayIn (now (rec .entry)) room ⌝ }
+{
+    if room < ROOM {
+        return SHORT;
+    }
+    let lent = sound::classify(rec);
+    match lent {
+        Lent::Blank => BLANK,
+        Lent::Unsound => UNSOUND,
+        Lent::Sound => 0,
+    }
 }
 
 // ---- frame
 
 // The frame is kept in its sender's row; then one pass from A.
-fn hear(r: Record, f: Frame, out: &mut [u8]) -> Passed
-    requires { ⌜ Ready r × Readable (r .n) (r .id) f × (first (recordRows (contents r) f) ≡ 0) × (256 ≤ length (now out)) ⌝ }
-    ensures { λ p. ⌜ Ran (heard (contents r) f) 0 (now (out .entry)) (now (out .exit)) p ⌝ }
+fn hear(rec: &mut [u8], set: Settings, f: Frame, out: &mut [u8]) -> usize
+    requires { ⌜ Read (now rec) set f × (first (recordRows (contentsIn (now rec)) f) ≡ 0) × (256 ≤ length (now out)) ⌝ }
+    ensures { λ n. ⌜ Ran (heard (contentsIn (now (rec .entry))) f) 0 (now (out .entry)) (now (out .exit)) n (now (rec .exit)) ⌝ }
 {
-    let held = kept::keep(r, f.sender, f);
-    pass::pass_a(held, out, 0)
+    keeping::keep(rec, f.sender, f);
+    pass::pass_from(rec, set, FROM_A, out, 0)
 }
 
-// A frame that the reader accepted, against the record that the bytes hold.
-fn frame_read(rec: &mut [u8], r: Record, f: Frame, out: &mut [u8]) -> Answer
-    requires { ⌜ Ready r × Readable (r .n) (r .id) f × (length (now rec) ≡ 11703) × (256 ≤ length (now out)) ⌝ }
-    ensures { λ a. ⌜ leftBy a (now (rec .exit)) (now (out .exit)) ≡ after (now (rec .entry)) (now (out .entry)) (answer (some (contents r)) (hears (Accepted f))) ⌝ }
+// A frame that the reader accepted, against the record.
+fn frame_read(rec: &mut [u8], set: Settings, f: Frame, out: &mut [u8]) -> Answer
+    requires { ⌜ Read (now rec) set f × (256 ≤ length (now out)) ⌝ }
+    ensures { λ a. ⌜ leftBy a (now (rec .exit)) (now (out .exit)) ≡ readLeft (now (rec .entry)) f (now (out .entry)) ⌝ }
 {
-    let why = keeping::keep_refusal(
-        &r.marks,
-        &r.views,
-        &r.plans,
-        r.view,
-        f.sender,
-        f.kind,
-        f.view,
-    );
+    let view = layout::view_of(rec);
+    let why = keeping::keep_refusal(rec, view, f.sender, f.kind, f.view);
     if why != 0 {
         return Answer::Refused(why);
     }
-    let went = hear(r, f, out);
-    let left = went.left;
-    layout::encode(left, rec);
-    Answer::Written(went.count)
+    let heard = hear(rec, set, f, out);
+    Answer::Written(heard)
 }
 
-// Frame on a record of the right length that is not blank. The reader's refusal is passed on, with the record unchanged.
-fn frame_held(rec: &mut [u8], sender: u8, bytes: &[u8], out: &mut [u8]) -> Answer
-    requires { ⌜ (length (now rec) ≡ 11703) × (decodeRecord (now rec) .n ≡ 0 → ⊥) × (256 ≤ length (now out)) ⌝ }
+// Frame on a sound record. The reader's refusal is passed on, with the record unchanged.
+fn frame_in(rec: &mut [u8], sender: u8, bytes: &[u8], out: &mut [u8]) -> Answer
+    requires { ⌜ (lentIs (now rec) ≡ Sound) × (256 ≤ length (now out)) ⌝ }
     ensures { λ a. ⌜ leftBy a (now (rec .exit)) (now (out .exit)) ≡ frameLeft (now (rec .entry)) sender (now (bytes .entry)) (now (out .entry)) ⌝ }
 {
-    let r = layout::decode(rec);
-    if !sound::sound_in(
-        &r.marks,
-        &r.views,
-        &r.plans,
-        r.n,
-        r.f,
-        r.id,
-        r.class,
-        r.view,
-    ) {
-        return Answer::Refused(3);
-    }
-    let got = reader::read(bytes, sender, r.n, r.id);
+    let set = layout::settings_of(rec);
+    let got = reader::read(bytes, sender, set.n, set.id);
     let Reading::Accepted(f) = got else {
         return Answer::Refused(frame::refusal_of(got));
     };
-    frame_read(rec, r, f, out)
+    frame_read(rec, set, f, out)
 }
 
 // Frame: bytes that came over the link from a sender.
 pub fn frame(rec: &mut [u8], sender: u8, bytes: &[u8], out: &mut [u8]) -> Answer
     ensures { λ r. ⌜ leftBy r (now (rec .exit)) (now (out .exit)) ≡ frameLeft (now (rec .entry)) sender (now (bytes .entry)) (now (out .entry)) ⌝ }
 {
-    if out.len() < 256 {
-        return Answer::Refused(1);
+    let why = way_in(rec, out.len());
+    if why != 0 {
+        return Answer::Refused(why);
     }
-    if rec.len() != layout::SIZE {
-        return Answer::Refused(3);
-    }
-    if rec[0] == 0 {
-        return Answer::Refused(2);
-    }
-    frame_held(rec, sender, bytes, out)
+    frame_in(rec, sender, bytes, out)
 }
 
 // ---- timer
-
-// The view that an accepted timer asks for: that of the own view-change where it is above the current view, else the next one.
-fn wanted_view<'a>(marks: &'a [u8], views: &'a [u32], id: u8, view: u32) -> u32
-    requires { ⌜ (length (now marks) ≡ 899) × (length (now views) ≡ 899) × (id < 64) × (view < 4294967295) ⌝ }
-    ensures { λ w. ⌜ w ≡ wantedFrom view (changeIn (now (marks .entry)) (now (views .entry)) id) ⌝ }
-{
-    let s = record::frame_slot(6, id);
-    if marks[s] != 1 {
-        return view + 1;
-    }
-    let own = views[s];
-    if view < own {
-        return own;
-    }
-    view + 1
-}
 
 // Refusals 18 and 19 of a timer for a view, in their order; 0 where none is given.
 fn timer_refusal(current: u32, view: u32) -> u8
     ensures { λ k. ⌜ TimerGives current view k ⌝ }
 {
     if view != current {
-        return 18;
+        return OTHER_VIEW;
     }
-    if current == 4294967295 {
-        return 19;
+    if current == LAST {
+        return NO_VIEW;
     }
     0
 }
 
-// A view is asked for; then one pass from A.
-fn ring(r: Record, out: &mut [u8]) -> Passed
-    requires { ⌜ Ready r × (r .view < 4294967295) × (256 ≤ length (now out)) ⌝ }
-    ensures { λ p. ⌜ Ran (rung (contents r)) 0 (now (out .entry)) (now (out .exit)) p ⌝ }
+// The view that an accepted timer asks for: that of the own view-change where it is above the current view, else the next one.
+fn wanted_view(rec: &[u8], id: u8, view: u32) -> u32
+    requires { ⌜ (length (now rec) ≡ recordSize) × (id < rows) × (view < 4294967295) ⌝ }
+    ensures { λ w. ⌜ w ≡ wantedFrom view (changeOf (contentsIn (now (rec .entry))) id) ⌝ }
 {
-    let w = wanted_view(&r.marks, &r.views, r.id, r.view);
-    let s = pass::ask_for(r, w);
-    let entries = s.entries;
-    let left = s.left;
-    let at = pass::write_entries(out, 0, entries);
-    pass::pass_a(left, out, at)
+    let at = layout::frame_slot(VIEW_CHANGE, id);
+    let own = layout::slot_of(rec, at);
+    if own.mark != 1 {
+        return view + 1;
+    }
+    if view < own.view {
+        return own.view;
+    }
+    view + 1
 }
 
-// Timer on a record of the right length that is not blank.
-fn timer_held(rec: &mut [u8], view: u32, out: &mut [u8]) -> Answer
-    requires { ⌜ (length (now rec) ≡ 11703) × (decodeRecord (now rec) .n ≡ 0 → ⊥) × (256 ≤ length (now out)) ⌝ }
+// A view is asked for; then one pass from A.
+fn ring(rec: &mut [u8], set: Settings, view: u32, out: &mut [u8]) -> usize
+    requires { ⌜ Held (now rec) set × (view ≡ decodeRecord (now rec) .view) × (view < 4294967295) × (256 ≤ length (now out)) ⌝ }
+    ensures { λ n. ⌜ Ran (rung (contentsIn (now (rec .entry)))) 0 (now (out .entry)) (now (out .exit)) n (now (rec .exit)) ⌝ }
+{
+    let w = wanted_view(rec, set.id, view);
+    let at = pass::ask_for(rec, set, w, out, 0);
+    pass::pass_from(rec, set, FROM_A, out, at)
+}
+
+// Timer on a sound record.
+fn timer_in(rec: &mut [u8], view: u32, out: &mut [u8]) -> Answer
+    requires { ⌜ (lentIs (now rec) ≡ Sound) × (256 ≤ length (now out)) ⌝ }
     ensures { λ r. ⌜ leftBy r (now (rec .exit)) (now (out .exit)) ≡ timerLeft (now (rec .entry)) view (now (out .entry)) ⌝ }
 {
-    let r = layout::decode(rec);
-    if !sound::sound_in(
-        &r.marks,
-        &r.views,
-        &r.plans,
-        r.n,
-        r.f,
-        r.id,
-        r.class,
-        r.view,
-    ) {
-        return Answer::Refused(3);
-    }
-    let why = timer_refusal(r.view, view);
+    let current = layout::view_of(rec);
+    let why = timer_refusal(current, view);
     if why != 0 {
         return Answer::Refused(why);
     }
-    let p = ring(r, out);
-    let left = p.left;
-    layout::encode(left, rec);
-    Answer::Written(p.count)
+    let set = layout::settings_of(rec);
+    let rung = ring(rec, set, current, out);
+    Answer::Written(rung)
 }
 
 // Timer, for the view that the host names.
 pub fn timer(rec: &mut [u8], view: u32, out: &mut [u8]) -> Answer
     ensures { λ r. ⌜ leftBy r (now (rec .exit)) (now (out .exit)) ≡ timerLeft (now (rec .entry)) view (now (out .entry)) ⌝ }
 {
-    if out.len() < 256 {
-        return Answer::Refused(1);
+    let why = way_in(rec, out.len());
+    if why != 0 {
+        return Answer::Refused(why);
     }
-    if rec.len() != layout::SIZE {
-        return Answer::Refused(3);
-    }
-    if rec[0] == 0 {
-        return Answer::Refused(2);
-    }
-    timer_held(rec, view, out)
+    timer_in(rec, view, out)
 }

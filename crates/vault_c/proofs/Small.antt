@@ -9,6 +9,7 @@ use mathlib.Core.Option.{Option, none, some}
 use native.Mathlib.Omega.{arith}
 use lib.Dec.{ltb}
 use lib.ListN.{length}
+use Rattle.settings.specs.declared.Settings.{Settings}
 use Rattle.layout.specs.Layout.{decodeRecord}
 use Rattle.sound.specs.declared.Lent.{Lent}
 use Rattle.sound.specs.declared.Lent.the-variants.{Blank, Unsound, Sound}
@@ -49,13 +50,13 @@ module _ (rec out : List ℕ) (a : Call) where
       go true = tt
       go false = small-lent (lentIs rec) k (contents (decodeRecord rec))
 
-pub small-start : (rec : List ℕ) (n f id class plan : ℕ) (out : List ℕ) → Small (startLeft rec n f id class plan out)
+pub small-start : (rec : List ℕ) (set : Settings) (plan : ℕ) (out : List ℕ) → Small (startLeft rec set plan out)
 unfolding startLeft
-small-start rec n f id class plan out = small-called rec out (start (record { n = n; f = f; id = id; class = class }) plan) 4
+small-start rec set plan out = small-called rec out (start set plan) 4
 
 pub small-frame : (rec : List ℕ) (link : ℕ) (bytes out : List ℕ) → Small (frameLeft rec link bytes out)
 unfolding frameLeft
-small-frame rec link bytes out = small-called rec out (frame (readFrame bytes link (decodeRecord rec .n) (decodeRecord rec .id))) 3
+small-frame rec link bytes out = small-called rec out (frame (readFrame bytes link (decodeRecord rec .set .n) (decodeRecord rec .set .id))) 3
 
 pub small-timer : (rec : List ℕ) (view : ℕ) (out : List ℕ) → Small (timerLeft rec view out)
 unfolding timerLeft

@@ -1,10 +1,10 @@
 // The vault for Rust and C hosts: start, frame and timer over lent bytes, with one number as the answer (include/vault.h).
 ghost use mathlib.Core.Path.{_≡_};
+ghost use Rattle.layout.specs.Layout.{recordSize};
 ghost use Rattle.contents.specs.Calls.{startLeft, frameLeft, timerLeft};
 ghost use Rattle.vault_c.specs.Numbers.{code, Short, seen, numbered};
+use settings::Settings;
 use vault::Answer;
-
-const RECORD_SIZE: u32 = 11703;
 
 // What a call that is accepted gives, less the bytes that it wrote.
 const ACCEPTED: u32 = 256;
@@ -23,9 +23,9 @@ fn number(a: Answer) -> u32
 // How many bytes a record has.
 #[no_mangle]
 pub extern "C" fn vault_record_size() -> u32
-    ensures { λ r. ⌜ r ≡ 11703 ⌝ }
+    ensures { λ r. ⌜ r ≡ recordSize ⌝ }
 {
-    RECORD_SIZE
+    layout::SIZE as u32
 }
 
 // Starts the vault of a blank record.
@@ -39,9 +39,9 @@ pub extern "C" fn vault_start(
     plan: u64,
     out: &mut [u8],
 ) -> u32
-    ensures { λ r. ⌜ seen r (now (rec .exit)) (now (out .exit)) ≡ numbered (startLeft (now (rec .entry)) n f id class plan (now (out .entry))) ⌝ }
+    ensures { λ r. ⌜ seen r (now (rec .exit)) (now (out .exit)) ≡ numbered (startLeft (now (rec .entry)) (record { n = n; f = f; id = id; class = class }) plan (now (out .entry))) ⌝ }
 {
-    let a = vault::start(rec, n, f, id, class, plan, out);
+    let a = vault::start(rec, Settings { n, f, id, class }, plan, out);
     number(a)
 }
 

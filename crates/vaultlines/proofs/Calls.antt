@@ -23,7 +23,7 @@ use Rattle.contents.specs.Calls.{Left, gave, called, startLeft, frameLeft, time
 use Rattle.runs.specs.Runs.{Call, start, frame, timer, InWidth}
 use Rattle.runs.specs.Left.{LeavesWell}
 use Rattle.runs.proofs.Left.{callLeavesWell}
-use Rattle.vaultlines.specs.Lines.{isKind, startOf, timerOf, frameOf, callOf, callLeft}
+use Rattle.vaultlines.specs.Lines.{isKind, settingsAt, startOf, timerOf, frameOf, callOf, callLeft}
 
 -- ---- each kind's call
 
@@ -38,7 +38,7 @@ module _ (rec out s : List ℕ) where
   timerWrong wrong = simp (ne-eqb (length s) 5 wrong)
 
   pub startMade : length s ≡ 13 → (plan : ℕ) → plan ≡ numberAt 8 s 5 → (left : Left)
-      → left ≡ startLeft rec (getD s 1 0) (getD s 2 0) (getD s 3 0) (getD s 4 0) plan out → left ≡ callLeft rec out (startOf s)
+      → left ≡ startLeft rec (settingsAt s) plan out → left ≡ callLeft rec out (startOf s)
   unfolding startOf
   startMade right plan is left e = e ∙ rw (is, eq-eqb (length s) 13 right)
 
@@ -87,7 +87,7 @@ shortRead s a b n own short =
 pub senderUnread : (rec s out : List ℕ) (a b : ℕ) → length s < 2 → frameLeft rec a s out ≡ frameLeft rec b s out
 unfolding frameLeft
 senderUnread rec s out a b short =
-    ap (λ (x : Reading). called 3 rec out (by.frame x)) (shortRead s a b (decodeRecord rec .n) (decodeRecord rec .id) short)
+    ap (λ (x : Reading). called 3 rec out (by.frame x)) (shortRead s a b (decodeRecord rec .set .n) (decodeRecord rec .set .id) short)
 
 -- ---- what a line's call leaves can be printed
 
@@ -107,7 +107,7 @@ callInWidth s bytes =
     (either (isKind 9 s) (timerOf s) (frameOf s) (either (eqb (length s) 5) (some (timer (numberAt 4 s 1))) none tt tt) bytes)
   where
     starts : Call
-    starts = start (getD s 1 0) (getD s 2 0) (getD s 3 0) (getD s 4 0) (numberAt 8 s 5)
+    starts = start (settingsAt s) (numberAt 8 s 5)
 
 pub callWell : (rec out s : List ℕ) → Bytes rec → Bytes s → LeavesWell rec out (callLeft rec out (callOf s))
 callWell rec out s br bs = go (callOf s) (callInWidth s bs)

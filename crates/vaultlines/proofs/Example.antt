@@ -21,6 +21,7 @@ use Rattle.frame.specs.Refusal.{readFrame, refusal, viewMissing, misled}
 use Rattle.entry.specs.Layout.{entryBytes}
 use Rattle.settings.specs.Settings.{delayOf}
 use Rattle.layout.specs.Layout.{decodeRecord}
+use Rattle.sound.specs.Sound.{lentIs}
 use Rattle.protocol.specs.Record.{Record, highest}
 use Rattle.settings.specs.declared.Settings.{Settings}
 use Rattle.protocol.specs.Pass.{Out, does, writes, agreed, pass, stepA, stepB, stepC, stepD, stepVote, stepH}
@@ -114,7 +115,7 @@ blankAt = record { held = refl; fine = λ r e. absurd (none≢some e) }
 
 starts : Goes (lineLeft blank (text "00040100020000000000000007")) first
 unfolding valueOf within allDigits badLine spelled bytesOf startOf timerOf frameOf callOf numberAt lineLeft
-starts = goes blank none (start 4 1 0 2 7) blankAt (omega arith) first firstAccepted
+starts = goes blank none (start settings 7) blankAt (omega arith) first firstAccepted
 
 -- A vote-1 heard by a vault of 4 with number 0.
 module _ (rec : List ℕ) (r : Record) (at : At rec (some r)) where
@@ -134,7 +135,7 @@ module _ (rec : List ℕ) (r : Record) (at : At rec (some r)) where
       → printed (lineLeft rec (text "0201000000000000000000000007")) ≡ lineOf (253 ∷ k ∷ [])
   unfolding valueOf within allDigits badLine spelled bytesOf startOf timerOf frameOf callOf numberAt lineLeft
   refuses1 k is =
-      ap printed (leavesBy rec (some r) (frame 1 (voted 1)) (at .held)
+      ap printed (leavesRoom rec zeroed (some r) (frame 1 (voted 1)) (at .held) (omega (arith, zeroedSize))
       ∙ ap (after rec zeroed) (ap (λ (a : by.Call). answer (some r) a) (saidFrame rec r 1 (voted 1) (at .held)) ∙ is))
 
 -- Document 01's example, whole.

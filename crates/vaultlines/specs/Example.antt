@@ -13,7 +13,7 @@ use Rattle.frame.specs.Format.{within, lengthOf, encode, decode, bodyAs}
 use Rattle.entry.specs.declared.Entry.{Entry}
 use Rattle.entry.specs.declared.Entry.the-variants.{ForAll, Timer}
 use Rattle.entry.specs.Layout.{entryBytes, layout, entryAt, sizeAt, entriesWithin}
-use Rattle.layout.specs.Layout.{decodeRecord}
+use Rattle.layout.specs.Layout.{recordSize, decodeRecord}
 use Rattle.sound.specs.Sound.{lentIs}
 use Rattle.protocol.specs.Calls.{answer}
 use Rattle.contents.specs.Calls.{wrote, gave, called, frameLeft, timerLeft}
@@ -35,7 +35,7 @@ abbrev says : String → Option Call
 says line = callOfBytes (bytesOf (text line))
 
 -- The example's calls; and a timer, an empty line, a start and a timer of wrong length.
-calls : (says "00040100020000000000000007" ≡ some (start 4 1 0 2 7))
+calls : (says "00040100020000000000000007" ≡ some (start (record { n = 4; f = 1; id = 0; class = 2 }) 7))
     × (says "0201000000000000000000000007" ≡ some (frame 1 (2 ∷ 1 ∷ 0 ∷ 0 ∷ 0 ∷ 0 ∷ 0 ∷ 0 ∷ 0 ∷ 0 ∷ 0 ∷ 0 ∷ 0 ∷ 7 ∷ [])))
     × (says "09000001ff" ≡ some (timer 511)) × (says "" ≡ some (frame 0 [])) × (says "000401000200000000000007" ≡ none) × (says "09000001" ≡ none)
 unfolding valueOf within allDigits badLine spelled bytesOf startOf timerOf frameOf callOf numberAt
@@ -61,7 +61,7 @@ refusals rec = (refl, refl, refl, refl, refl, refl)
 
 -- A record of zeros is blank: "`vaultlines` begins with a blank record".
 abbrev pub blank : List ℕ
-blank = replicate 11703 0
+blank = replicate recordSize 0
 
 -- A frame or a timer on it gives 2.
 unstarted : (printed (lineLeft blank (text "")) ≡ text "fd02\n") × (printed (lineLeft blank (text "0900000000")) ≡ text "fd02\n")

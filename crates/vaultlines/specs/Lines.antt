@@ -11,6 +11,7 @@ use Rattle.wire.specs.Digits.{numberAt}
 use Rattle.wire.specs.Placed.{placed}
 use Rattle.entry.specs.declared.Entry.{Entry}
 use Rattle.entry.specs.Layout.{entryBytes, entriesOf}
+use Rattle.settings.specs.declared.Settings.{Settings}
 use Rattle.contents.specs.Calls.{Left, wrote, gave}
 use Rattle.runs.specs.Runs.{Call, start, frame, timer, leaves, recordIn}
 use Rattle.vaultlines.specs.Digits.{bytesOf, lineOf}
@@ -19,9 +20,13 @@ use Rattle.vaultlines.specs.Digits.{bytesOf, lineOf}
 abbrev pub isKind : ℕ → List ℕ → Bool
 isKind kind s = not (eqb (length s) 0) && eqb (getD s 0 0) kind
 
+-- "n, f, id, class, one byte each": the settings of a start's bytes.
+abbrev pub settingsAt : List ℕ → Settings
+settingsAt s = record { n = getD s 1 0; f = getD s 2 0; id = getD s 3 0; class = getD s 4 0 }
+
 -- "Kind 00 starts (n, f, id, class, one byte each, then plan; 13 bytes)"; with another length it is no call.
 unfoldable pub startOf : List ℕ → Option Call
-startOf s = cond (eqb (length s) 13) (some (start (getD s 1 0) (getD s 2 0) (getD s 3 0) (getD s 4 0) (numberAt 8 s 5))) none
+startOf s = cond (eqb (length s) 13) (some (start (settingsAt s) (numberAt 8 s 5))) none
 
 -- "kind 09 is a timer (view; 5 bytes)"; with another length it is no call.
 unfoldable pub timerOf : List ℕ → Option Call

@@ -14,6 +14,7 @@ ghost use Rattle.vault.specs.Answers.{leftBy};
 ghost use Rattle.vaultlines.specs.Digits.{valueOf, digitOf, lineOf, bytesOf};
 ghost use Rattle.vaultlines.specs.Lines.{startOf, timerOf, frameOf, callOf, callLeft, zeroed, lineLeft, entryLines, printed, Shown, Answered};
 ghost use Rattle.vaultlines.specs.Steps.{spells, countOf, Laid, Printable, roomAt, Fed};
+use settings::Settings;
 use vault::Answer;
 
 // A line has at most 90 digits, so 45 bytes.
@@ -23,8 +24,6 @@ const BYTES: usize = 45;
 
 // Of a line's text one byte more than 90 digits is kept: enough to give 20 where the line does (`keptEnough`, proofs/Answers).
 const KEPT: usize = 91;
-
-const RECORD_LENGTH: usize = 11703;
 
 const OUTPUT_LENGTH: usize = 256;
 
@@ -121,7 +120,13 @@ fn start(rec: &mut [u8], bytes: &[u8], out: &mut [u8]) -> Answer
         return Answer::Refused(BAD_LENGTH);
     }
     let plan = wire::number(bytes, 5, 8);
-    vault::start(rec, bytes[1], bytes[2], bytes[3], bytes[4], plan, out)
+    let set = Settings {
+        n: bytes[1],
+        f: bytes[2],
+        id: bytes[3],
+        class: bytes[4],
+    };
+    vault::start(rec, set, plan, out)
 }
 
 // "kind 09 is a timer (view; 5 bytes)"
@@ -388,7 +393,7 @@ fn run(rec: &mut [u8], text: &mut [u8], page: &mut [u8])
 }
 
 fn main() {
-    let mut rec = [0u8; RECORD_LENGTH];
+    let mut rec = [0u8; layout::SIZE];
     let mut text = [0u8; KEPT];
     let mut page = [0u8; PAGE_LENGTH];
     run(&mut rec, &mut text, &mut page);

@@ -1,61 +1,94 @@
--- `acts::act_a` meets its contract: the climb from where views are news ends above it, or there is nothing to ask for.
+-- `acts::act_a` meets its contract: the highest view from where views are news is above that, or there is nothing to ask for.
 -- Assumes nothing.
-use Rattle.record.specs.declared.Record.{Record}
+use mathlib.Core.Path.{_∙_, ap}
+use Rattle.protocol.specs.Pass.{actA}
+use Rattle.acts.proofs.Parts.{sharedLength, seen, seat, contentsSeen, reads}
 use Rattle.acts.proofs.Asked.{asksFor, silent}
 use borrow.Author.Needs.{needs}
+use native.Mathlib.Omega.{arith}
 use Rattle.acts.proofs.act_a.Statement.{statement}
 use Rattle.acts.proofs.act_a.Tie as tie
 
-add-s : tie.Need-add-s
-add-s c = search needs
+sub-shared : tie.Need-sub-shared
+sub-shared c = search needs
 
-shared-slice-read-news-from : tie.Need-shared-slice-read-news-from
-shared-slice-read-news-from c = search needs
+part-shared-start : tie.Need-part-shared-start
+part-shared-start c = search needs
 
-mul-news-from : tie.Need-mul-news-from
-mul-news-from c = search needs
+part-shared-end : tie.Need-part-shared-end
+part-shared-end c = search needs
 
-shared-slice-read-news-from-2 : tie.Need-shared-slice-read-news-from-2
-shared-slice-read-news-from-2 c = search needs
+cast-change-above : tie.Need-cast-change-above
+cast-change-above c = search needs
 
-news-from-requires : tie.Need-news-from-requires
-news-from-requires c κs = search needs
+mul-change-above : tie.Need-mul-change-above
+mul-change-above c = search needs
+
+add-change-above : tie.Need-add-change-above
+add-change-above c = search needs
+
+change-above-requires : tie.Need-change-above-requires
+change-above-requires c κs =
+    let e = c .before .before .before in
+    let set = seat (e .args .rec .now) (e .args .set) (e .args .view) (e .pre .0) (e .pre .1) (e .pre .2) in
+    let size = sharedLength (e .args .rec .now) (e .pre .0) in
+    omega arith
+
+cast-highest-change : tie.Need-cast-highest-change
+cast-highest-change c = search needs
+
+cast-highest-change-2 : tie.Need-cast-highest-change-2
+cast-highest-change-2 c = search needs
 
 add-highest-change : tie.Need-add-highest-change
 add-highest-change c = search needs
 
 highest-change-requires : tie.Need-highest-change-requires
-highest-change-requires c κs = search needs
+highest-change-requires c κs =
+    let e = c .before .before .before .before .before .before in
+    let set = seat (e .args .rec .now) (e .args .set) (e .args .view) (e .pre .0) (e .pre .1) (e .pre .2) in
+    let size = sharedLength (e .args .rec .now) (e .pre .0) in
+    (size, set .most, omega arith, omega arith)
 
 returns : tie.Need-returns
 returns c =
-    let a = c .before .before .before .before .before .before .before .before .args in
-    let fit = c .before .before .before .before .before .before .before .before .pre in
-    λ class start.
-    let r : Record = record { n = a .n; f = a .f; id = a .id; class = class; view = a .view; plan = start; marks = a .marks .now; views = a .views .now; plans = a .plans .now } in
-    let low = c .before .before .news-from in
-    let top = c .before .highest-change in
-    asksFor r (fit .most) (fit .own) (low .result) (top .result) (low .ensures) (top .ensures) (c .if1 .taken)
+    let top = c .before in
+    let low = top .before .before .before in
+    let e = low .before .before .before .before in
+    let a = e .args in
+    let s = a .rec .now in
+    let r = seen s (a .set) (a .view) in
+    let here = reads s (a .set) (a .view) (e .pre .0) (e .pre .1) (e .pre .2) in
+    let is = contentsSeen s (a .set) (a .view) (e .pre .0) (e .pre .1) (e .pre .2) in
+    asksFor s r here (low .change-above .result) (top .highest-change .result) (low .change-above .ensures) (top .highest-change .ensures) (c .if1 .taken)
+    ∙ ap actA is
 
 returns-2 : tie.Need-returns-2
 returns-2 c =
-    let a = c .before .before .before .before .before .before .before .before .args in
-    let fit = c .before .before .before .before .before .before .before .before .pre in
-    λ class start.
-    let r : Record = record { n = a .n; f = a .f; id = a .id; class = class; view = a .view; plan = start; marks = a .marks .now; views = a .views .now; plans = a .plans .now } in
-    let low = c .before .before .news-from in
-    let top = c .before .highest-change in
-    silent r (fit .most) (fit .own) (low .result) (top .result) (low .ensures) (top .ensures) (c .if1 .left)
+    let top = c .before in
+    let low = top .before .before .before in
+    let e = low .before .before .before .before in
+    let a = e .args in
+    let s = a .rec .now in
+    let r = seen s (a .set) (a .view) in
+    let here = reads s (a .set) (a .view) (e .pre .0) (e .pre .1) (e .pre .2) in
+    let is = contentsSeen s (a .set) (a .view) (e .pre .0) (e .pre .1) (e .pre .2) in
+    silent s r here (low .change-above .result) (top .highest-change .result) (low .change-above .ensures) (top .highest-change .ensures) (c .if1 .left)
+    ∙ ap actA is
 
 pub act-a-spec : {M : Type 1} → statement M
 act-a-spec =
     tie.close
     (tie.spec
-    add-s
-    shared-slice-read-news-from
-    mul-news-from
-    shared-slice-read-news-from-2
-    news-from-requires
+    sub-shared
+    part-shared-start
+    part-shared-end
+    cast-change-above
+    mul-change-above
+    add-change-above
+    change-above-requires
+    cast-highest-change
+    cast-highest-change-2
     add-highest-change
     highest-change-requires
     returns

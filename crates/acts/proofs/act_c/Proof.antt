@@ -1,49 +1,93 @@
 -- `acts::act_c` meets its contract: it is the leader's turn, it has not proposed, and the plan to propose is the search's.
 -- Assumes nothing.
 use mathlib.Core.Path.{sym, _∙_, ap}
-use mathlib.Core.Bool.{not}
-use mathlib.Core.Option.{none}
-use Rattle.rules.specs.Options.{isNone}
-use Rattle.frame.specs.declared.Report.{Report}
-use Rattle.record.specs.declared.Record.{Record}
-use Rattle.acts.specs.Votes.{voted}
+use mathlib.Core.Option.{none, some}
 use Rattle.safe.specs.Choices.{chosen}
-use Rattle.safe.specs.declared.Choice.{Choice}
+use Rattle.protocol.specs.Pass.{actC}
+use Rattle.acts.proofs.Parts.{blockLength, seen, seat, contentsSeen, reads}
 use Rattle.acts.proofs.Proposals.{leadsNot, proposed, proposes}
 use borrow.Author.Needs.{needs}
+use native.Mathlib.Omega.{arith}
 use Rattle.acts.proofs.act_c.Statement.{statement}
 use Rattle.acts.proofs.act_c.Tie as tie
 
+cast-leader : tie.Need-cast-leader
+cast-leader c = search needs
+
 leader-requires : tie.Need-leader-requires
-leader-requires c κs = search needs
+leader-requires c κs =
+    let e = c .before .before in
+    let set = seat (e .args .rec .now) (e .args .set) (e .args .view) (e .pre .0) (e .pre .1) (e .pre .2) in
+    let size = blockLength (e .args .rec .now) (e .pre .0) in
+    omega (arith, set .least)
+
+cast-if1 : tie.Need-cast-if1
+cast-if1 c = search needs
 
 returns : tie.Need-returns
 returns c =
-    let a = c .before .before .before .before .before .args in
-    let fit = c .before .before .before .before .before .pre .0 in
-    let marked = c .before .before .before .before .before .pre .1 in
-    λ class.
-    let r : Record = record { n = a .n; f = a .f; id = a .id; class = class; view = a .view; plan = a .start; marks = a .marks .now; views = a .views .now; plans = a .plans .now } in
-    leadsNot r (fit .most) (fit .own) marked (c .before .leader .result) (c .before .leader .ensures .0) (c .if1 .taken)
+    let l = c .before .before in
+    let e = l .before .before .before in
+    let a = e .args in
+    let s = a .rec .now in
+    let r = seen s (a .set) (a .view) in
+    let here = reads s (a .set) (a .view) (e .pre .0) (e .pre .1) (e .pre .2) in
+    let is = contentsSeen s (a .set) (a .view) (e .pre .0) (e .pre .1) (e .pre .2) in
+    leadsNot s r here (l .leader .result) (l .leader .ensures .0) (c .if1 .taken) ∙ ap actC is
 
-slot-in-requires : tie.Need-slot-in-requires
-slot-in-requires c κs = search needs
+sub-block : tie.Need-sub-block
+sub-block c = search needs
+
+part-block-start : tie.Need-part-block-start
+part-block-start c = search needs
+
+part-block-end : tie.Need-part-block-end
+part-block-end c = search needs
 
 sent-requires : tie.Need-sent-requires
-sent-requires c κs = search needs
+sent-requires c κs =
+    let e = c .before .before .before .before .before .before in
+    let set = seat (e .args .rec .now) (e .args .set) (e .args .view) (e .pre .0) (e .pre .1) (e .pre .2) in
+    let size = blockLength (e .args .rec .now) (e .pre .0) in
+    (size, omega arith, omega (arith, set .most, set .own))
 
 returns-2 : tie.Need-returns-2
 returns-2 c =
-    let a = c .before .before .before .before .before .before .before .before .args in
-    let fit = c .before .before .before .before .before .before .before .before .pre .0 in
-    let marked = c .before .before .before .before .before .before .before .before .pre .1 in
-    λ class.
-    let r : Record = record { n = a .n; f = a .f; id = a .id; class = class; view = a .view; plan = a .start; marks = a .marks .now; views = a .views .now; plans = a .plans .now } in
-    let was = ap (λ (x : Report). not (isNone (voted (a .view) x))) (sym (c .before .before .slot-in .ensures)) ∙ sym (c .before .sent .ensures) ∙ c .if2 .taken in
-    proposed r (fit .most) (fit .own) marked was
+    let told = c .before in
+    let led = told .before .before in
+    let l = led .before .before in
+    let e = l .before .before .before in
+    let a = e .args in
+    let s = a .rec .now in
+    let r = seen s (a .set) (a .view) in
+    let here = reads s (a .set) (a .view) (e .pre .0) (e .pre .1) (e .pre .2) in
+    let is = contentsSeen s (a .set) (a .view) (e .pre .0) (e .pre .1) (e .pre .2) in
+    proposed s r here (l .leader .result) (l .leader .ensures .0) (led .if1 .left) (told .sent .result) (told .sent .ensures) (c .if2 .taken) ∙ ap actC is
 
-proposal-requires : tie.Need-proposal-requires
-proposal-requires c κs = search needs
+gather-requires : tie.Need-gather-requires
+gather-requires c κs =
+    let e = c .before .before .before .before .before .before .before .before in
+    let set = seat (e .args .rec .now) (e .args .set) (e .args .view) (e .pre .0) (e .pre .1) (e .pre .2) in
+    let size = blockLength (e .args .rec .now) (e .pre .0) in
+    (size, set .most, omega arith, omega arith)
+
+slice-aggregate-choose : tie.Need-slice-aggregate-choose
+slice-aggregate-choose c = search needs
+
+plan-of-requires : tie.Need-plan-of-requires
+plan-of-requires c κs =
+    let unsent = c .before .before in
+    let led = unsent .before .before .before in
+    let e = led .before .before .before .before .before in
+    e .pre .0 .size
+
+choose-requires : tie.Need-choose-requires
+choose-requires c κs =
+    let table = c .before .before in
+    let led = table .before .before .before .before in
+    let e = led .before .before .before .before .before in
+    let set = seat (e .args .rec .now) (e .args .set) (e .args .view) (e .pre .0) (e .pre .1) (e .pre .2) in
+    (table .gather .ensures .size, set .most, omega (arith, set .third))
 
 enum-known-p : tie.Need-enum-known-p
 enum-known-p c = search needs
@@ -53,36 +97,59 @@ enum-told c = search needs
 
 returns-3 : tie.Need-returns-3
 returns-3 c =
-    let a = c .before .before .before .before .before .before .before .before .before .before .before .before .args in
-    let fit = c .before .before .before .before .before .before .before .before .before .before .before .before .pre .0 in
-    let marked = c .before .before .before .before .before .before .before .before .before .before .before .before .pre .1 in
-    λ class.
-    let r : Record = record { n = a .n; f = a .f; id = a .id; class = class; view = a .view; plan = a .start; marks = a .marks .now; views = a .views .now; plans = a .plans .now } in
-    let was = ap (λ (x : Report). not (isNone (voted (a .view) x))) (sym (c .before .before .before .before .before .before .slot-in .ensures)) ∙ sym (c .before .before .before .before .before .sent .ensures) ∙ c .before .before .before .before .if2 .left in
-    let e = sym (ap (λ (x : Choice). chosen x) (c .before .p .given .1)) ∙ c .before .before .before .proposal .ensures in
-    proposes r (fit .most) (fit .own) marked (c .before .before .before .before .before .before .before .before .leader .result) _ (c .before .before .before .before .before .before .before .before .leader .ensures .0) (c .before .before .before .before .before .before .before .if1 .left) was e
+    let plan = c .before .before .before in
+    let start = plan .before in
+    let table = start .before .before in
+    let unsent = table .before in
+    let told = unsent .before in
+    let led = told .before .before in
+    let l = led .before .before in
+    let e = l .before .before .before in
+    let a = e .args in
+    let s = a .rec .now in
+    let r = seen s (a .set) (a .view) in
+    let here = reads s (a .set) (a .view) (e .pre .0) (e .pre .1) (e .pre .2) in
+    let is = contentsSeen s (a .set) (a .view) (e .pre .0) (e .pre .1) (e .pre .2) in
+    let choice = sym (ap chosen (c .before .p .given .1)) ∙ plan .choose .ensures in
+    proposes s r here (l .leader .result) (l .leader .ensures .0) (led .if1 .left) (told .sent .result) (told .sent .ensures) (unsent .if2 .left)
+    (table .gather .result) (start .plan-of .result) (table .gather .ensures) (start .plan-of .ensures) (some (c .before .p .given .0 .0)) choice ∙ ap actC is
 
 returns-4 : tie.Need-returns-4
 returns-4 c =
-    let a = c .before .before .before .before .before .before .before .before .before .before .before .args in
-    let fit = c .before .before .before .before .before .before .before .before .before .before .before .pre .0 in
-    let marked = c .before .before .before .before .before .before .before .before .before .before .before .pre .1 in
-    λ class.
-    let r : Record = record { n = a .n; f = a .f; id = a .id; class = class; view = a .view; plan = a .start; marks = a .marks .now; views = a .views .now; plans = a .plans .now } in
-    let was = ap (λ (x : Report). not (isNone (voted (a .view) x))) (sym (c .before .before .before .before .before .slot-in .ensures)) ∙ sym (c .before .before .before .before .sent .ensures) ∙ c .before .before .before .if2 .left in
-    let e = sym (ap (λ (x : Choice). chosen x) (c .enum-told .given .1)) ∙ c .before .before .proposal .ensures in
-    proposes r (fit .most) (fit .own) marked (c .before .before .before .before .before .before .before .leader .result) none (c .before .before .before .before .before .before .before .leader .ensures .0) (c .before .before .before .before .before .before .if1 .left) was e
+    let plan = c .before .before in
+    let start = plan .before in
+    let table = start .before .before in
+    let unsent = table .before in
+    let told = unsent .before in
+    let led = told .before .before in
+    let l = led .before .before in
+    let e = l .before .before .before in
+    let a = e .args in
+    let s = a .rec .now in
+    let r = seen s (a .set) (a .view) in
+    let here = reads s (a .set) (a .view) (e .pre .0) (e .pre .1) (e .pre .2) in
+    let is = contentsSeen s (a .set) (a .view) (e .pre .0) (e .pre .1) (e .pre .2) in
+    let choice = sym (ap chosen (c .enum-told .given .1)) ∙ plan .choose .ensures in
+    proposes s r here (l .leader .result) (l .leader .ensures .0) (led .if1 .left) (told .sent .result) (told .sent .ensures) (unsent .if2 .left)
+    (table .gather .result) (start .plan-of .result) (table .gather .ensures) (start .plan-of .ensures) none choice ∙ ap actC is
 
 pub act-c-spec : {M : Type 1} → statement M
 act-c-spec =
     tie.close
     (tie.spec
+    cast-leader
     leader-requires
+    cast-if1
     returns
-    slot-in-requires
+    sub-block
+    part-block-start
+    part-block-end
     sent-requires
     returns-2
-    proposal-requires
+    gather-requires
+    slice-aggregate-choose
+    plan-of-requires
+    choose-requires
     enum-known-p
     enum-told
     returns-3

@@ -1,97 +1,176 @@
 -- `acts::act_d` meets its contract: vote-1 was not sent, the leader's proposal is kept, and the search says whether it is safe.
 -- Assumes nothing.
-use mathlib.Core.Path.{refl, sym, _∙_, ap}
-use mathlib.Core.Bool.{true, false, not}
-use Rattle.rules.specs.Options.{isNone}
-use Rattle.frame.specs.declared.Report.{Report}
-use Rattle.record.specs.declared.Record.{Record}
-use Rattle.acts.specs.Votes.{voted}
-use Rattle.acts.proofs.Proposals.{votedThere, votedNone, votedOnce, unproposed, votesOne}
+use mathlib.Core.Path.{sym, _∙_, ap}
+use mathlib.Core.Bool.{true, false}
+use Rattle.protocol.specs.Pass.{actD}
+use Rattle.acts.proofs.Parts.{blockLength, seen, seat, contentsSeen, reads}
+use Rattle.acts.proofs.Proposals.{votedOnce, unproposed, votesOne}
 use borrow.Author.Needs.{needs}
+use native.Mathlib.Omega.{arith}
 use Rattle.acts.proofs.act_d.Statement.{statement}
 use Rattle.acts.proofs.act_d.Tie as tie
 
-add-slot-in : tie.Need-add-slot-in
-add-slot-in c = search needs
+sub-block : tie.Need-sub-block
+sub-block c = search needs
 
-slot-in-requires : tie.Need-slot-in-requires
-slot-in-requires c κs = search needs
+part-block-start : tie.Need-part-block-start
+part-block-start c = search needs
+
+part-block-end : tie.Need-part-block-end
+part-block-end c = search needs
 
 sent-requires : tie.Need-sent-requires
-sent-requires c κs = search needs
+sent-requires c κs =
+    let e = c .before .before in
+    let set = seat (e .args .rec .now) (e .args .set) (e .args .view) (e .pre .0) (e .pre .1) (e .pre .2) in
+    let size = blockLength (e .args .rec .now) (e .pre .0) in
+    (size, omega arith, omega (arith, set .most, set .own))
 
 returns : tie.Need-returns
 returns c =
-    let a = c .before .before .before .before .before .before .args in
-    let fit = c .before .before .before .before .before .before .pre .0 in
-    let marked = c .before .before .before .before .before .before .pre .1 in
-    λ class start.
-    let r : Record = record { n = a .n; f = a .f; id = a .id; class = class; view = a .view; plan = start; marks = a .marks .now; views = a .views .now; plans = a .plans .now } in
-    let was = ap (λ (x : Report). not (isNone (voted (a .view) x))) (sym (c .before .before .slot-in .ensures)) ∙ sym (c .before .sent .ensures) ∙ c .if1 .taken in
-    votedOnce r (fit .most) (fit .own) marked _ refl was
+    let told = c .before in
+    let e = told .before .before .before in
+    let a = e .args in
+    let s = a .rec .now in
+    let r = seen s (a .set) (a .view) in
+    let here = reads s (a .set) (a .view) (e .pre .0) (e .pre .1) (e .pre .2) in
+    let is = contentsSeen s (a .set) (a .view) (e .pre .0) (e .pre .1) (e .pre .2) in
+    votedOnce s r here (told .sent .result) (told .sent .ensures) (c .if1 .taken) ∙ ap actD is
+
+cast-leader : tie.Need-cast-leader
+cast-leader c = search needs
 
 leader-requires : tie.Need-leader-requires
-leader-requires c κs = search needs
+leader-requires c κs =
+    let e = c .before .before .before .before .before in
+    let set = seat (e .args .rec .now) (e .args .set) (e .args .view) (e .pre .0) (e .pre .1) (e .pre .2) in
+    let size = blockLength (e .args .rec .now) (e .pre .0) in
+    omega (arith, set .least)
 
-slot-in-requires-2 : tie.Need-slot-in-requires-2
-slot-in-requires-2 c κs = search needs
+cast-vote-place : tie.Need-cast-vote-place
+cast-vote-place c =
+    let e = c .before .before .before .before .before .before in
+    let set = seat (e .args .rec .now) (e .args .set) (e .args .view) (e .pre .0) (e .pre .1) (e .pre .2) in
+    let size = blockLength (e .args .rec .now) (e .pre .0) in
+    omega (arith, set .most, c .leader .ensures .1)
 
-sent-requires-2 : tie.Need-sent-requires-2
-sent-requires-2 c κs = search needs
+vote-place-requires : tie.Need-vote-place-requires
+vote-place-requires c κs =
+    let e = c .before .before .before .before .before .before in
+    let set = seat (e .args .rec .now) (e .args .set) (e .args .view) (e .pre .0) (e .pre .1) (e .pre .2) in
+    let size = blockLength (e .args .rec .now) (e .pre .0) in
+    (omega arith, omega (arith, set .most, c .leader .ensures .1))
 
-approved-requires : tie.Need-approved-requires
-approved-requires c κs = search needs
+is-of-view-requires : tie.Need-is-of-view-requires
+is-of-view-requires c κs =
+    let e = c .before .before .before .before .before .before .before in
+    let set = seat (e .args .rec .now) (e .args .set) (e .args .view) (e .pre .0) (e .pre .1) (e .pre .2) in
+    let size = blockLength (e .args .rec .now) (e .pre .0) in
+    omega (arith, size, set .most, c .before .leader .ensures .1, c .vote-place .ensures .1)
+
+plan-at-requires : tie.Need-plan-at-requires
+plan-at-requires c κs =
+    let e = c .before .before .before .before .before .before .before .before .before in
+    let set = seat (e .args .rec .now) (e .args .set) (e .args .view) (e .pre .0) (e .pre .1) (e .pre .2) in
+    let size = blockLength (e .args .rec .now) (e .pre .0) in
+    omega (arith, size, set .most, c .before .before .before .leader .ensures .1, c .before .before .vote-place .ensures .1)
+
+gather-requires : tie.Need-gather-requires
+gather-requires c κs =
+    let e = c .before .before .before .before .before .before .before .before .before .before in
+    let set = seat (e .args .rec .now) (e .args .set) (e .args .view) (e .pre .0) (e .pre .1) (e .pre .2) in
+    let size = blockLength (e .args .rec .now) (e .pre .0) in
+    (size, set .most, omega arith, omega arith)
+
+slice-aggregate-safe-by : tie.Need-slice-aggregate-safe-by
+slice-aggregate-safe-by c = search needs
+
+safe-by-requires : tie.Need-safe-by-requires
+safe-by-requires c κs =
+    let table = c .before in
+    let kept = table .before .before in
+    let unsent = kept .before .before .before .before .before in
+    let e = unsent .before .before .before .before in
+    let set = seat (e .args .rec .now) (e .args .set) (e .args .view) (e .pre .0) (e .pre .1) (e .pre .2) in
+    (table .gather .ensures .size, set .most, omega (arith, set .third))
 
 returns-2 : tie.Need-returns-2
 returns-2 c =
-    let a = c .before .before .before .before .before .before .before .before .before .before .before .before .args in
-    let fit = c .before .before .before .before .before .before .before .before .before .before .before .before .pre .0 in
-    let marked = c .before .before .before .before .before .before .before .before .before .before .before .before .pre .1 in
-    λ class start.
-    let r : Record = record { n = a .n; f = a .f; id = a .id; class = class; view = a .view; plan = start; marks = a .marks .now; views = a .views .now; plans = a .plans .now } in
-    let was = ap (λ (x : Report). not (isNone (voted (a .view) x))) (sym (c .before .before .before .before .before .before .before .before .slot-in .ensures)) ∙ sym (c .before .before .before .before .before .before .before .sent .ensures) ∙ c .before .before .before .before .before .before .if1 .left in
-    let l = c .before .before .before .before .before .leader in
-    let slot = c .before .before .before .before .slot-in2 in
-    let kept = ap (voted (a .view)) (sym (slot .ensures)) ∙ votedThere (a .view) (slot .result) (sym (c .before .before .before .sent2 .ensures) ∙ c .before .before .if2 .taken) in
-    votesOne r (fit .most) (fit .own) marked (l .result) (l .ensures .0) (l .ensures .1) _ (slot .result .plan) true refl was kept (sym (c .if3 .taken) ∙ c .before .approved .ensures)
+    let test = c .before in
+    let table = test .before .before in
+    let plan = table .before in
+    let kept = plan .before in
+    let there = kept .before in
+    let at = there .before in
+    let l = at .before in
+    let unsent = l .before .before in
+    let told = unsent .before in
+    let e = told .before .before .before in
+    let a = e .args in
+    let s = a .rec .now in
+    let r = seen s (a .set) (a .view) in
+    let here = reads s (a .set) (a .view) (e .pre .0) (e .pre .1) (e .pre .2) in
+    let is = contentsSeen s (a .set) (a .view) (e .pre .0) (e .pre .1) (e .pre .2) in
+    votesOne s r here (told .sent .result) (told .sent .ensures) (l .leader .result) (at .vote-place .result) (l .leader .ensures .0) (l .leader .ensures .1)
+    (at .vote-place .ensures .0) (there .is-of-view .result) (there .is-of-view .ensures) (unsent .if1 .left) (kept .if2 .taken)
+    (table .gather .result) (plan .plan-at .result) true (table .gather .ensures) (plan .plan-at .ensures) (sym (c .if3 .taken) ∙ test .safe-by .ensures)
+    ∙ ap actD is
 
 returns-3 : tie.Need-returns-3
 returns-3 c =
-    let a = c .before .before .before .before .before .before .before .before .before .before .before .before .args in
-    let fit = c .before .before .before .before .before .before .before .before .before .before .before .before .pre .0 in
-    let marked = c .before .before .before .before .before .before .before .before .before .before .before .before .pre .1 in
-    λ class start.
-    let r : Record = record { n = a .n; f = a .f; id = a .id; class = class; view = a .view; plan = start; marks = a .marks .now; views = a .views .now; plans = a .plans .now } in
-    let was = ap (λ (x : Report). not (isNone (voted (a .view) x))) (sym (c .before .before .before .before .before .before .before .before .slot-in .ensures)) ∙ sym (c .before .before .before .before .before .before .before .sent .ensures) ∙ c .before .before .before .before .before .before .if1 .left in
-    let l = c .before .before .before .before .before .leader in
-    let slot = c .before .before .before .before .slot-in2 in
-    let kept = ap (voted (a .view)) (sym (slot .ensures)) ∙ votedThere (a .view) (slot .result) (sym (c .before .before .before .sent2 .ensures) ∙ c .before .before .if2 .taken) in
-    votesOne r (fit .most) (fit .own) marked (l .result) (l .ensures .0) (l .ensures .1) _ (slot .result .plan) false refl was kept (sym (c .if3 .left) ∙ c .before .approved .ensures)
+    let test = c .before in
+    let table = test .before .before in
+    let plan = table .before in
+    let kept = plan .before in
+    let there = kept .before in
+    let at = there .before in
+    let l = at .before in
+    let unsent = l .before .before in
+    let told = unsent .before in
+    let e = told .before .before .before in
+    let a = e .args in
+    let s = a .rec .now in
+    let r = seen s (a .set) (a .view) in
+    let here = reads s (a .set) (a .view) (e .pre .0) (e .pre .1) (e .pre .2) in
+    let is = contentsSeen s (a .set) (a .view) (e .pre .0) (e .pre .1) (e .pre .2) in
+    votesOne s r here (told .sent .result) (told .sent .ensures) (l .leader .result) (at .vote-place .result) (l .leader .ensures .0) (l .leader .ensures .1)
+    (at .vote-place .ensures .0) (there .is-of-view .result) (there .is-of-view .ensures) (unsent .if1 .left) (kept .if2 .taken)
+    (table .gather .result) (plan .plan-at .result) false (table .gather .ensures) (plan .plan-at .ensures) (sym (c .if3 .left) ∙ test .safe-by .ensures)
+    ∙ ap actD is
 
 returns-4 : tie.Need-returns-4
 returns-4 c =
-    let a = c .before .before .before .before .before .before .before .before .before .before .args in
-    let fit = c .before .before .before .before .before .before .before .before .before .before .pre .0 in
-    let marked = c .before .before .before .before .before .before .before .before .before .before .pre .1 in
-    λ class start.
-    let r : Record = record { n = a .n; f = a .f; id = a .id; class = class; view = a .view; plan = start; marks = a .marks .now; views = a .views .now; plans = a .plans .now } in
-    let l = c .before .before .before .leader in
-    let slot = c .before .before .slot-in2 in
-    let kept = ap (voted (a .view)) (sym (slot .ensures)) ∙ votedNone (a .view) (slot .result) (sym (c .before .sent2 .ensures) ∙ c .if2 .left) in
-    unproposed r (fit .most) (fit .own) marked (l .result) (l .ensures .0) (l .ensures .1) kept
+    let there = c .before in
+    let at = there .before in
+    let l = at .before in
+    let told = l .before .before .before in
+    let e = told .before .before .before in
+    let a = e .args in
+    let s = a .rec .now in
+    let r = seen s (a .set) (a .view) in
+    let here = reads s (a .set) (a .view) (e .pre .0) (e .pre .1) (e .pre .2) in
+    let is = contentsSeen s (a .set) (a .view) (e .pre .0) (e .pre .1) (e .pre .2) in
+    unproposed s r here (told .sent .result) (told .sent .ensures) (l .leader .result) (at .vote-place .result) (l .leader .ensures .0) (l .leader .ensures .1)
+    (at .vote-place .ensures .0) (there .is-of-view .result) (there .is-of-view .ensures) (c .if2 .left) ∙ ap actD is
 
 pub act-d-spec : {M : Type 1} → statement M
 act-d-spec =
     tie.close
     (tie.spec
-    add-slot-in
-    slot-in-requires
+    sub-block
+    part-block-start
+    part-block-end
     sent-requires
     returns
+    cast-leader
     leader-requires
-    slot-in-requires-2
-    sent-requires-2
-    approved-requires
+    cast-vote-place
+    vote-place-requires
+    is-of-view-requires
+    plan-at-requires
+    gather-requires
+    slice-aggregate-safe-by
+    safe-by-requires
     returns-2
     returns-3
     returns-4)

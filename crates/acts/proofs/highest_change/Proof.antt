@@ -1,47 +1,52 @@
--- `acts::highest_change` meets its contract. The invariant: b is where the climb over the senders passed ends, and what was tried
--- last has failed. Assumes nothing.
-use Prim.Native.Nat.{_-_, _≤_}
-use mathlib.Core.Path.{_≡_, _∙_, ap}
-use native.Mathlib.Omega.{arith}
+-- `acts::highest_change` meets its contract: the views gathered above low are as many as are asked for.
+-- Assumes nothing.
+use Prim.Native.Nat.{ℕ, _-_, _≤_}
+use mathlib.Core.Path.{_≡_}
+use mathlib.Core.List.{List}
+use lib.ListN.{length}
+use Rattle.acts.specs.Changes.{changeIn}
+use Rattle.acts.proofs.Changes.{highestOfAll}
 use borrow.Author.Needs.{needs}
-use Rattle.acts.specs.Changes.{changeIn, enough, climb, Tried}
-use Rattle.acts.proofs.Changes.{climbNone, climbMore}
+use native.Mathlib.Omega.{arith}
 use Rattle.acts.proofs.highest_change.Statement.{statement}
 use Rattle.acts.proofs.highest_change.Tie as tie
 
-abbrev Inv-loop : tie.InvT-loop
-Inv-loop marks views n need low b₀ j₀ b j = (j ≤ n) × (b .best ≡ climb (enough marks views n need) (changeIn marks views) low j) × Tried (enough marks views n need) b
+slice-aggregate-views-above : tie.Need-slice-aggregate-views-above
+slice-aggregate-views-above c = search needs
 
-abbrev μ-loop : tie.MeasureT-loop
-μ-loop marks views n need low b₀ j₀ b j = n - j
+views-above-requires : tie.Need-views-above-requires
+views-above-requires c κs = search needs
 
-loop-holds : tie.Need-loop-holds Inv-loop μ-loop
-loop-holds c = (omega arith, climbNone _ _ _, record { fails = λ less. absurd (omega arith) })
+sub-highest-of : tie.Need-sub-highest-of
+sub-highest-of c = search needs
 
-climbed-requires : tie.Need-climbed-requires Inv-loop μ-loop
-climbed-requires c κs = search needs
+part-highest-of-start : tie.Need-part-highest-of-start
+part-highest-of-start c = search needs
 
-add-j : tie.Need-add-j Inv-loop μ-loop
-add-j c = search needs
+part-highest-of-end : tie.Need-part-highest-of-end
+part-highest-of-end c = search needs
 
-loop-less : tie.Need-loop-less Inv-loop μ-loop
-loop-less c = search needs
+highest-of-requires : tie.Need-highest-of-requires
+highest-of-requires c κs = search needs
 
-loop-again : tie.Need-loop-again Inv-loop μ-loop
-loop-again c =
-    let a = c .before .before .before .before .before .args in
-    let at = c .before .before .loop in
-    let m = c .climbed in
-    (omega arith, climbMore (enough (a .marks .now) (a .views .now) (a .n) (a .need)) (changeIn (a .marks .now) (a .views .now)) (a .low) (at .j) (at .b .best) (m .result .best) (at .inv .1) (m .ensures .is), m .ensures .tried)
-
-returns : tie.Need-returns Inv-loop μ-loop
+returns : tie.Need-returns
 returns c =
-    let a = c .before .before .before .before .args in
-    let at = c .before .loop in
-    let e : at .j ≡ a .n = omega arith in
-    at .inv .1 ∙ ap (climb (enough (a .marks .now) (a .views .now) (a .n) (a .need)) (changeIn (a .marks .now) (a .views .now)) (a .low)) e
+    let a = c .before .before .before .before .before .before .before .args in
+    let g = c .before .before .before .before .views-above in
+    let views : List ℕ = g .last .1 .1 .1 .0 in
+    let fits : g .result ≤ length views = omega (arith, g .ensures .0 .most, g .ensures .1) in
+    let all : g .result - 0 ≡ g .result = omega arith in
+    highestOfAll (changeIn (a .shared .now)) (a .n) (a .low) (g .result) (g .result - 0) views (g .ensures .0) fits all
+    (a .need) (c .highest-of .result) (c .highest-of .ensures)
 
 pub highest-change-spec : {M : Type 1} → statement M
 highest-change-spec =
     tie.close
-    (tie.spec Inv-loop μ-loop loop-holds climbed-requires add-j loop-less loop-again returns)
+    (tie.spec
+    slice-aggregate-views-above
+    views-above-requires
+    sub-highest-of
+    part-highest-of-start
+    part-highest-of-end
+    highest-of-requires
+    returns)

@@ -6,8 +6,11 @@ use borrow.Author.Needs.{needs}
 use Rattle.acts.proofs.met.Statement.{statement}
 use Rattle.acts.proofs.met.Tie as tie
 
-add-t4 : tie.Need-add-t4
-add-t4 c = search needs
+add-votes : tie.Need-add-votes
+add-votes c = search needs
+
+add-t5 : tie.Need-add-t5
+add-t5 c = search needs
 
 returns : tie.Need-returns
 unfolding meet
@@ -17,12 +20,12 @@ returns-2 : tie.Need-returns-2
 unfolding meet
 returns-2 c = simp (ne-eqb _ _ (c .before .before .if1 .left), eq-eqb _ _ (c .if2 .taken))
 
-sub-t5 : tie.Need-sub-t5
-sub-t5 c = search needs
+sub-t6 : tie.Need-sub-t6
+sub-t6 c = search needs
 
 returns-3 : tie.Need-returns-3
 unfolding meet
 returns-3 c = simp (ne-eqb _ _ (c .before .before .before .if1 .left), ne-eqb _ _ (c .before .if2 .left))
 
 pub met-spec : {M : Type 1} → statement M
-met-spec = tie.close (tie.spec add-t4 returns returns-2 sub-t5 returns-3)
+met-spec = tie.close (tie.spec add-votes add-t5 returns returns-2 sub-t6 returns-3)

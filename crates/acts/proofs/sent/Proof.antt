@@ -1,18 +1,25 @@
--- `acts::sent` meets its contract: each branch decides one part of the test.
+-- `acts::sent` meets its contract: the place is that of the sender's vote.
 -- Assumes nothing.
-use borrow.Author.Tests.{eq-eqb, ne-eqb}
+use Prim.Native.Nat.{ℕ}
+use mathlib.Core.Path.{_∙_, ap}
+use mathlib.Core.Bool.{not}
+use Rattle.rules.specs.Options.{isNone}
+use Rattle.layout.specs.Layout.{slotIn}
 use Rattle.acts.specs.Votes.{voted}
-use Rattle.acts.proofs.Votes.{whenThere}
+use borrow.Author.Needs.{needs}
 use Rattle.acts.proofs.sent.Statement.{statement}
 use Rattle.acts.proofs.sent.Tie as tie
 
-returns : tie.Need-returns
-unfolding voted
-returns c = simp (ne-eqb _ _ (c .if1 .taken))
+vote-place-requires : tie.Need-vote-place-requires
+vote-place-requires c κs = search needs
 
-returns-2 : tie.Need-returns-2
-unfolding voted
-returns-2 c = simp (eq-eqb _ _ (c .before .if1 .left)) (whenThere _ _)
+is-of-view-requires : tie.Need-is-of-view-requires
+is-of-view-requires c κs = search needs
+
+returns : tie.Need-returns
+returns c =
+    let a = c .before .before .before .args in
+    c .is-of-view .ensures ∙ ap (λ (q : ℕ). not (isNone (voted (a .v) (slotIn (a .block .now) q)))) (c .before .vote-place .ensures .0)
 
 pub sent-spec : {M : Type 1} → statement M
-sent-spec = tie.close (tie.spec returns returns-2)
+sent-spec = tie.close (tie.spec vote-place-requires is-of-view-requires returns)

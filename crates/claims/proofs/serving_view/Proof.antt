@@ -8,7 +8,7 @@ use native.Mathlib.Omega.{arith}
 use borrow.Author.Needs.{needs}
 use lib.Dec.{eqb}
 use lib.ListN.{getD}
-use Rattle.claims.proofs.Rows.{countNone, claimersMore, rowFits, Below, walkOver, walkFound, walkOn}
+use Rattle.claims.proofs.Rows.{countNone, countStep, rowFits, Below, walkOver, walkFound, walkOn}
 use Rattle.claims.specs.Rows.{countOf, claimedIn, endOf, servingView}
 use Rattle.quorum.proofs.Laws.{shareMost}
 use Rattle.claims.proofs.serving_view.Statement.{statement}
@@ -109,7 +109,7 @@ reporters-again c =
     let most = shareMost (eqb (getD (a .plans .now) (row + at .r) 0) (a .p)) 1 (c .same .result) (c .same .ensures) in (
       omega arith,
       omega (arith, most),
-      claimersMore (a .plans .now) row (at .r) (a .p) (t .every) (at .claimers) (c .same .result) (at .inv .2) (c .same .ensures),
+      countStep (a .plans .now) row (at .r) (a .p) (t .every) (at .claimers) (c .same .result) (at .inv .2) (c .same .ensures),
     )
 
 views-less : tie.Need-views-less Inv-reporters μ-reporters Inv-views μ-views

@@ -1,62 +1,53 @@
--- `pass::pass_from` meets its contract: steps are passed over or taken, up to the last.
+-- `pass::pass_from` meets its contract: one step after the other, up to the last.
 -- Assumes nothing.
-use Prim.Native.Nat.{_-_, _<_}
+use Prim.Native.Nat.{_-_}
+use mathlib.Core.Path.{sym, _∙_}
 use native.Mathlib.Omega.{arith}
 use Rattle.pass.specs.Passes.{Going}
-use Rattle.pass.proofs.Steps.{fitOf}
-use Rattle.pass.proofs.Marks.{markedOf}
-use Rattle.pass.proofs.Passes.{goingFirst, goingOn, roomStep, goingStep, goingDone}
+use Rattle.pass.proofs.Passes.{goingFirst, roomStep, goingStep, goingDone, goingSize}
 use Rattle.pass.proofs.pass_from.Statement.{statement}
 use Rattle.pass.proofs.pass_from.Tie as tie
 
 abbrev Inv-loop : tie.InvT-loop
-Inv-loop from out₀ at p₀ k₀ out p k = Going (p₀ .left) from at out₀ (p .left) k (p .count) out
+Inv-loop rec₀ set from out₀ at count₀ k₀ rec out count k = Going rec₀ from at out₀ rec k count out
 
 abbrev μ-loop : tie.MeasureT-loop
-μ-loop from out₀ at p₀ k₀ out p k = 8 - k
+μ-loop rec₀ set from out₀ at count₀ k₀ rec out count k = 8 - k
 
 loop-holds : tie.Need-loop-holds Inv-loop μ-loop
-loop-holds c = let s = c .before in goingFirst (s .pre .0) (s .pre .1) (s .pre .2)
+loop-holds c = let s = c .before .before in goingFirst (s .pre .0) (s .pre .2) (s .pre .3)
 
-cast-next-step : tie.Need-cast-next-step Inv-loop μ-loop
-cast-next-step c = let l = c .before .before .before .before .before .before .before .loop in omega (arith, fitOf (l .p .left) (l .inv .ready) .most)
+view-of-requires : tie.Need-view-of-requires Inv-loop μ-loop
+view-of-requires c κs = c .before .before .loop .inv .ready .size
 
-cast-next-step-2 : tie.Need-cast-next-step-2 Inv-loop μ-loop
-cast-next-step-2 c = let l = c .before .before .before .before .before .before .before .loop in
-    let fit = fitOf (l .p .left) (l .inv .ready) in
-    omega (arith, fit .most, fit .third)
+act-at-requires : tie.Need-act-at-requires Inv-loop μ-loop
+act-at-requires c κs =
+    let g = c .before .before .before .before .loop .inv in
+    (g .ready, c .before .before .before .before .before .before .before .pre .1 ∙ sym (g .same), c .before .view-of .ensures, c .before .before .before .loop-test .taken)
 
-cast-next-step-3 : tie.Need-cast-next-step-3 Inv-loop μ-loop
-cast-next-step-3 c = let l = c .before .before .before .before .before .before .before .loop in
-    let fit = fitOf (l .p .left) (l .inv .ready) in
-    omega (arith, fit .most, fit .own)
-
-next-step-requires : tie.Need-next-step-requires Inv-loop μ-loop
-next-step-requires c κs = let l = c .before .before .before .before .before .before .before .loop in (fitOf (l .p .left) (l .inv .ready), markedOf (l .p .left) (l .inv .ready), l .inv .most)
-
-same-length : tie.Need-same-length Inv-loop μ-loop
-same-length c = c .before .before .before .before .before .before .before .before .before .loop .inv .size
-
-returns : tie.Need-returns Inv-loop μ-loop
-returns c = goingDone (goingOn (c .before .before .before .before .before .before .before .before .before .loop .inv) (c .before .next-step .ensures)) (c .if1 .taken)
-
-run-step-requires : tie.Need-run-step-requires Inv-loop μ-loop
-run-step-requires c κs = let next = c .before .before .before .next-step in
-    let low : next .result < 8 = omega (arith, next .ensures .most, c .before .before .if1 .left) in
-    let g = goingOn (c .before .before .before .before .before .before .before .before .before .before .before .loop .inv) (next .ensures) in
-    (g .ready, low, roomStep g low)
+take-step-requires : tie.Need-take-step-requires Inv-loop μ-loop
+take-step-requires c κs =
+    let g = c .before .before .before .before .before .before .before .loop .inv in
+    let low = c .before .before .before .before .before .before .loop-test .taken in
+    (g .ready, low, c .before .before .act-at .ensures, roomStep g low)
 
 add-k : tie.Need-add-k Inv-loop μ-loop
-add-k c = omega (arith, c .before .before .before .before .before .before .next-step .ensures .most)
+add-k c = omega arith
 
 loop-less : tie.Need-loop-less Inv-loop μ-loop
-loop-less c = let next = c .before .before .before .before .before .before .next-step in omega (arith, next .ensures .least, next .ensures .most, c .before .before .before .before .before .if1 .left)
+loop-less c = omega arith
 
 loop-again : tie.Need-loop-again Inv-loop μ-loop
-loop-again c = let next = c .before .before .before .before .before .before .next-step in
-    let low : next .result < 8 = omega (arith, next .ensures .most, c .before .before .before .before .before .if1 .left) in
-    let q = c .before .before .run-step in
-    goingStep (goingOn (c .before .before .before .before .before .before .before .before .before .before .before .before .before .before .loop .inv) (next .ensures)) low (q .result) (q .last .1 .1 .0) (q .ensures)
+loop-again c = goingStep (c .before .before .before .before .before .before .before .before .before .before .before .before .loop .inv) (c .before .before .before .before .before .before .before .before .before .before .before .loop-test .taken) (c .before .before .before .before .take-step .ensures)
+
+same-length : tie.Need-same-length Inv-loop μ-loop
+same-length c = goingSize (c .before .loop .inv) (c .before .before .before .before .pre .0 .size)
+
+same-length-2 : tie.Need-same-length-2 Inv-loop μ-loop
+same-length-2 c = c .before .loop .inv .size
+
+returns : tie.Need-returns Inv-loop μ-loop
+returns c = goingDone (c .before .loop .inv) (c .loop-test .left)
 
 pub pass-from-spec : {M : Type 1} → statement M
 pass-from-spec =
@@ -65,13 +56,12 @@ pass-from-spec =
     Inv-loop
     μ-loop
     loop-holds
-    cast-next-step
-    cast-next-step-2
-    cast-next-step-3
-    next-step-requires
-    same-length
-    returns
-    run-step-requires
+    view-of-requires
+    act-at-requires
+    take-step-requires
     add-k
     loop-less
-    loop-again)
+    loop-again
+    same-length
+    same-length-2
+    returns)

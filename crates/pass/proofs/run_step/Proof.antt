@@ -1,29 +1,57 @@
--- `pass::run_step` meets its contract: a step, and its entries.
+-- `pass::run_step` meets its contract: a step on the loaded record, and its entries.
 -- Assumes nothing.
+use mathlib.Core.Path.{sym, _∙_, ap, subst}
+use mathlib.Core.List.{List}
+use Prim.Native.Nat.{ℕ}
 use denote.Ref.{now}
-use Rattle.contents.specs.Contents.{contents}
+use Rattle.contents.specs.Contents.{contentsIn, Ready}
+use Rattle.acts.specs.Acts.{actAt}
 use Rattle.pass.specs.Passes.{stepAt}
-use Rattle.pass.proofs.Runs.{roomOne, ranOne}
+use Rattle.pass.proofs.Runs.{tookFrom, roomWritten, ranStored}
 use borrow.Author.Needs.{needs}
 use Rattle.pass.proofs.run_step.Statement.{statement}
 use Rattle.pass.proofs.run_step.Tie as tie
 
-step-requires : tie.Need-step-requires
-step-requires c κs = let s = c .before in (s .pre .0, s .pre .1)
+load-requires : tie.Need-load-requires
+load-requires c κs = search needs
+
+step-at-requires : tie.Need-step-at-requires
+step-at-requires c κs =
+    let s = c .before .before .before .before in
+    let back = sym (c .load .ensures) in
+    (subst Ready back (s .pre .0), s .pre .1, s .pre .2 ∙ ap (λ (l : List ℕ). actAt (s .args .k) (contentsIn l)) back)
+
+store-requires : tie.Need-store-requires
+store-requires c κs = search needs
 
 write-entries-requires : tie.Need-write-entries-requires
-write-entries-requires c κs = let s = c .before .before .before .before in
-    let t = c .before .before .step in
-    roomOne (stepAt (s .args .k)) (contents (s .args .r)) (t .result) (t .ensures) (s .args .at) (now (s .args .out)) (s .pre .2)
+write-entries-requires c κs =
+    let s = c .before .before .before .before .before .before .before .before .before .before .before in
+    let step = c .before .before .before .before .before .before .step-at in
+    let took = tookFrom (stepAt (s .args .k)) (step .result) (c .before .before .before .before .before .before .before .load .ensures) (step .ensures) in
+    roomWritten (stepAt (s .args .k) (contentsIn (now (s .args .rec)))) (step .result .entries) (took .wrote) (s .args .at) (now (s .args .out)) (s .pre .3)
 
 same-length : tie.Need-same-length
 same-length c = search needs
 
+same-length-2 : tie.Need-same-length-2
+same-length-2 c = search needs
+
 returns : tie.Need-returns
-returns c = let s = c .before .before .before .before .before .before .before in
-    let t = c .before .before .before .before .before .step in
-    let w = c .before .before .write-entries in
-    ranOne (stepAt (s .args .k)) (contents (s .args .r)) (t .result) (t .ensures) (s .args .at) (now (s .args .out)) (w .last .0) (w .result) (w .ensures)
+returns c =
+    let s = c .before .before .before .before .before .before .before .before .before .before .before .before .before .before in
+    let step = c .before .before .before .before .before .before .before .before .before .step-at in
+    let took = tookFrom (stepAt (s .args .k)) (step .result) (c .before .before .before .before .before .before .before .before .before .before .load .ensures) (step .ensures) in
+    ranStored _ (step .result) took (s .args .at) (now (s .args .out)) (c .before .before .before .before .before .before .store .ensures) (c .before .before .write-entries .ensures)
 
 pub run-step-spec : {M : Type 1} → statement M
-run-step-spec = tie.close (tie.spec step-requires write-entries-requires same-length returns)
+run-step-spec =
+    tie.close
+    (tie.spec
+    load-requires
+    step-at-requires
+    store-requires
+    write-entries-requires
+    same-length
+    same-length-2
+    returns)

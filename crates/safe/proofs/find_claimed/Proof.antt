@@ -1,71 +1,122 @@
 -- `safe::find_claimed` meets its contract.
--- Neither the plan tried last nor the first r highest votes' plans pass; where none of n does, none does (`noneFound`).
+-- Neither the plan tried last nor the first r of the row pass; where none of the row does, none is claimed (`noneFound`).
 -- Assumes nothing.
-use Prim.Native.Nat.{_-_, _≤_}
+use Prim.Native.Nat.{ℕ, _+_, _-_, _≤_}
 use mathlib.Core.Bool.{true, false}
-use mathlib.Core.Path.{_≡_, sym, _∙_}
+use mathlib.Core.Path.{_≡_, refl, sym, _∙_, ap, subst}
 use native.Mathlib.Omega.{arith}
+use lib.ListN.{getD}
 use borrow.Author.Needs.{needs}
+use Rattle.claims.proofs.Rows.{rowFits}
+use Rattle.claims.specs.Rows.{placeAt}
+use Rattle.claims.specs.declared.Tally.{Tally}
+use Rattle.quorum.proofs.Bools.{bothJoin}
+use Rattle.safe.proofs.Searches.{servedAt, tried, NonePass, untriedFirst, nonePassMore, foundFirst, foundOther, noneFound}
 use Rattle.safe.specs.Choices.{chosen}
-use Rattle.safe.proofs.Laws.{passes, NonePass, firstPasses, nonePassMore, noneFound}
 use Rattle.safe.proofs.find_claimed.Statement.{statement}
 use Rattle.safe.proofs.find_claimed.Tie as tie
 
 abbrev Inv-loop : tie.InvT-loop
-Inv-loop kept at marks views plans n f v u spare first last₀ r₀ last r =
-    (r ≤ n) × (passes kept at marks views plans n f v u (chosen spare) last ≡ false) × NonePass kept at marks views plans n f v u (chosen spare) r
+Inv-loop plans c w spare first row some last₀ r₀ last r = (r ≤ some) × (tried plans c w (chosen spare) last ≡ false) × NonePass plans c w (chosen spare) r
 
 abbrev μ-loop : tie.MeasureT-loop
-μ-loop kept at marks views plans n f v u spare first last₀ r₀ last r = n - r
+μ-loop plans c w spare first row some last₀ r₀ last r = some - r
 
 first-plan-requires : tie.Need-first-plan-requires Inv-loop μ-loop
 first-plan-requires c κs = search needs
 
-claimed-requires : tie.Need-claimed-requires Inv-loop μ-loop
-claimed-requires c κs = search needs
+served-requires : tie.Need-served-requires Inv-loop μ-loop
+served-requires c κs = c .before .before .pre .0
 
 returns : tie.Need-returns Inv-loop μ-loop
 returns c =
-    let a = c .before .before .before .before .before .before .before .before .args in
+    let a = c .before .before .before .before .args in
+    let pre = c .before .before .before .before .pre in
     let first = c .before .before .first-plan in
-    firstPasses (a .kept .now) (a .at .now) (a .marks .now) (a .views .now) (a .plans .now) (a .n) (a .f) (a .v) (a .u) (chosen (a .spare)) (first .result) true (first .ensures) (sym (c .if1 .taken) ∙ c .before .claimed .ensures)
+    foundFirst (a .plans .now) (a .c) (a .w) (chosen (a .spare)) (λ x. servedAt (a .plans .now) (a .c) (a .w) x (pre .0 .below) (pre .1) (pre .2) (pre .3))
+    (first .result) (first .ensures) (sym (c .before .served .ensures) ∙ c .if1 .taken)
+
+place-at-requires : tie.Need-place-at-requires Inv-loop μ-loop
+place-at-requires c κs = search needs
+
+tally-at-requires : tie.Need-tally-at-requires Inv-loop μ-loop
+tally-at-requires c κs = search needs
 
 loop-holds : tie.Need-loop-holds Inv-loop μ-loop
 loop-holds c =
-    let a = c .before .before .before .before .before .before .before .before .args in
-    let first = c .before .before .first-plan in
-    (omega arith, firstPasses (a .kept .now) (a .at .now) (a .marks .now) (a .views .now) (a .plans .now) (a .n) (a .f) (a .v) (a .u) (chosen (a .spare)) (first .result) false (first .ensures) (sym (c .if1 .left) ∙ c .before .claimed .ensures), λ y j low. absurd (omega arith))
+    let a = c .before .before .before .before .before .before .args in
+    let first = c .before .before .before .before .first-plan in
+    let never = sym (c .before .before .before .served .ensures) ∙ c .before .before .if1 .left in
+    (omega arith, untriedFirst (a .plans .now) (a .c) (a .w) (chosen (a .spare)) (first .result) never, λ j low. absurd (omega arith))
 
-plan-or-requires : tie.Need-plan-or-requires Inv-loop μ-loop
-plan-or-requires c κs = let pre = c .before .before .before .before .before .before .before .before .before .before .pre in (pre .0, omega arith, omega arith)
+add-x : tie.Need-add-x Inv-loop μ-loop
+add-x c =
+    let row = c .before .before .before .place-at in
+    let t = c .before .before .tally-at in
+    let entry = c .before .before .before .before .before .before .before .before in
+    let l = entry .pre .0 in
+    let (low, fits) = rowFits (entry .args .c) (entry .args .w) (row .result) (t .result) (row .ensures) (t .ensures) (l .here) (l .next) in
+    omega arith
+
+mul-x : tie.Need-mul-x Inv-loop μ-loop
+mul-x c =
+    let row = c .before .before .before .place-at in
+    let t = c .before .before .tally-at in
+    let entry = c .before .before .before .before .before .before .before .before in
+    let l = entry .pre .0 in
+    let (low, fits) = rowFits (entry .args .c) (entry .args .w) (row .result) (t .result) (row .ensures) (t .ensures) (l .here) (l .next) in
+    omega arith
+
+shared-slice-read-x : tie.Need-shared-slice-read-x Inv-loop μ-loop
+shared-slice-read-x c =
+    let row = c .before .before .before .before .place-at in
+    let t = c .before .before .before .tally-at in
+    let entry = c .before .before .before .before .before .before .before .before .before in
+    let l = entry .pre .0 in
+    let (low, fits) = rowFits (entry .args .c) (entry .args .w) (row .result) (t .result) (row .ensures) (t .ensures) (l .here) (l .next) in
+    omega (arith, l .size)
 
 other-claimed-requires : tie.Need-other-claimed-requires Inv-loop μ-loop
-other-claimed-requires c κs = let pre = c .before .before .before .before .before .before .before .before .before .before .before .pre in (pre .0, pre .1, c .before .before .loop .inv .1)
+other-claimed-requires c κs = (c .before .before .before .before .before .before .before .before .before .pre .0, c .before .before .loop .inv .1)
 
 returns-2 : tie.Need-returns-2 Inv-loop μ-loop
-returns-2 c = sym (c .before .other-claimed .ensures) ∙ c .if2 .taken
+returns-2 c =
+    let a = c .before .before .before .before .before .before .before .before .before .before .before .args in
+    let pre = c .before .before .before .before .before .before .before .before .before .before .before .pre in
+    let first = c .before .before .before .before .before .before .before .before .before .first-plan in
+    foundOther (a .plans .now) (a .c) (a .w) (chosen (a .spare)) (λ x. servedAt (a .plans .now) (a .c) (a .w) x (pre .0 .below) (pre .1) (pre .2) (pre .3))
+    (first .result) (first .ensures) _ (sym (c .before .other-claimed .ensures) ∙ c .if2 .taken)
 
 add-r : tie.Need-add-r Inv-loop μ-loop
-add-r c = search needs
+add-r c =
+    let row = c .before .before .before .before .before .before .place-at in
+    let t = c .before .before .before .before .before .tally-at in
+    let entry = c .before .before .before .before .before .before .before .before .before .before .before in
+    let l = entry .pre .0 in
+    let (low, fits) = rowFits (entry .args .c) (entry .args .w) (row .result) (t .result) (row .ensures) (t .ensures) (l .here) (l .next) in
+    omega arith
 
 loop-less : tie.Need-loop-less Inv-loop μ-loop
 loop-less c = search needs
 
 loop-again : tie.Need-loop-again Inv-loop μ-loop
 loop-again c =
-    let a = c .before .before .before .before .before .before .before .before .before .before .before .before .before .args in
+    let a = c .before .before .before .before .before .before .before .before .before .before .before .args in
     let at = c .before .before .before .before .loop in
-    let x = c .before .before .plan-or in
+    let row = c .before .before .before .before .before .before .place-at in
+    let x = getD (a .plans .now) (row .result + at .r) 0 in
     let fails = sym (c .before .other-claimed .ensures) ∙ c .if2 .left in
-    (omega arith, fails, nonePassMore (a .kept .now) (a .at .now) (a .marks .now) (a .views .now) (a .plans .now) (a .n) (a .f) (a .v) (a .u) (chosen (a .spare)) (at .r) (x .result) (at .last) (x .ensures) fails (at .inv .2))
+    let is = ap (λ (o : ℕ). getD (a .plans .now) (o + at .r) 0) (row .ensures) in
+    (omega arith, fails, nonePassMore (a .plans .now) (a .c) (a .w) (chosen (a .spare)) (at .r) x is fails (at .inv .2))
 
 returns-3 : tie.Need-returns-3 Inv-loop μ-loop
 returns-3 c =
-    let a = c .before .before .before .before .before .before .before .before .before .before .args in
-    let at = c .before .loop in
-    let first = c .before .before .before .before .first-plan in
-    noneFound (a .kept .now) (a .at .now) (a .marks .now) (a .views .now) (a .plans .now) (a .n) (a .f) (a .v) (a .u) (chosen (a .spare)) (first .result) (firstPasses (a .kept .now) (a .at .now) (a .marks .now) (a .views .now) (a .plans .now) (a .n) (a .f) (a .v) (a .u) (chosen (a .spare)) (first .result) false (first .ensures) (sym (c .before .before .if1 .left) ∙ c .before .before .before .claimed .ensures)) (first .ensures)
-    (λ y j low. at .inv .2 y j (omega arith))
+    let a = c .before .before .before .before .before .before .before .before .args in
+    let pre = c .before .before .before .before .before .before .before .before .pre in
+    let first = c .before .before .before .before .before .before .first-plan in
+    noneFound (a .plans .now) (a .c) (a .w) (chosen (a .spare)) (λ x. servedAt (a .plans .now) (a .c) (a .w) x (pre .0 .below) (pre .1) (pre .2) (pre .3))
+    (first .result) (first .ensures) (c .before .loop .r)
+    (omega (arith, ap (λ (t : Tally). t .some) (c .before .before .tally-at .ensures))) (sym (c .before .before .before .before .before .served .ensures) ∙ c .before .before .before .before .if1 .left) (c .before .loop .inv .2)
 
 pub find-claimed-spec : {M : Type 1} → statement M
 find-claimed-spec =
@@ -74,10 +125,14 @@ find-claimed-spec =
     Inv-loop
     μ-loop
     first-plan-requires
-    claimed-requires
+    served-requires
     returns
+    place-at-requires
+    tally-at-requires
     loop-holds
-    plan-or-requires
+    add-x
+    mul-x
+    shared-slice-read-x
     other-claimed-requires
     returns-2
     add-r

@@ -3,7 +3,7 @@
 -- Assumes nothing.
 use mathlib.Core.Path.{sym, _∙_}
 use borrow.Author.Needs.{needs}
-use Rattle.safe.proofs.Laws.{apartOne}
+use Rattle.safe.proofs.Searches.{apartOne}
 use Rattle.safe.specs.Choices.{chosen}
 use Rattle.safe.proofs.first_plan.Statement.{statement}
 use Rattle.safe.proofs.first_plan.Tie as tie

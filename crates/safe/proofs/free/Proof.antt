@@ -2,10 +2,10 @@
 -- The count is that of the first r reporters without a lock; of all n, it is a quorum exactly if it is n - f or more (`quorumCount`).
 -- Assumes nothing.
 use Prim.Native.Nat.{_-_, _≤_}
-use mathlib.Core.Path.{_≡_, sym, _∙_, ap}
+use mathlib.Core.Path.{_≡_, refl, sym, _∙_, ap, subst}
 use native.Mathlib.Omega.{arith}
 use borrow.Author.Needs.{needs}
-use Rattle.claims.specs.Layout.{reportsIn}
+use Rattle.claims.specs.Table.{reportsIn}
 use Rattle.quorum.proofs.Laws.{weighNone, weighStep, shareMost, quorumCount}
 use Rattle.quorum.specs.Sets.{weigh}
 use Rattle.rules.specs.Counts.{free}
@@ -14,10 +14,10 @@ use Rattle.safe.proofs.free.Statement.{statement}
 use Rattle.safe.proofs.free.Tie as tie
 
 abbrev Inv-loop : tie.InvT-loop
-Inv-loop kept at marks views plans n f v count₀ r₀ count r = (r ≤ n) × (count ≤ r) × (count ≡ weigh (λ i. 1) (reporting (reportsIn kept at marks views plans v) unlocked) r)
+Inv-loop table n f count₀ r₀ count r = (r ≤ n) × (count ≤ r) × (count ≡ weigh (λ i. 1) (reporting (reportsIn table) unlocked) r)
 
 abbrev μ-loop : tie.MeasureT-loop
-μ-loop kept at marks views plans n f v count₀ r₀ count r = n - r
+μ-loop table n f count₀ r₀ count r = n - r
 
 loop-holds : tie.Need-loop-holds Inv-loop μ-loop
 loop-holds c = (omega arith, omega arith, sym (weighNone _ _))
@@ -25,12 +25,11 @@ loop-holds c = (omega arith, omega arith, sym (weighNone _ _))
 unlocked-share-requires : tie.Need-unlocked-share-requires Inv-loop μ-loop
 unlocked-share-requires c κs = search needs
 
-add-unlocked : tie.Need-add-unlocked Inv-loop μ-loop
-add-unlocked c =
-    let a = c .before .before .before .before .before .before .before .before .args in
+add-count : tie.Need-add-count Inv-loop μ-loop
+add-count c =
+    let a = c .before .before .before .before .args in
     let at = c .before .before .loop in
-    let add = c .unlocked-share in
-    omega (arith, shareMost (reporting (reportsIn (a .kept .now) (a .at .now) (a .marks .now) (a .views .now) (a .plans .now) (a .v)) unlocked (at .r)) 1 (add .result) (add .ensures))
+    omega (arith, shareMost (reporting (reportsIn (a .table .now)) unlocked (at .r)) 1 (c .unlocked-share .result) (c .unlocked-share .ensures))
 
 add-r : tie.Need-add-r Inv-loop μ-loop
 add-r c = search needs
@@ -40,12 +39,12 @@ loop-less c = search needs
 
 loop-again : tie.Need-loop-again Inv-loop μ-loop
 loop-again c =
-    let a = c .before .before .before .before .before .before .before .before .args in
+    let a = c .before .before .before .before .args in
     let at = c .before .before .loop in
     let add = c .unlocked-share in
-    let s = reporting (reportsIn (a .kept .now) (a .at .now) (a .marks .now) (a .views .now) (a .plans .now) (a .v)) unlocked in
+    let s = reporting (reportsIn (a .table .now)) unlocked in
     let most : add .result ≤ 1 = shareMost (s (at .r)) 1 (add .result) (add .ensures) in
-    (omega arith, omega arith, weighStep (λ i. 1) s (at .r) (at .unlocked) (add .result) (at .inv .2) (add .ensures))
+    (omega arith, omega arith, weighStep (λ i. 1) s (at .r) (at .count) (add .result) (at .inv .2) (add .ensures))
 
 is-quorum-requires : tie.Need-is-quorum-requires Inv-loop μ-loop
 is-quorum-requires c κs = search needs
@@ -53,11 +52,11 @@ is-quorum-requires c κs = search needs
 returns : tie.Need-returns Inv-loop μ-loop
 unfolding free
 returns c =
-    let a = c .before .before .before .before .before .before .before .before .args in
+    let a = c .before .before .before .before .args in
     let at = c .before .before .loop in
-    let s = reporting (reportsIn (a .kept .now) (a .at .now) (a .marks .now) (a .views .now) (a .plans .now) (a .v)) unlocked in
+    let s = reporting (reportsIn (a .table .now)) unlocked in
     let e : at .r ≡ a .n = omega arith in
-    c .is-quorum .ensures ∙ quorumCount (a .n) (a .f) s (at .unlocked) (at .inv .2 ∙ ap (weigh (λ i. 1) s) e)
+    c .is-quorum .ensures ∙ quorumCount (a .n) (a .f) s (at .count) (at .inv .2 ∙ ap (weigh (λ i. 1) s) e)
 
 pub free-spec : {M : Type 1} → statement M
 free-spec =
@@ -67,7 +66,7 @@ free-spec =
     μ-loop
     loop-holds
     unlocked-share-requires
-    add-unlocked
+    add-count
     add-r
     loop-less
     loop-again

@@ -1,57 +1,68 @@
 -- `safe::lock_span` meets its contract.
--- A vault that has not reported has no report, and its span is v; else the span goes by the lock's view.
+-- A vault that has not reported has no report, and its span is v; else the span goes by the lock's view (`spanIn`).
 -- Assumes nothing.
-use Prim.Native.Nat.{_+_}
-use mathlib.Core.Path.{sym, _∙_}
+use Prim.Native.Nat.{_-_, min}
+use mathlib.Core.Path.{_≡_, sym, _∙_}
+use native.Mathlib.Omega.{arith}
 use lib.ListN.{getD}
 use borrow.Author.Needs.{needs}
-use Rattle.claims.proofs.Laws.{viewAlone}
-use Rattle.claims.specs.Layout.{reportsIn}
+use Rattle.claims.specs.Table.{reportsIn}
+use Rattle.safe.proofs.Locks.{spanIn}
 use Rattle.safe.proofs.lock_span.Statement.{statement}
 use Rattle.safe.proofs.lock_span.Tie as tie
 
 reported-requires : tie.Need-reported-requires
 reported-requires c κs = search needs
 
-add-s : tie.Need-add-s
-add-s c = search needs
+add-above : tie.Need-add-above
+add-above c = search needs
 
-shared-slice-read-view-of : tie.Need-shared-slice-read-view-of
-shared-slice-read-view-of c = search needs
+mul-above : tie.Need-mul-above
+mul-above c = search needs
 
-mul-view-of : tie.Need-mul-view-of
-mul-view-of c = search needs
+shared-slice-read-above : tie.Need-shared-slice-read-above
+shared-slice-read-above c = search needs
 
-shared-slice-read-view-of-2 : tie.Need-shared-slice-read-view-of-2
-shared-slice-read-view-of-2 c = search needs
-
-view-of-requires : tie.Need-view-of-requires
-view-of-requires c κs = search needs
-
-lesser-requires : tie.Need-lesser-requires
-lesser-requires c κs = search needs
+long-requires : tie.Need-long-requires
+long-requires c κs = search needs
 
 returns : tie.Need-returns
-unfolding reportsIn
 returns c =
-    let a = c .before .before .before .before .before .before .before .before .before .before .before .args in
-    let s = 128 + a .r in
-    simp (sym (c .before .before .before .before .before .reported .ensures) ∙ c .before .before .before .before .if1 .taken) (cc (viewAlone (getD (a .marks .now) s 0) (getD (a .views .now) s 0) (getD (a .plans .now) s 0)))
+    let a = c .before .before .before .before .before .before .args in
+    omega (arith, spanIn (a .table .now) (a .r) (sym (c .before .before .before .before .reported .ensures) ∙ c .before .before .before .if1 .taken) (a .v), c .before .long .ensures)
 
 returns-2 : tie.Need-returns-2
+returns-2 c =
+    let a = c .before .before .before .before .before .before .before .args in
+    omega (arith, spanIn (a .table .now) (a .r) (sym (c .before .before .before .before .before .reported .ensures) ∙ c .before .before .before .before .if1 .taken) (a .v), c .before .before .long .ensures)
+
+sub-result : tie.Need-sub-result
+sub-result c = omega arith
+
+cast-result : tie.Need-cast-result
+cast-result c = omega (arith, c .before .before .long .ensures)
+
+returns-3 : tie.Need-returns-3
+returns-3 c =
+    let a = c .before .before .before .before .before .before .before .args in
+    omega (arith, spanIn (a .table .now) (a .r) (sym (c .before .before .before .before .before .reported .ensures) ∙ c .before .before .before .before .if1 .taken) (a .v), c .before .before .long .ensures)
+
+returns-4 : tie.Need-returns-4
 unfolding reportsIn
-returns-2 c = simp (sym (c .before .reported .ensures) ∙ c .if1 .left)
+returns-4 c = simp (sym (c .before .reported .ensures) ∙ c .if1 .left)
 
 pub lock-span-spec : {M : Type 1} → statement M
 lock-span-spec =
     tie.close
     (tie.spec
     reported-requires
-    add-s
-    shared-slice-read-view-of
-    mul-view-of
-    shared-slice-read-view-of-2
-    view-of-requires
-    lesser-requires
+    add-above
+    mul-above
+    shared-slice-read-above
+    long-requires
     returns
-    returns-2)
+    returns-2
+    sub-result
+    cast-result
+    returns-3
+    returns-4)

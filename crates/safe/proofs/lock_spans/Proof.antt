@@ -6,18 +6,18 @@ use mathlib.Core.Path.{_≡_}
 use native.Mathlib.Omega.{arith}
 use lib.ListN.{length, length-set}
 use borrow.Author.Needs.{needs}
-use Rattle.claims.proofs.Laws.{spansMore}
-use Rattle.claims.specs.Layout.{reportsIn}
+use Rattle.claims.proofs.Spans.{spansMore}
 use Rattle.claims.specs.Spans.{AreSpans}
+use Rattle.claims.specs.Table.{column, reportsIn}
 use Rattle.rules.specs.Views.{lockSpan}
 use Rattle.safe.proofs.lock_spans.Statement.{statement}
 use Rattle.safe.proofs.lock_spans.Tie as tie
 
 abbrev Inv-loop : tie.InvT-loop
-Inv-loop kept at marks views plans n v spans₀ r₀ spans r = (r ≤ n) × (length spans ≡ 64) × AreSpans spans r (λ i. lockSpan v (reportsIn kept at marks views plans v i))
+Inv-loop table n v spans₀ r₀ spans r = (r ≤ n) × (length spans ≡ column) × AreSpans spans r (λ i. lockSpan v (reportsIn table i))
 
 abbrev μ-loop : tie.MeasureT-loop
-μ-loop kept at marks views plans n v spans₀ r₀ spans r = n - r
+μ-loop table n v spans₀ r₀ spans r = n - r
 
 loop-holds : tie.Need-loop-holds Inv-loop μ-loop
 loop-holds c = (omega arith, search needs, λ i low. absurd (omega arith))
@@ -39,12 +39,12 @@ loop-less c = search needs
 
 loop-again : tie.Need-loop-again Inv-loop μ-loop
 loop-again c =
-    let a = c .before .before .before .before .before .before .before .before .args in
+    let a = c .before .before .before .before .args in
     let at = c .before .before .loop in
     let low : at .r < length (at .spans) = omega arith in (
       omega arith,
       simp length-set (at .inv .1),
-      spansMore (at .spans) (at .r) (c .lock-span .result) (λ i. lockSpan (a .v) (reportsIn (a .kept .now) (a .at .now) (a .marks .now) (a .views .now) (a .plans .now) (a .v) i)) low (c .lock-span .ensures) (at .inv .2),
+      spansMore (at .spans) (at .r) (c .lock-span .result) (λ i. lockSpan (a .v) (reportsIn (a .table .now) i)) low (c .lock-span .ensures) (at .inv .2),
     )
 
 returns : tie.Need-returns Inv-loop μ-loop

@@ -3,31 +3,33 @@
 -- Assumes nothing.
 use mathlib.Core.Path.{_∙_}
 use borrow.Author.Needs.{needs}
-use Rattle.claims.proofs.Laws.{spansWithin}
-use Rattle.claims.specs.Layout.{reportsIn}
+use Rattle.claims.proofs.Spans.{spansWithin}
+use Rattle.claims.specs.Table.{reportsIn}
 use Rattle.rules.specs.Views.{lockSpan}
-use Rattle.safe.proofs.Laws.{lockMost, spansLock}
+use Rattle.safe.proofs.Locks.{lockMost, spansLock}
 use Rattle.safe.proofs.lowest_view.Statement.{statement}
 use Rattle.safe.proofs.lowest_view.Tie as tie
 
 lock-spans-requires : tie.Need-lock-spans-requires
 lock-spans-requires c κs = search needs
 
-slice-aggregate-serving-view : tie.Need-slice-aggregate-serving-view
-slice-aggregate-serving-view c = search needs
+slice-aggregate-lowest-cleared : tie.Need-slice-aggregate-lowest-cleared
+slice-aggregate-lowest-cleared c = search needs
 
-serving-view-requires : tie.Need-serving-view-requires
-serving-view-requires c κs =
-    let a = c .before .before .before .before .before .before .before .args in
+lowest-cleared-requires : tie.Need-lowest-cleared-requires
+lowest-cleared-requires c κs =
+    let a = c .before .before .before .args in
     let t = c .before .lock-spans in
-    let rs = reportsIn (a .kept .now) (a .at .now) (a .marks .now) (a .views .now) (a .plans .now) (a .v) in
+    let rs = reportsIn (a .table .now) in
     (search needs, search needs, spansWithin (t .result) (a .n) (λ i. lockSpan (a .v) (rs i)) (t .ensures) (a .v) (λ i. lockMost (a .v) (rs i)))
 
 returns : tie.Need-returns
 returns c =
-    let a = c .before .before .before .before .before .before .before .before .args in
+    let a = c .before .before .before .before .args in
     let t = c .before .before .lock-spans in
-    c .serving-view .ensures ∙ spansLock (a .n) (a .f) (a .v) (reportsIn (a .kept .now) (a .at .now) (a .marks .now) (a .views .now) (a .plans .now) (a .v)) (t .result) (t .ensures)
+    c .lowest-cleared .ensures ∙ spansLock (a .n) (a .f) (a .v) (reportsIn (a .table .now)) (t .result) (t .ensures)
 
 pub lowest-view-spec : {M : Type 1} → statement M
-lowest-view-spec = tie.close (tie.spec lock-spans-requires slice-aggregate-serving-view serving-view-requires returns)
+lowest-view-spec =
+    tie.close
+    (tie.spec lock-spans-requires slice-aggregate-lowest-cleared lowest-cleared-requires returns)

@@ -1,35 +1,32 @@
 -- `safe::other_claimed` meets its contract.
--- The plan tried last did not pass; any other passes where it is not left out and is claimed.
+-- The plan tried last did not pass; any other passes where it is not left out and is served.
 -- Assumes nothing.
 use Prim.Native.Nat.{ℕ}
 use mathlib.Core.Bool.{false, _&&_}
 use mathlib.Core.Path.{_≡_, sym, _∙_, subst}
 use borrow.Author.Needs.{needs}
-use Rattle.claims.specs.Layout.{reportsIn}
-use Rattle.quorum.specs.Sets.{equals}
-use Rattle.rules.specs.Counts.{claimed}
 use Rattle.safe.specs.Choices.{chosen, apart}
+use Rattle.safe.specs.Searches.{servedFrom}
 use Rattle.safe.proofs.other_claimed.Statement.{statement}
 use Rattle.safe.proofs.other_claimed.Tie as tie
 
 differs-requires : tie.Need-differs-requires
 differs-requires c κs = search needs
 
-claimed-requires : tie.Need-claimed-requires
-claimed-requires c κs = search needs
+served-requires : tie.Need-served-requires
+served-requires c κs = c .before .before .before .before .pre .0
 
 returns : tie.Need-returns
-returns c = simp (sym (c .before .before .differs .ensures) ∙ c .before .if2 .taken) (c .claimed .ensures)
+returns c = simp (sym (c .before .before .differs .ensures) ∙ c .before .if2 .taken) (c .served .ensures)
 
 returns-2 : tie.Need-returns-2
 returns-2 c = simp (sym (c .before .differs .ensures) ∙ c .if2 .left)
 
 returns-3 : tie.Need-returns-3
 returns-3 c =
-    let a = c .before .before .before .before .before .before .args in
-    let rs = reportsIn (a .kept .now) (a .at .now) (a .marks .now) (a .views .now) (a .plans .now) (a .v) in
-    subst (λ (y : ℕ). false ≡ (apart y (chosen (a .spare)) && claimed (equals (a .n) (a .f)) rs y (a .u))) (sym (c .if1 .left)) (sym (c .before .before .before .before .before .before .pre .2))
+    let a = c .before .before .args in
+    subst (λ (y : ℕ). false ≡ (apart y (chosen (a .spare)) && servedFrom (a .plans .now) (a .c) (a .w) y)) (sym (c .if1 .left)) (sym (c .before .before .pre .1))
 
 pub other-claimed-spec : {M : Type 1} → statement M
 other-claimed-spec =
-    tie.close (tie.spec differs-requires claimed-requires returns returns-2 returns-3)
+    tie.close (tie.spec differs-requires served-requires returns returns-2 returns-3)

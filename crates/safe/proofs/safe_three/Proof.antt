@@ -2,43 +2,62 @@
 -- Rule 3 accepts what Rule 1 does (`threeOne`), and the two-set clause at the same view (`threeFirst`, `threeNext`).
 -- Assumes nothing.
 use mathlib.Core.Path.{sym, _∙_}
-use borrow.Author.Needs.{needs}
-use Rattle.rules.specs.Rules.{rule3}
-use Rattle.safe.proofs.Laws.{threeOne, threeFirst, threeNext, safeLast}
+use native.Mathlib.Omega.{arith}
+use Rattle.claims.specs.Table.{reportsIn}
+use Rattle.safe.proofs.Searches.{falling, pairTwo, threeOne, threeFirst, threeNext, threeLast}
 use Rattle.safe.proofs.safe_three.Statement.{statement}
 use Rattle.safe.proofs.safe_three.Tie as tie
 
 safe-one-requires : tie.Need-safe-one-requires
-safe-one-requires c κs = search needs
+safe-one-requires c κs = c .before .before .pre .2 .laid
 
 returns : tie.Need-returns
-returns c = threeOne _ _ _ _ (sym (c .before .safe-one .ensures) ∙ c .if1 .taken)
+returns c =
+    let a = c .before .before .before .before .args in
+    let rs = reportsIn (a .table .now) in
+    let pre = c .before .before .before .before .pre in
+    threeOne rs (a .c) (a .plans .now) (pre .2) (pre .3) (a .p) (sym (c .before .safe-one .ensures) ∙ c .if1 .taken)
+
+add-if2 : tie.Need-add-if2
+add-if2 c = omega (arith, c .before .before .before .before .before .pre .3 .below)
 
 allowed-requires : tie.Need-allowed-requires
-allowed-requires c κs = search needs
+allowed-requires c κs = c .before .before .before .before .before .before .before .pre .2 .laid
 
 two-sets-requires : tie.Need-two-sets-requires
-two-sets-requires c κs = let pre = c .before .before .before .before .before .before .before .before .before .pre in (pre .0, pre .1, pre .3 .below)
+two-sets-requires c κs =
+    let a = c .before .before .before .before .before .before .before .before .before .args in
+    let rs = reportsIn (a .table .now) in
+    let pre = c .before .before .before .before .before .before .before .before .before .pre in
+    (pre .2 .laid, falling rs (a .c) (a .plans .now) (pre .2), c .before .before .if2 .taken)
 
 returns-2 : tie.Need-returns-2
-returns-2 c = threeFirst _ _ _ _ _ (c .before .before .before .before .before .before .before .before .before .before .pre .3) _ (sym (c .before .before .before .before .safe-one .ensures) ∙ c .before .before .before .if1 .left) (sym (c .before .before .allowed .ensures) ∙ c .before .if2 .taken) (c .two-sets .ensures)
+returns-2 c =
+    let a = c .before .before .before .before .before .before .before .before .before .before .args in
+    let rs = reportsIn (a .table .now) in
+    let pre = c .before .before .before .before .before .before .before .before .before .before .pre in
+    threeFirst rs (a .c) (a .plans .now) (pre .2) (pre .3) (a .p) (sym (c .before .before .before .before .before .before .before .safe-one .ensures) ∙ c .before .before .before .before .before .before .if1 .left) _
+    (sym (c .before .before .allowed .ensures) ∙ c .before .if3 .taken) (pairTwo rs (a .c) (a .plans .now) (pre .2) _ (c .before .before .before .if2 .taken) (c .two-sets .ensures))
 
-add-if3 : tie.Need-add-if3
-add-if3 c = search needs
-
-add-two-sets : tie.Need-add-two-sets
-add-two-sets c = search needs
-
-two-sets-requires-2 : tie.Need-two-sets-requires-2
-two-sets-requires-2 c κs = let pre = c .before .before .before .before .before .before .before .before .before .before .pre in (pre .0, pre .1, c .if3 .taken)
+two-sets-after-requires : tie.Need-two-sets-after-requires
+two-sets-after-requires c κs =
+    let pre = c .before .before .before .before .before .before .before .before .before .pre in
+    (pre .0, pre .1, pre .2 .laid .few, c .before .before .if2 .taken)
 
 returns-3 : tie.Need-returns-3
 returns-3 c =
-    threeNext _ _ _ _ _ (c .before .before .before .before .before .before .before .before .before .before .before .pre .3) _ (sym (c .before .before .before .before .before .safe-one .ensures) ∙ c .before .before .before .before .if1 .left) (sym (c .before .before .before .allowed .ensures) ∙ c .before .before .if2 .left) (c .before .if3 .taken)
-    (c .two-sets2 .ensures)
+    let a = c .before .before .before .before .before .before .before .before .before .before .args in
+    let rs = reportsIn (a .table .now) in
+    let pre = c .before .before .before .before .before .before .before .before .before .before .pre in
+    threeNext rs (a .c) (a .plans .now) (pre .2) (pre .3) (a .p) (sym (c .before .before .before .before .before .before .before .safe-one .ensures) ∙ c .before .before .before .before .before .before .if1 .left) _
+    (sym (c .before .before .allowed .ensures) ∙ c .before .if3 .left) (c .before .before .before .if2 .taken) (c .two-sets-after .ensures)
 
 returns-4 : tie.Need-returns-4
-returns-4 c = safeLast _ _ _ _ _ (c .before .before .before .before .before .before .before .before .before .before .pre .3) rule3 (sym (c .before .before .allowed .ensures) ∙ c .before .if2 .left) (c .if3 .left)
+returns-4 c =
+    let a = c .before .before .before .before .before .before .before .args in
+    let rs = reportsIn (a .table .now) in
+    let pre = c .before .before .before .before .before .before .before .pre in
+    threeLast rs (a .c) (a .plans .now) (pre .2) (pre .3) (a .p) (sym (c .before .before .before .before .safe-one .ensures) ∙ c .before .before .before .if1 .left) (c .if2 .left)
 
 pub safe-three-spec : {M : Type 1} → statement M
 safe-three-spec =
@@ -46,11 +65,10 @@ safe-three-spec =
     (tie.spec
     safe-one-requires
     returns
+    add-if2
     allowed-requires
     two-sets-requires
     returns-2
-    add-if3
-    add-two-sets
-    two-sets-requires-2
+    two-sets-after-requires
     returns-3
     returns-4)

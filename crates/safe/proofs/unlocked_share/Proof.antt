@@ -4,7 +4,7 @@
 use mathlib.Core.Path.{sym, _∙_}
 use borrow.Author.Needs.{needs}
 use borrow.Author.Tests.{eq-eqb, ne-eqb}
-use Rattle.claims.specs.Layout.{reportsIn, voteOf}
+use Rattle.claims.specs.Table.{reportsIn, voteOf}
 use Rattle.rules.specs.Rules.{unlocked}
 use Rattle.safe.proofs.unlocked_share.Statement.{statement}
 use Rattle.safe.proofs.unlocked_share.Tie as tie
@@ -14,6 +14,9 @@ reported-requires c κs = search needs
 
 add-if2 : tie.Need-add-if2
 add-if2 c = search needs
+
+mul-if2 : tie.Need-mul-if2
+mul-if2 c = search needs
 
 shared-slice-read-if2 : tie.Need-shared-slice-read-if2
 shared-slice-read-if2 c = search needs
@@ -31,4 +34,6 @@ unfolding reportsIn
 returns-3 c = simp (sym (c .before .reported .ensures) ∙ c .if1 .left)
 
 pub unlocked-share-spec : {M : Type 1} → statement M
-unlocked-share-spec = tie.close (tie.spec reported-requires add-if2 shared-slice-read-if2 returns returns-2 returns-3)
+unlocked-share-spec =
+    tie.close
+    (tie.spec reported-requires add-if2 mul-if2 shared-slice-read-if2 returns returns-2 returns-3)

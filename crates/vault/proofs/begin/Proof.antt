@@ -6,39 +6,63 @@ use native.Mathlib.Omega.{arith}
 use denote.Ref.{now}
 use Rattle.entry.specs.declared.Entry.the-variants.{Timer}
 use Rattle.entry.proofs.Theorems.{entry-length}
-use Rattle.vault.proofs.Laws.{readyFresh, beginRoom, beginRan}
+use Rattle.vault.proofs.Begun.{beginRequires, beginRan}
 use borrow.Author.Needs.{needs}
 use Rattle.vault.proofs.begin.Statement.{statement}
 use Rattle.vault.proofs.begin.Tie as tie
 
-fresh-record-requires : tie.Need-fresh-record-requires
-fresh-record-requires c κs = search needs
+put-fresh-requires : tie.Need-put-fresh-requires
+put-fresh-requires c κs = search needs
 
 timer-millis-requires : tie.Need-timer-millis-requires
 timer-millis-requires c κs = search needs
 
 put-entry-requires : tie.Need-put-entry-requires
-put-entry-requires c κs = let s = c .before .before .before .before in omega (arith, s .pre .1, entry-length (Timer 0 (c .before .timer-millis .result)) .1)
+put-entry-requires c κs =
+    let a = c .before in
+    let s = a .before .before .before .before .before .before .before in
+    omega (arith, s .pre .2, entry-length (Timer 0 (a .timer-millis .result)) .1)
 
-pass-c-requires : tie.Need-pass-c-requires
-pass-c-requires c κs = let s = c .before .before .before .before .before .before .before .before in
+pass-from-requires : tie.Need-pass-from-requires
+pass-from-requires c κs =
+    let a = c .before .before .before .before in
+    let b = a .before .before in
+    let d = b .before .before .before in
+    let s = d .before .before .before .before in
+    let out = now (s .args .out) in
     let low : s .args .plan < 2 ^ 64 = search needs in
-    (readyFresh (s .args .n) (s .args .f) (s .args .id) (s .args .class) (s .args .plan) (s .pre .0) low (c .before .before .before .before .before .before .fresh-record .result) (c .before .before .before .before .before .before .fresh-record .ensures), beginRoom (s .args .n) (s .args .f) (s .args .id) (s .args .class) (s .args .plan) (s .pre .0) (c .before .before .before .before .before .before .fresh-record .result) (c .before .before .before .before .before .before .fresh-record .ensures) (Timer 0 (c .before .before .before .before .before .timer-millis .result)) (ap (λ (m : ℕ). Timer 0 m) (c .before .before .before .before .before .timer-millis .ensures)) (c .before .before .before .put-entry .result) (c .before .before .before .put-entry .ensures .0) (now (s .args .out)) (c .before .before .before .put-entry .last .0) (c .before .before .before .put-entry .ensures .1) (s .pre .1))
+    beginRequires (s .args .set) (s .args .plan) (s .pre .1) low (d .put-fresh .last .0) (d .put-fresh .ensures)
+    (Timer 0 (b .timer-millis .result)) (ap (λ (x : ℕ). Timer 0 x) (b .timer-millis .ensures))
+    (a .put-entry .result) out (a .put-entry .last .0) (a .put-entry .ensures) (s .pre .2)
 
 same-length : tie.Need-same-length
 same-length c = search needs
 
+same-length-2 : tie.Need-same-length-2
+same-length-2 c = search needs
+
 returns : tie.Need-returns
-returns c = let s = c .before .before .before .before .before .before .before .before .before .before .before in
-    beginRan (s .args .n) (s .args .f) (s .args .id) (s .args .class) (s .args .plan) (s .pre .0) (c .before .before .before .before .before .before .before .before .before .fresh-record .result) (c .before .before .before .before .before .before .before .before .before .fresh-record .ensures) (Timer 0 (c .before .before .before .before .before .before .before .before .timer-millis .result)) (ap (λ (m : ℕ). Timer 0 m) (c .before .before .before .before .before .before .before .before .timer-millis .ensures)) (c .before .before .before .before .before .before .put-entry .result) (c .before .before .before .before .before .before .put-entry .ensures .0) (now (s .args .out)) (c .before .before .before .before .before .before .put-entry .last .0) (c .before .before .before .before .before .before .put-entry .ensures .1) (s .pre .1) (c .before .before .pass-c .result) (c .before .before .pass-c .last .1 .0) (c .before .before .pass-c .ensures)
+returns c =
+    let a = c .before .before .before .before in
+    let b = a .before .before .before .before .before in
+    let d = b .before .before in
+    let e = d .before .before .before in
+    let s = e .before .before .before .before in
+    let out = now (s .args .out) in
+    let low : s .args .plan < 2 ^ 64 = search needs in
+    beginRan (s .args .set) (s .args .plan) (s .pre .1) low (e .put-fresh .last .0) (e .put-fresh .ensures)
+    (Timer 0 (d .timer-millis .result)) (ap (λ (x : ℕ). Timer 0 x) (d .timer-millis .ensures))
+    (b .put-entry .result) out (b .put-entry .last .0) (b .put-entry .ensures) (s .pre .2)
+    (a .pass-from .result) (a .pass-from .last .0) (a .pass-from .last .1 .1 .1 .0) (a .pass-from .ensures)
 
 pub begin-spec : {M : Type 1} → statement M
 begin-spec =
     tie.close
     (tie.spec
-    fresh-record-requires
+    put-fresh-requires
     timer-millis-requires
     put-entry-requires
-    pass-c-requires
+    pass-from-requires
     same-length
+    same-length-2
     returns)

@@ -1,57 +1,52 @@
--- `vault::frame` meets its contract: by the output, then by the record's length and its n.
+-- `vault::frame` meets its contract: by the way in.
 -- Assumes nothing.
-use Prim.Native.Nat.{_≤_}
-use native.Mathlib.Omega.{arith}
-use lib.ListN.{length}
 use denote.Ref.{now}
-use Rattle.layout.specs.Layout.{decodeRecord}
-use Rattle.sound.proofs.Laws.{lent-length, lent-blank}
-use Rattle.vault.proofs.Heard.{frameShort, frameBlank, frameUnsound}
+use Rattle.vault.proofs.Laws.{wayOpen}
+use Rattle.vault.proofs.Heard.{frameRefused}
 use borrow.Author.Needs.{needs}
 use Rattle.vault.proofs.frame.Statement.{statement}
 use Rattle.vault.proofs.frame.Tie as tie
 
-returns : tie.Need-returns
-returns c = let s = c .before .before .before .before in frameShort (now (s .args .rec)) (s .args .sender) (now (s .args .bytes)) (now (s .args .out)) (omega arith)
-
-returns-2 : tie.Need-returns-2
-returns-2 c = let s = c .before .before .before .before .before in
-    let room : 256 ≤ length (now (s .args .out)) = omega (arith, c .before .if1 .left) in
-    frameUnsound (now (s .args .rec)) (s .args .sender) (now (s .args .bytes)) (now (s .args .out)) room (lent-length (now (s .args .rec)) (c .if2 .taken))
-
-slice-read-if3 : tie.Need-slice-read-if3
-slice-read-if3 c = search needs
-
-returns-3 : tie.Need-returns-3
-unfolding decodeRecord
-returns-3 c = let s = c .before .before .before .before .before .before .before in
-    let room : 256 ≤ length (now (s .args .out)) = omega (arith, c .before .before .before .if1 .left) in
-    frameBlank (now (s .args .rec)) (s .args .sender) (now (s .args .bytes)) (now (s .args .out)) room (lent-blank (now (s .args .rec)) (c .before .before .if2 .left) (c .if3 .taken))
-
-frame-held-requires : tie.Need-frame-held-requires
-unfolding decodeRecord
-frame-held-requires c κs = let s = c .before .before .before .before .before .before .before .before .before in
-    let room : 256 ≤ length (now (s .args .out)) = omega (arith, c .before .before .before .before .before .if1 .left) in
-    (c .before .before .before .before .if2 .left, c .before .before .if3 .left, room)
+way-in-requires : tie.Need-way-in-requires
+way-in-requires c κs = search needs
 
 same-length : tie.Need-same-length
 same-length c = search needs
 
+returns : tie.Need-returns
+returns c =
+    let a = c .before in
+    let s = a .before .before .before .before .before in
+    let rec = now (s .args .rec) in
+    let out = now (s .args .out) in
+    frameRefused rec (s .args .sender) (now (s .args .bytes)) out (a .way-in .result) (a .way-in .ensures) (c .if1 .taken)
+
+frame-in-requires : tie.Need-frame-in-requires
+frame-in-requires c κs =
+    let a = c .before .before in
+    let b = a .before in
+    let s = b .before .before .before .before .before in
+    let rec = now (s .args .rec) in
+    let out = now (s .args .out) in
+    wayOpen rec out (b .way-in .result) (b .way-in .ensures) (a .if1 .left)
+
 same-length-2 : tie.Need-same-length-2
 same-length-2 c = search needs
 
-returns-4 : tie.Need-returns-4
-returns-4 c = c .before .before .before .before .frame-held .ensures
+same-length-3 : tie.Need-same-length-3
+same-length-3 c = search needs
+
+returns-2 : tie.Need-returns-2
+returns-2 c = search needs
 
 pub frame-spec : {M : Type 1} → statement M
 frame-spec =
     tie.close
     (tie.spec
-    returns
-    returns-2
-    slice-read-if3
-    returns-3
-    frame-held-requires
+    way-in-requires
     same-length
+    returns
+    frame-in-requires
     same-length-2
-    returns-4)
+    same-length-3
+    returns-2)

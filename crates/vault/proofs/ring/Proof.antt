@@ -1,43 +1,49 @@
--- `vault::ring` meets its contract: the view is asked for, and then one pass.
+-- `vault::ring` meets its contract: the view is asked for, and one pass runs.
 -- Assumes nothing.
 use denote.Ref.{now}
-use Rattle.pass.proofs.Steps.{rowOf, seatOf}
-use Rattle.vault.proofs.Rung.{askRoom, passReady, ringRan}
+use Rattle.vault.proofs.Rung.{ownRow, askRequires, ringRequires, ringRan}
 use borrow.Author.Needs.{needs}
 use Rattle.vault.proofs.ring.Statement.{statement}
 use Rattle.vault.proofs.ring.Tie as tie
 
 wanted-view-requires : tie.Need-wanted-view-requires
-wanted-view-requires c κs = let s = c .before .before .before .before .before .before in
-    let h = s .pre .0 in
-    (h .clean .sized .marks, h .clean .sized .views, rowOf (s .args .t1) (seatOf (s .args .t1) h), s .pre .1)
+wanted-view-requires c κs = let s = c .before .before .before in (s .pre .0 .ready .size, ownRow (s .pre .0), s .pre .2)
 
 ask-for-requires : tie.Need-ask-for-requires
-ask-for-requires c κs = let s = c .before .before .before .before .before .before .before in (s .pre .0 .clean, seatOf (s .args .t1) (s .pre .0))
+ask-for-requires c κs =
+    let a = c .before .before in
+    let s = a .before .before .before .before in
+    let out = now (s .args .out) in
+    askRequires (s .pre .0) (s .args .view) (s .pre .1) (s .pre .2)
+    (a .wanted-view .result) (a .wanted-view .ensures) out (s .pre .3)
 
-write-entries-requires : tie.Need-write-entries-requires
-write-entries-requires c κs = let s = c .before .before .before .before .before .before .before .before .before .before in
-    let w = c .before .before .before .wanted-view in
-    let t = c .before .before .ask-for in
-    askRoom (s .args .t1) (s .pre .0) (s .pre .1) (w .result) (w .ensures) (t .result) (t .ensures) (now (s .args .out)) (s .pre .2)
-
-pass-a-requires : tie.Need-pass-a-requires
-pass-a-requires c κs = let s = c .before .before .before .before .before .before .before .before .before .before .before .before .before .before in
-    let w = c .before .before .before .before .before .before .before .wanted-view in
-    let t = c .before .before .before .before .before .before .ask-for in
-    let e = c .before .before .before .write-entries in
-    passReady (s .args .t1) (s .pre .0) (s .pre .1) (w .result) (w .ensures) (t .result) (t .ensures) (now (s .args .out)) (s .pre .2) (e .result) (e .last .0) (e .ensures)
+pass-from-requires : tie.Need-pass-from-requires
+pass-from-requires c κs =
+    let a = c .before .before .before .before .before .before in
+    let b = a .before .before .before in
+    let s = b .before .before .before .before in
+    let out = now (s .args .out) in
+    ringRequires (s .pre .0) (s .args .view) (s .pre .1) (s .pre .2)
+    (b .wanted-view .result) (b .wanted-view .ensures) out (s .pre .3)
+    (a .ask-for .result) (a .ask-for .last .0) (a .ask-for .last .1 .1 .1 .0) (a .ask-for .ensures)
 
 same-length : tie.Need-same-length
 same-length c = search needs
 
+same-length-2 : tie.Need-same-length-2
+same-length-2 c = search needs
+
 returns : tie.Need-returns
-returns c = let s = c .before .before .before .before .before .before .before .before .before .before .before .before .before .before .before .before .before in
-    let w = c .before .before .before .before .before .before .before .before .before .before .wanted-view in
-    let t = c .before .before .before .before .before .before .before .before .before .ask-for in
-    let e = c .before .before .before .before .before .before .write-entries in
-    let p = c .before .before .pass-a in
-    ringRan (s .args .t1) (s .pre .0) (s .pre .1) (w .result) (w .ensures) (t .result) (t .ensures) (now (s .args .out)) (s .pre .2) (e .result) (e .last .0) (e .ensures) (p .result) (p .last .1 .0) (p .ensures)
+returns c =
+    let a = c .before .before .before .before in
+    let b = a .before .before .before .before .before .before .before in
+    let d = b .before .before .before in
+    let s = d .before .before .before .before in
+    let out = now (s .args .out) in
+    ringRan (s .pre .0) (s .args .view) (s .pre .1) (s .pre .2)
+    (d .wanted-view .result) (d .wanted-view .ensures) out (s .pre .3)
+    (b .ask-for .result) (b .ask-for .last .0) (b .ask-for .last .1 .1 .1 .0) (b .ask-for .ensures)
+    (a .pass-from .result) (a .pass-from .last .0) (a .pass-from .last .1 .1 .1 .0) (a .pass-from .ensures)
 
 pub ring-spec : {M : Type 1} → statement M
 ring-spec =
@@ -45,7 +51,7 @@ ring-spec =
     (tie.spec
     wanted-view-requires
     ask-for-requires
-    write-entries-requires
-    pass-a-requires
+    pass-from-requires
     same-length
+    same-length-2
     returns)

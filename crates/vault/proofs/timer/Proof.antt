@@ -1,57 +1,52 @@
--- `vault::timer` meets its contract: by the output, then by the record's length and its n.
+-- `vault::timer` meets its contract: by the way in.
 -- Assumes nothing.
-use Prim.Native.Nat.{_≤_}
-use native.Mathlib.Omega.{arith}
-use lib.ListN.{length}
 use denote.Ref.{now}
-use Rattle.layout.specs.Layout.{decodeRecord}
-use Rattle.sound.proofs.Laws.{lent-length, lent-blank}
-use Rattle.vault.proofs.Rung.{timerShort, timerBlank, timerUnsound}
+use Rattle.vault.proofs.Laws.{wayOpen}
+use Rattle.vault.proofs.Rung.{timerShut}
 use borrow.Author.Needs.{needs}
 use Rattle.vault.proofs.timer.Statement.{statement}
 use Rattle.vault.proofs.timer.Tie as tie
 
-returns : tie.Need-returns
-returns c = let s = c .before .before .before in timerShort (now (s .args .rec)) (s .args .view) (now (s .args .out)) (omega arith)
-
-returns-2 : tie.Need-returns-2
-returns-2 c = let s = c .before .before .before .before in
-    let room : 256 ≤ length (now (s .args .out)) = omega (arith, c .before .if1 .left) in
-    timerUnsound (now (s .args .rec)) (s .args .view) (now (s .args .out)) room (lent-length (now (s .args .rec)) (c .if2 .taken))
-
-slice-read-if3 : tie.Need-slice-read-if3
-slice-read-if3 c = search needs
-
-returns-3 : tie.Need-returns-3
-unfolding decodeRecord
-returns-3 c = let s = c .before .before .before .before .before .before in
-    let room : 256 ≤ length (now (s .args .out)) = omega (arith, c .before .before .before .if1 .left) in
-    timerBlank (now (s .args .rec)) (s .args .view) (now (s .args .out)) room (lent-blank (now (s .args .rec)) (c .before .before .if2 .left) (c .if3 .taken))
-
-timer-held-requires : tie.Need-timer-held-requires
-unfolding decodeRecord
-timer-held-requires c κs = let s = c .before .before .before .before .before .before .before .before in
-    let room : 256 ≤ length (now (s .args .out)) = omega (arith, c .before .before .before .before .before .if1 .left) in
-    (c .before .before .before .before .if2 .left, c .before .before .if3 .left, room)
+way-in-requires : tie.Need-way-in-requires
+way-in-requires c κs = search needs
 
 same-length : tie.Need-same-length
 same-length c = search needs
 
+returns : tie.Need-returns
+returns c =
+    let a = c .before in
+    let s = a .before .before .before .before in
+    let rec = now (s .args .rec) in
+    let out = now (s .args .out) in
+    timerShut rec (s .args .view) out (a .way-in .result) (a .way-in .ensures) (c .if1 .taken)
+
+timer-in-requires : tie.Need-timer-in-requires
+timer-in-requires c κs =
+    let a = c .before .before in
+    let b = a .before in
+    let s = b .before .before .before .before in
+    let rec = now (s .args .rec) in
+    let out = now (s .args .out) in
+    wayOpen rec out (b .way-in .result) (b .way-in .ensures) (a .if1 .left)
+
 same-length-2 : tie.Need-same-length-2
 same-length-2 c = search needs
 
-returns-4 : tie.Need-returns-4
-returns-4 c = c .before .before .before .before .timer-held .ensures
+same-length-3 : tie.Need-same-length-3
+same-length-3 c = search needs
+
+returns-2 : tie.Need-returns-2
+returns-2 c = search needs
 
 pub timer-spec : {M : Type 1} → statement M
 timer-spec =
     tie.close
     (tie.spec
-    returns
-    returns-2
-    slice-read-if3
-    returns-3
-    timer-held-requires
+    way-in-requires
     same-length
+    returns
+    timer-in-requires
     same-length-2
-    returns-4)
+    same-length-3
+    returns-2)

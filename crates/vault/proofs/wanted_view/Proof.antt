@@ -1,4 +1,4 @@
--- `vault::wanted_view` meets its contract: the branches tell whether an own view-change is kept, and whether it is above the view.
+-- `vault::wanted_view` meets its contract: by whether an own view-change is kept, and whether it is above the view.
 -- Assumes nothing.
 use denote.Ref.{now}
 use Rattle.vault.proofs.Rung.{wantedNone, wantedOwn, wantedNext}
@@ -9,43 +9,52 @@ use Rattle.vault.proofs.wanted_view.Tie as tie
 frame-slot-requires : tie.Need-frame-slot-requires
 frame-slot-requires c κs = search needs
 
-shared-slice-read-if1 : tie.Need-shared-slice-read-if1
-shared-slice-read-if1 c = search needs
+slot-of-requires : tie.Need-slot-of-requires
+slot-of-requires c κs = search needs
 
 add-result : tie.Need-add-result
 add-result c = search needs
 
 returns : tie.Need-returns
-returns c = let a = c .before .before .before .before .before .args in
-    wantedNone (now (a .marks)) (now (a .views)) (a .id) (a .view) (c .before .before .frame-slot .result) (c .before .before .frame-slot .ensures .0) (c .if1 .taken)
-
-mul-own : tie.Need-mul-own
-mul-own c = search needs
-
-shared-slice-read-own : tie.Need-shared-slice-read-own
-shared-slice-read-own c = search needs
+returns c =
+    let a = c .before .before in
+    let b = a .before in
+    let s = b .before .before in
+    let rec = now (s .args .rec) in
+    wantedNone rec (s .args .id) (s .args .view) (b .frame-slot .result) (s .pre .1) (b .frame-slot .ensures .0)
+    (a .slot-of .result) (a .slot-of .ensures) (c .if1 .taken)
 
 returns-2 : tie.Need-returns-2
-returns-2 c = let a = c .before .before .before .before .before .before .before .args in
-    wantedOwn (now (a .marks)) (now (a .views)) (a .id) (a .view) (c .before .before .before .before .frame-slot .result) (c .before .before .before .before .frame-slot .ensures .0) (c .before .before .if1 .left) (c .if2 .taken)
+returns-2 c =
+    let a = c .before .before in
+    let b = a .before .before in
+    let d = b .before in
+    let s = d .before .before in
+    let rec = now (s .args .rec) in
+    wantedOwn rec (s .args .id) (s .args .view) (d .frame-slot .result) (s .pre .1) (d .frame-slot .ensures .0)
+    (b .slot-of .result) (b .slot-of .ensures) (a .if1 .left) (c .if2 .taken)
 
 add-result-2 : tie.Need-add-result-2
 add-result-2 c = search needs
 
 returns-3 : tie.Need-returns-3
-returns-3 c = let a = c .before .before .before .before .before .before .before .args in
-    wantedNext (now (a .marks)) (now (a .views)) (a .id) (a .view) (c .before .before .before .before .frame-slot .result) (c .before .before .before .before .frame-slot .ensures .0) (c .before .before .if1 .left) (c .if2 .left)
+returns-3 c =
+    let a = c .before .before in
+    let b = a .before .before in
+    let d = b .before in
+    let s = d .before .before in
+    let rec = now (s .args .rec) in
+    wantedNext rec (s .args .id) (s .args .view) (d .frame-slot .result) (s .pre .1) (d .frame-slot .ensures .0)
+    (b .slot-of .result) (b .slot-of .ensures) (a .if1 .left) (c .if2 .left)
 
 pub wanted-view-spec : {M : Type 1} → statement M
 wanted-view-spec =
     tie.close
     (tie.spec
     frame-slot-requires
-    shared-slice-read-if1
+    slot-of-requires
     add-result
     returns
-    mul-own
-    shared-slice-read-own
     returns-2
     add-result-2
     returns-3)

@@ -9,7 +9,7 @@ start-requires : tie.Need-start-requires
 start-requires c κs = search needs
 
 number-requires : tie.Need-number-requires
-number-requires c κs = short-by (c .before .before .before .before .start .result) _ _ _ (c .before .before .before .before .start .ensures) (small-start _ _ _ _ _ _ _)
+number-requires c κs = short-by (c .before .before .before .before .start .result) _ _ _ (c .before .before .before .before .start .ensures) (small-start _ _ _ _)
 
 same-length : tie.Need-same-length
 same-length c = search needs

@@ -14,17 +14,17 @@ returns c = let a = c .before .before .before .before .args in startWrong (now (
 number-requires : tie.Need-number-requires
 number-requires c κs = search needs
 
-shared-slice-read-start : tie.Need-shared-slice-read-start
-shared-slice-read-start c = search needs
+shared-slice-read-t9 : tie.Need-shared-slice-read-t9
+shared-slice-read-t9 c = search needs
 
-shared-slice-read-start-2 : tie.Need-shared-slice-read-start-2
-shared-slice-read-start-2 c = search needs
+shared-slice-read-t11 : tie.Need-shared-slice-read-t11
+shared-slice-read-t11 c = search needs
 
-shared-slice-read-start-3 : tie.Need-shared-slice-read-start-3
-shared-slice-read-start-3 c = search needs
+shared-slice-read-t13 : tie.Need-shared-slice-read-t13
+shared-slice-read-t13 c = search needs
 
-shared-slice-read-start-4 : tie.Need-shared-slice-read-start-4
-shared-slice-read-start-4 c = search needs
+shared-slice-read-t15 : tie.Need-shared-slice-read-t15
+shared-slice-read-t15 c = search needs
 
 start-requires : tie.Need-start-requires
 start-requires c κs = search needs
@@ -41,7 +41,7 @@ returns-2 c =
     let a = n .before .before .before .before .before .args in
     let k = c .before .before .before .before .start in
     startMade (now (a .rec)) (now (a .out)) (now (a .bytes)) (omega (arith, n .before .if1 .left)) (n .number .result) (n .number .ensures)
-    (leftBy (k .result) (k .last .0) (k .last .1 .1 .1 .1 .1 .1 .0)) (k .ensures)
+    (leftBy (k .result) (k .last .0) (k .last .1 .1 .1 .0)) (k .ensures)
 
 pub start-spec : {M : Type 1} → statement M
 start-spec =
@@ -49,10 +49,10 @@ start-spec =
     (tie.spec
     returns
     number-requires
-    shared-slice-read-start
-    shared-slice-read-start-2
-    shared-slice-read-start-3
-    shared-slice-read-start-4
+    shared-slice-read-t9
+    shared-slice-read-t11
+    shared-slice-read-t13
+    shared-slice-read-t15
     start-requires
     same-length
     same-length-2

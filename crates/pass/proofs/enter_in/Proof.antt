@@ -1,0 +1,94 @@
+-- `pass::enter_in` meets its contract: by whether the vault leads the view.
+-- Assumes nothing.
+use mathlib.Core.Path.{_∙_, ap}
+use native.Mathlib.Omega.{arith}
+use Rattle.frame.specs.Refusal.{leaderOf}
+use Rattle.pass.proofs.Steps.{rowSet, someSet, fitsProof, fitsSuggest, didLead, didFollow}
+use borrow.Author.Needs.{needs}
+use Rattle.pass.proofs.enter_in.Statement.{statement}
+use Rattle.pass.proofs.enter_in.Tie as tie
+
+report-for-requires : tie.Need-report-for-requires
+report-for-requires c κs =
+    let s = c .before .before in
+    (s .pre .0 .size, rowSet _ (s .pre .0) (s .pre .1), omega arith, omega arith, omega arith, omega arith)
+
+report-for-requires-2 : tie.Need-report-for-requires-2
+report-for-requires-2 c κs =
+    let s = c .before .before .before .before in
+    (s .pre .0 .size, rowSet _ (s .pre .0) (s .pre .1), omega arith, omega arith, omega arith, omega arith)
+
+timer-millis-requires : tie.Need-timer-millis-requires
+timer-millis-requires c κs = search needs
+
+wide-requires : tie.Need-wide-requires
+wide-requires c κs = search needs
+
+leader-requires : tie.Need-leader-requires
+leader-requires c κs = let s = c .before .before .before .before .before .before .before in omega (arith, someSet _ (s .pre .0) (s .pre .1), c .wide .ensures)
+
+cast-to : tie.Need-cast-to
+cast-to c = search needs
+
+put-view-requires : tie.Need-put-view-requires
+put-view-requires c κs = search needs
+
+keep-requires : tie.Need-keep-requires
+keep-requires c κs =
+    let v = c .before .before .before in
+    let s = v .before .before .before .before .before .before .before .before .before .before in
+    let proof = v .before .before .before .before .before .before .before .report-for in
+    let suggest = v .before .before .before .before .before .report-for2 in
+    let fit = fitsProof _ (s .pre .0) (s .args .set) (s .pre .1) (s .args .w) (proof .result) (suggest .result) (proof .ensures) (suggest .ensures) in
+    (fit, rowSet _ (s .pre .0) (s .pre .1), v .put-view .ensures .size)
+
+keep-requires-2 : tie.Need-keep-requires-2
+keep-requires-2 c κs =
+    let v = c .before .before .before .before .before .before .before .before .before in
+    let s = v .before .before .before .before .before .before .before .before .before .before in
+    let proof = v .before .before .before .before .before .before .before .report-for in
+    let suggest = v .before .before .before .before .before .report-for2 in
+    let fit = fitsSuggest _ (s .pre .0) (s .args .set) (s .pre .1) (s .args .w) (proof .result) (suggest .result) (proof .ensures) (suggest .ensures) in
+    (fit, rowSet _ (s .pre .0) (s .pre .1), c .before .before .before .before .before .keep .ensures .size)
+
+same-length : tie.Need-same-length
+same-length c = search needs
+
+returns : tie.Need-returns
+returns c =
+    let v = c .before .before .before .before .before .before .before .before .before .before .before .before in
+    let s = v .before .before .before .before .before .before .before .before .before .before in
+    let proof = v .before .before .before .before .before .before .before .report-for in
+    let suggest = v .before .before .before .before .before .report-for2 in
+    didLead _ (s .pre .0) (s .args .set) (s .pre .1) (s .args .w) (proof .result) (suggest .result) (proof .ensures) (suggest .ensures) _ _
+    (v .before .before .before .before .timer-millis .ensures) (v .before .before .leader .ensures .0 ∙ ap (leaderOf (s .args .w)) (v .before .before .before .wide .ensures)) (v .put-view .ensures) (c .before .before .before .before .before .before .before .before .keep .ensures) (c .before .before .before .before .if1 .taken) (c .before .before .keep2 .ensures)
+
+same-length-2 : tie.Need-same-length-2
+same-length-2 c = search needs
+
+returns-2 : tie.Need-returns-2
+returns-2 c =
+    let v = c .before .before .before .before .before .before .before .before in
+    let s = v .before .before .before .before .before .before .before .before .before .before in
+    let proof = v .before .before .before .before .before .before .before .report-for in
+    let suggest = v .before .before .before .before .before .report-for2 in
+    didFollow _ (s .pre .0) (s .args .set) (s .pre .1) (s .args .w) (proof .result) (suggest .result) (proof .ensures) (suggest .ensures) _ _
+    (v .before .before .before .before .timer-millis .ensures) (v .before .before .leader .ensures .0 ∙ ap (leaderOf (s .args .w)) (v .before .before .before .wide .ensures)) (v .put-view .ensures) (c .before .before .before .before .keep .ensures) (c .if1 .left)
+
+pub enter-in-spec : {M : Type 1} → statement M
+enter-in-spec =
+    tie.close
+    (tie.spec
+    report-for-requires
+    report-for-requires-2
+    timer-millis-requires
+    wide-requires
+    leader-requires
+    cast-to
+    put-view-requires
+    keep-requires
+    keep-requires-2
+    same-length
+    returns
+    same-length-2
+    returns-2)

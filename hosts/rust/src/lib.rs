@@ -1,0 +1,178 @@
+//! A TetraBFT vault for Rust hosts: a safe wrapper over the proved library `libvault_c.a`.
+//!
+//! A [`Vault`] holds one vault's [`Record`] and the entries that its calls wrote: frames to send, timers to set, and the decision. They are
+//! handed out by [`Vault::store`] and by nothing else, since the record must be on stable storage before anything is sent: a vault that comes
+//! back with an older record could vote twice.
+//!
+//! ```
+//! use std::time::Duration;
+//! use vault::{Entry, Kind, Record, Refusal, Settings, Vault};
+//!
+//! # fn on_disk(_: &Record) -> std::io::Result<()> { Ok(()) }
+//! # fn main() -> Result<(), Box<dyn std::error::Error>> {
+//! // Vault 0 of 4, of which one may lie; link class 2 is for a delay of 100 ms. It would have plan 700.
+//! let mut vault = Vault::new(Record::blank());
+//! vault.start(Settings { n: 4, f: 1, id: 0, class: 2 }, 700)?;
+//!
+//! // `on_disk` writes the bytes of the record, and returns once they are safe.
+//! let mut frames = Vec::new();
+//! for entry in vault.store(on_disk)? {
+//!     match entry {
+//!         Entry::Timer { view, after } => assert_eq!((view, after), (0, Duration::from_millis(900))),
+//!         Entry::All(frame) => frames.push(frame),
+//!         Entry::To(_, _) | Entry::Decision { .. } => unreachable!("not at a start"),
+//!     }
+//! }
+//! // It leads view 0, so it proposes its plan, and votes for it.
+//! assert_eq!(frames.iter().map(|frame| frame.kind()).collect::<Vec<_>>(), [Kind::Proposal, Kind::Vote1]);
+//!
+//! // A frame comes with the sender that the link stands for. A refusal changes nothing, and most are harmless.
+//! assert_eq!(vault.frame(1, &frames[1]), Err(Refusal::Sender));
+//! # Ok(())
+//! # }
+//! ```
+//!
+//! # A host's duty
+//!
+//! - **Send** each frame as it is. Tell [`Vault::frame`] the sender that the link stands for, and not a byte of the frame.
+//! - **Repeat**: the vault writes each frame once. Over a link that may lose frames, keep the latest frame of each kind with its recipient, and
+//!   send it again once a delay until its view ([`Frame::view`]) is below the current one. By itself only a view-change is repeated, by
+//!   [`Vault::timer`]. A frame that comes again is refused ([`Refusal::Over`], [`Refusal::Kept`]) and does no harm.
+//! - **Timer**: an [`Entry::Timer`] replaces the timer of any earlier view. When it runs out call [`Vault::timer`] with its view, and again after
+//!   the same time for as long as the view lasts, also after the decision.
+//! - **Restart** with the stored record, and set the timer of its view. [`Record::blank`] is for a vault that was never started: never take it in
+//!   place of a file that is missing or empty.
+//!
+//! # What is needed
+//!
+//! Linux on x86-64, and the archive: `rt staticlib vault_c` at the repository's top writes it where this crate looks for it; an installed one is
+//! named by its folder in the variable `VAULT_LIB_DIR`. A call needs less than 48 KB of stack, and allocates nothing.
+#![warn(missing_docs)]
+
+mod entry;
+mod refusal;
+mod sys;
+
+pub use entry::{Entries, Entry, Frame, Kind};
+pub use refusal::Refusal;
+
+/// The bytes of a record.
+pub const RECORD_SIZE: usize = 11_703;
+/// No frame is longer.
+pub const LONGEST_FRAME: usize = 45;
+/// The bytes of output that a call is lent.
+const OUTPUT_SIZE: usize = 256;
+/// The answer of an accepted call, less the bytes written.
+const ACCEPTED: u32 = 256;
+
+/// All that a vault keeps: what a host stores.
+#[derive(Clone, PartialEq, Eq)]
+pub struct Record(Box<[u8; RECORD_SIZE]>);
+
+impl Record {
+    /// The record of a vault that was never started.
+    pub fn blank() -> Record {
+        Record(Box::new([0; RECORD_SIZE]))
+    }
+
+    /// What is to be stored.
+    pub fn as_bytes(&self) -> &[u8; RECORD_SIZE] {
+        &self.0
+    }
+}
+
+impl From<[u8; RECORD_SIZE]> for Record {
+    fn from(bytes: [u8; RECORD_SIZE]) -> Record {
+        Record(Box::new(bytes))
+    }
+}
+
+/// Stored bytes. They must be as many as a record has; whether they are a sound record is told by the first call.
+impl TryFrom<&[u8]> for Record {
+    type Error = std::array::TryFromSliceError;
+
+    fn try_from(bytes: &[u8]) -> Result<Record, Self::Error> {
+        <[u8; RECORD_SIZE]>::try_from(bytes).map(Record::from)
+    }
+}
+
+impl std::fmt::Debug for Record {
+    fn fmt(&self, f: &mut std::fmt::Formatter<'_>) -> std::fmt::Result {
+        f.debug_struct("Record").finish_non_exhaustive()
+    }
+}
+
+/// What a vault is started with. All vaults of one agreement have the same `n` and `f`.
+#[derive(Debug, Clone, Copy, PartialEq, Eq)]
+pub struct Settings {
+    /// How many vaults there are: 4 to 64.
+    pub n: u8,
+    /// How many of them may lie: at least 1, and 3f below n.
+    pub f: u8,
+    /// This vault's number: 0 to n - 1.
+    pub id: u8,
+    /// The link class, 0 to 7, for a delay of 20, 50, 100, 200, 500, 1000, 2000 or 5000 milliseconds. A timer is nine delays.
+    pub class: u8,
+}
+
+/// A vault: its record, and the entries of its accepted calls that wait until the record is stored.
+#[derive(Debug, Clone)]
+pub struct Vault {
+    record: Record,
+    waiting: Vec<u8>,
+    changed: bool,
+}
+
+impl Vault {
+    /// A vault with the record that was stored last, or with a blank one before its first start.
+    ///
+    /// # Panics
+    /// Where the archive's records have another size than this crate's: it is of another version.
+    pub fn new(record: Record) -> Vault {
+        assert_eq!(sys::record_size(), RECORD_SIZE, "libvault_c.a is of another version than this crate");
+        Vault { record, waiting: Vec::new(), changed: false }
+    }
+
+    /// The record as the last call left it. Entries that belong to it may still wait.
+    pub fn record(&self) -> &Record {
+        &self.record
+    }
+
+    /// Starts the vault of a blank record with a plan of its own. Refusals: `Started`, and `N` to `Class`.
+    pub fn start(&mut self, settings: Settings, plan: u64) -> Result<(), Refusal> {
+        self.call(|record, output| sys::start(record, settings, plan, output))
+    }
+
+    /// Takes one frame that came from vault `sender`. Refusals: `Blank` and `Unsound`, and `Kind` to `Kept`.
+    pub fn frame(&mut self, sender: u8, frame: &[u8]) -> Result<(), Refusal> {
+        self.call(|record, output| sys::frame(record, sender, frame, output))
+    }
+
+    /// The timer of a view has run out. Refusals: `Blank` and `Unsound`, `Timer` and `LastView`.
+    pub fn timer(&mut self, view: u32) -> Result<(), Refusal> {
+        self.call(|record, output| sys::timer(record, view, output))
+    }
+
+    /// Stores the record, and hands out the entries of all accepted calls since it was stored last. `write` returns once the record is on
+    /// stable storage; it is not called where the record has not changed. Where it fails the entries go on waiting.
+    pub fn store<E>(&mut self, write: impl FnOnce(&Record) -> Result<(), E>) -> Result<Entries, E> {
+        if self.changed {
+            write(&self.record)?;
+            self.changed = false;
+        }
+        Ok(Entries::new(std::mem::take(&mut self.waiting)))
+    }
+
+    fn call(&mut self, call: impl FnOnce(&mut [u8], &mut [u8]) -> u32) -> Result<(), Refusal> {
+        let mut output = [0; OUTPUT_SIZE];
+        let answer = call(&mut self.record.0[..], &mut output);
+        match answer.checked_sub(ACCEPTED) {
+            Some(count) => {
+                self.waiting.extend_from_slice(&output[..count as usize]);
+                self.changed = true;
+                Ok(())
+            }
+            None => Err(Refusal::from_number(answer).expect("an answer is a refusal or 256 and more")),
+        }
+    }
+}

@@ -1,0 +1,96 @@
+//! Why a call did not act.
+use std::fmt;
+
+/// A refusal: the call changed nothing. In the order in which they are tested.
+#[derive(Debug, Clone, Copy, PartialEq, Eq, PartialOrd, Ord, Hash)]
+#[repr(u8)]
+pub enum Refusal {
+    /// 1: the output has fewer than 256 bytes. This crate always lends enough.
+    Output = 1,
+    /// 2: frame or timer on a blank record: the vault has not been started.
+    Blank = 2,
+    /// 3: frame or timer on bytes that are no sound record. Restore it from the vault's own store; do not start anew.
+    Unsound = 3,
+    /// 4: start on a record that is not blank.
+    Started = 4,
+    /// 5: start: n is below 4 or above 64.
+    N = 5,
+    /// 6: start: f is 0, or 3f is n or more.
+    F = 6,
+    /// 7: start: id is n or more.
+    Id = 7,
+    /// 8: start: the link class is above 7.
+    Class = 8,
+    /// 9: frame: no bytes, or the kind is not 1 to 8.
+    Kind = 9,
+    /// 10: frame: the length is wrong for the kind.
+    Length = 10,
+    /// 11: frame: the link's sender is n or more, or this vault itself.
+    Link = 11,
+    /// 12: frame: the sender byte is not the link's sender.
+    Sender = 12,
+    /// 13: frame: view 0 in a view-change, suggest or proof.
+    View0 = 13,
+    /// 14: frame: a bad report.
+    Report = 14,
+    /// 15: frame: a proposal not from its view's leader, or a suggest for a view that this vault does not lead.
+    Leader = 15,
+    /// 16: frame: its view is over. Harmless.
+    Over = 16,
+    /// 17: frame: one of the same sender and kind is kept, at this view or a higher one. Harmless.
+    Kept = 17,
+    /// 18: timer: the view is not the current one. Harmless.
+    Timer = 18,
+    /// 19: timer: the current view is the last one, 4294967295.
+    LastView = 19,
+}
+
+impl Refusal {
+    /// Each refusal, in the order of the numbers.
+    pub const ALL: [Refusal; 19] = {
+        use Refusal::*;
+        [Output, Blank, Unsound, Started, N, F, Id, Class, Kind, Length, Link, Sender, View0, Report, Leader, Over, Kept, Timer, LastView]
+    };
+
+    /// The refusal of a number, 1 to 19.
+    pub fn from_number(number: u32) -> Option<Refusal> {
+        Refusal::ALL.into_iter().find(|refusal| u32::from(refusal.number()) == number)
+    }
+
+    /// Its number, as documents, C hosts and the line program have it.
+    pub fn number(self) -> u8 {
+        self as u8
+    }
+
+    fn text(self) -> &'static str {
+        match self {
+            Refusal::Output => "the host lent less than 256 bytes for the output",
+            Refusal::Blank => "this vault was not started yet",
+            Refusal::Unsound => "the stored record is damaged, or of another program",
+            Refusal::Started => "this vault was started before, or its record is damaged",
+            Refusal::N => "there are 4 to 64 vaults",
+            Refusal::F => "f is at least 1, and three times f is less than n",
+            Refusal::Id => "the vault's number must be below n",
+            Refusal::Class => "the link class is 0 to 7",
+            Refusal::Kind => "the frame is empty, or of no known kind",
+            Refusal::Length => "the frame's length does not fit its kind",
+            Refusal::Link => "the sender is no vault of this practice, or this vault itself",
+            Refusal::Sender => "the frame names another sender than the link it came by",
+            Refusal::View0 => "a view-change, suggest or proof for view 0",
+            Refusal::Report => "a report in the frame contradicts itself",
+            Refusal::Leader => "a proposal from a vault that does not lead the view, or a suggest that is not for this vault",
+            Refusal::Over => "the frame's view is over",
+            Refusal::Kept => "the same frame, or a newer one of this kind, came from this sender already",
+            Refusal::Timer => "a timer of another view than the current one",
+            Refusal::LastView => "the last view of all is reached",
+        }
+    }
+}
+
+impl fmt::Display for Refusal {
+    fn fmt(&self, f: &mut fmt::Formatter<'_>) -> fmt::Result {
+        write!(f, "refusal {}: {}", self.number(), self.text())
+    }
+}
+
+impl std::error::Error for Refusal {}

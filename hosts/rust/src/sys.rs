@@ -1,0 +1,50 @@
+//! The exported calls, each behind a safe function. A slice passes as a pointer and then a length. The declarations are those of
+//! include/vault.h; nothing checks them against the archive.
+use crate::Settings;
+
+mod raw {
+    extern "C" {
+        pub fn vault_record_size() -> u32;
+        pub fn vault_start(
+            record: *mut u8,
+            record_length: usize,
+            n: u8,
+            f: u8,
+            id: u8,
+            link_class: u8,
+            plan: u64,
+            output: *mut u8,
+            output_length: usize,
+        ) -> u32;
+        pub fn vault_frame(
+            record: *mut u8,
+            record_length: usize,
+            sender: u8,
+            frame: *const u8,
+            frame_length: usize,
+            output: *mut u8,
+            output_length: usize,
+        ) -> u32;
+        pub fn vault_timer(record: *mut u8, record_length: usize, view: u32, output: *mut u8, output_length: usize) -> u32;
+    }
+}
+
+pub fn record_size() -> usize {
+    // SAFETY: it takes nothing.
+    unsafe { raw::vault_record_size() as usize }
+}
+
+// SAFETY of the calls below: any bytes may be lent, each pointer comes with the true length of its slice, and Rust's borrows keep record,
+// output and frame apart.
+
+pub fn start(record: &mut [u8], s: Settings, plan: u64, output: &mut [u8]) -> u32 {
+    unsafe { raw::vault_start(record.as_mut_ptr(), record.len(), s.n, s.f, s.id, s.class, plan, output.as_mut_ptr(), output.len()) }
+}
+
+pub fn frame(record: &mut [u8], sender: u8, frame: &[u8], output: &mut [u8]) -> u32 {
+    unsafe { raw::vault_frame(record.as_mut_ptr(), record.len(), sender, frame.as_ptr(), frame.len(), output.as_mut_ptr(), output.len()) }
+}
+
+pub fn timer(record: &mut [u8], view: u32, output: &mut [u8]) -> u32 {
+    unsafe { raw::vault_timer(record.as_mut_ptr(), record.len(), view, output.as_mut_ptr(), output.len()) }
+}

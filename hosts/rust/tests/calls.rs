@@ -1,0 +1,73 @@
+//! The wrapper's own work: refusals, storing before entries, stored records.
+use std::convert::Infallible;
+
+use vault::{Entry, Record, Refusal, Settings, Vault, RECORD_SIZE};
+
+const SETTINGS: Settings = Settings { n: 4, f: 1, id: 0, class: 2 };
+
+fn kept(_: &Record) -> Result<(), Infallible> {
+    Ok(())
+}
+
+fn started() -> Vault {
+    let mut vault = Vault::new(Record::blank());
+    vault.start(SETTINGS, 7).expect("right settings");
+    vault
+}
+
+#[test]
+fn refusals_change_nothing() {
+    let mut blank = Vault::new(Record::blank());
+    assert_eq!(blank.frame(1, &[]), Err(Refusal::Blank));
+    assert_eq!(blank.timer(0), Err(Refusal::Blank));
+    for (settings, refusal) in [
+        (Settings { n: 3, ..SETTINGS }, Refusal::N),
+        (Settings { f: 2, ..SETTINGS }, Refusal::F),
+        (Settings { id: 4, ..SETTINGS }, Refusal::Id),
+        (Settings { class: 8, ..SETTINGS }, Refusal::Class),
+    ] {
+        assert_eq!(blank.start(settings, 7), Err(refusal));
+    }
+    assert!(blank.record() == &Record::blank());
+    assert_eq!(blank.store(|_| Err("not to be called")).map(Iterator::count), Ok(0));
+
+    let mut vault = started();
+    let before = vault.record().clone();
+    assert_eq!(vault.start(SETTINGS, 7), Err(Refusal::Started));
+    assert_eq!(vault.frame(1, &[]), Err(Refusal::Kind));
+    assert_eq!(vault.frame(0, &[6, 0, 0, 0, 0, 1]), Err(Refusal::Link));
+    assert_eq!(vault.timer(1), Err(Refusal::Timer));
+    assert!(vault.record() == &before);
+}
+
+#[test]
+fn entries_wait_until_the_record_is_stored() {
+    let mut vault = started();
+    vault.timer(0).expect("the current view");
+    assert_eq!(vault.store(|_| Err("no disk")).map(Iterator::count), Err("no disk"));
+    let mut bytes = Vec::new();
+    let write = |record: &Record| -> Result<(), Infallible> {
+        bytes.extend_from_slice(record.as_bytes());
+        Ok(())
+    };
+    let Ok(entries) = vault.store(write);
+    // Start: timer, proposal, vote-1. Timer: view-change.
+    assert_eq!(entries.count(), 4);
+    assert_eq!(bytes, vault.record().as_bytes());
+    let Ok(entries) = vault.store(kept);
+    assert_eq!(entries.count(), 0);
+}
+
+#[test]
+fn a_stored_record_goes_on() {
+    let stored = started().record().as_bytes().to_vec();
+    let mut vault = Vault::new(Record::try_from(&stored[..]).expect("the right length"));
+    vault.timer(0).expect("the current view");
+    let Ok(mut entries) = vault.store(kept);
+    assert!(matches!(entries.next(), Some(Entry::All(frame)) if frame.as_bytes() == [6, 0, 0, 0, 0, 1]));
+    assert!(Record::try_from(&stored[1..]).is_err());
+
+    let mut damaged = [0xff; RECORD_SIZE];
+    damaged[..4].copy_from_slice(&stored[..4]);
+    assert_eq!(Vault::new(Record::from(damaged)).timer(0), Err(Refusal::Unsound));
+}
