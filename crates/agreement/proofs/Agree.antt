@@ -12,7 +12,8 @@ use native.Mathlib.Decide.{decLt}
 use Rattle.quorum.specs.Sets.{Vaults, Set, Quorum, Mostly}
 use Rattle.quorum.proofs.Laws.{groupMap, quorumsMeet, blockingKeeper, quorumBlocks}
 use Rattle.rules.specs.Rules.{Report, rule3, Safe, atStart, noLock, since, Claimed, Backed, claims, unlocked, allows}
-use Rattle.rules.proofs.Single.{Says, always, forIt, forAny, claimsSays}
+use Rattle.rules.specs.Sentences.{Says, always, forIt, forAny}
+use Rattle.rules.proofs.Single.{claimsSays}
 use Rattle.rules.proofs.Laws.{holdsWhere}
 use Rattle.agreement.specs.Law.{History, Exact, Vouched, Lawful, Locked}
 use Rattle.agreement.proofs.Reports.{none≢some, allowedLock, unlockedNone}

@@ -21,6 +21,7 @@ use Rattle.frame.proofs.Theorems.{decode-encode, encode-length, encode-short, e
 use Rattle.entry.specs.declared.Entry.{Entry}
 use Rattle.entry.specs.declared.Entry.the-variants.{ForAll, ForOne, Timer, Decision}
 use Rattle.entry.specs.Layout.{hostFields, entryBytes, layout, ValidEntry, AllValid, frameIn, entryAt, sizeAt, entriesWithin, entriesOf}
+use Rattle.entry.specs.Sentences.{EntriesReadBack, EntriesUnique}
 
 -- what the bytes of an entry say, whatever follows them
 pub record Says (e : Entry) (rest : List ℕ) : Type 0 where
@@ -117,12 +118,12 @@ read-within (e ∷ es) (suc bound) v h =
     simp (there, says .entry, next) (ap (λ (l : List Entry). e ∷ l) (read-within es bound (v .1) (omega arith)))
 
 -- An output that is entries end to end reads as those entries.
-pub entries-read-back : (es : List Entry) → AllValid es → entriesOf (layout es) ≡ es
-entries-read-back es v = read-within es (length (layout es)) v (omega arith)
+pub entriesReadBack : EntriesReadBack
+entriesReadBack es v = read-within es (length (layout es)) v (omega arith)
 
 -- No other entries have the same bytes.
-pub entries-unique : (es fs : List Entry) → AllValid es → AllValid fs → layout es ≡ layout fs → es ≡ fs
-entries-unique es fs v w e = sym (entries-read-back es v) ∙ (ap entriesOf e ∙ entries-read-back fs w)
+pub entriesUnique : EntriesUnique
+entriesUnique es fs v w e = sym (entriesReadBack es v) ∙ (ap entriesOf e ∙ entriesReadBack fs w)
 
 layout-append : (es fs : List Entry) → layout (es ++ fs) ≡ layout es ++ layout fs
 layout-append [] fs = refl

@@ -18,6 +18,7 @@ use Rattle.frame.specs.declared.Frame.{Frame}
 use Rattle.frame.specs.declared.Reading.the-variants.{Accepted, Refused}
 use Rattle.frame.specs.Format.{lengthOf, bodyFields, fieldsOf, encode, decode, Valid}
 use Rattle.frame.specs.Refusal.{first, formRows, linkRows, contentRows, leaderRows, refusal, readFrame}
+use Rattle.frame.specs.Sentences.{FramesReadBack, OneSpelling}
 use Rattle.frame.proofs.Laws.{first-none, first-both, formed, form-passes}
 use Rattle.frame.proofs.Spelling as spelling
 
@@ -56,13 +57,9 @@ pub decode-encode : (f : Frame) → Valid f → decode (encode f) ≡ f
 decode-encode = spelling.decode-encode
 
 -- A written frame reads back as the same frame, wherever link, content and leader pass.
-pub read-back : (f : Frame) (link n own : ℕ) → Valid f
-    → first (linkRows (f .sender) link n own) ≡ 0
-    → first (contentRows f) ≡ 0
-    → first (leaderRows f n own) ≡ 0
-    → readFrame (encode f) link n own ≡ Accepted f
+pub readBack : FramesReadBack
 unfolding readFrame refusal
-read-back f link n own v l c m =
+readBack f link n own v l c m =
     let h = spelling.encode-formed f v in
     let form : first (formRows (encode f)) ≡ 0 = form-passes (encode f) h in
     let z : first (formRows (encode f) ++ (linkRows (f .sender) link n own ++ (contentRows f ++ leaderRows f n own))) ≡ 0 =
@@ -72,8 +69,8 @@ read-back f link n own v l c m =
     rw (spelling.sender-at f v, decode-encode f v, z)
 
 -- Accepted bytes are the only spelling of their frame.
-pub only-spelling : (s : List ℕ) (link n own : ℕ) (f : Frame) → Bytes s → readFrame s link n own ≡ Accepted f → s ≡ encode f
-only-spelling s link n own f b e =
+pub onlySpelling : OneSpelling
+onlySpelling s link n own f b e =
     let p = passed s link n own f e in
     sym (spelling.respell s b (formed s (p .form))) ∙ ap encode (p .said)
 
@@ -82,7 +79,7 @@ pub same-bytes : (s t : List ℕ) (link n own link′ n′ own′ : ℕ) (f : Fr
     → readFrame s link n own ≡ Accepted f
     → readFrame t link′ n′ own′ ≡ Accepted f
     → s ≡ t
-same-bytes s t link n own link′ n′ own′ f b b′ e e′ = only-spelling s link n own f b e ∙ sym (only-spelling t link′ n′ own′ f b′ e′)
+same-bytes s t link n own link′ n′ own′ f b b′ e e′ = onlySpelling s link n own f b e ∙ sym (onlySpelling t link′ n′ own′ f b′ e′)
 
 -- An accepted frame can be written: its body is one of its kind, and its fields fit.
 pub accepted-valid : (s : List ℕ) (link n own : ℕ) (f : Frame) → Bytes s → readFrame s link n own ≡ Accepted f → Valid f

@@ -3,7 +3,6 @@
 -- Assumes nothing.
 use Prim.Native.Nat.{ℕ, _*_, _<_}
 use mathlib.Core.Path.{_≡_, sym, _∙_, ap}
-use mathlib.Core.Logic.{_↔_}
 use mathlib.Core.Bool.{true}
 use mathlib.Core.Option.{some}
 use native.Mathlib.Omega.{arith}
@@ -17,6 +16,7 @@ use Rattle.settings.specs.declared.Settings.{Settings}
 use Rattle.settings.specs.Settings.{vaultsOf}
 use Rattle.protocol.specs.Record.{Record, vaults, planNow}
 use Rattle.protocol.specs.Pass.{hasQuorum, agreed}
+use Rattle.protocol.specs.OnePlan.{AtMostOnePlan, AgreedIsThePlan}
 use Rattle.protocol.proofs.Tables.{highestHas, highestMost}
 
 -- Where 3f is below n, sets of vaults meet as if all kept the rules.
@@ -36,15 +36,21 @@ module _ (r : Record) (third : 3 * r .set .f < r .set .n) where
       groupMap (λ j low t. let (q, is, same) = holdsWhere (planNow r k j) (eqb p) t in is ∙ ap some (sym (eqb-true p q same)))
       (countQuorum (vaults r) (λ j. holds (eqb p) (planNow r k j)) .1 h)
 
-  pub agreedIs : (k p : ℕ) → (agreed r k ≡ some p) ↔ (hasQuorum r k p ≡ true)
-  unfolding agreed
-  agreedIs k p = (λ e. highestHas (hasQuorum r k) (planNow r k) (r .set .n) e .0, found)
-    where
-      found : hasQuorum r k p ≡ true → agreed r k ≡ some p
-      found h =
-          let (j, low, at) = quorumMember (voters k p h) in
-          let (w, is, le) = highestMost (hasQuorum r k) (planNow r k) (r .set .n) j p low at h in
-          let other = voters k w (highestHas (hasQuorum r k) (planNow r k) (r .set .n) is .0) in
-          let (i, below, all, a, b) = quorumsMeet (everyone (r .set) third) (groupMap (λ i low x keeps. x) (voters k p h)) (groupMap (λ i low x keeps. x) other) in
-          let same : w ≡ p = cc in
-          is ∙ ap some same
+-- At most one plan has a quorum.
+pub onePlan : AtMostOnePlan
+onePlan r third k p q hp hq =
+    let most = everyone (r .set) third in
+    let (i, low, all, a, b) = quorumsMeet most (groupMap (λ i low x keeps. x) (voters r third k p hp)) (groupMap (λ i low x keeps. x) (voters r third k q hq)) in
+    let same : p ≡ q = cc in
+    same
+
+-- The plan that steps E to H act on is the one that has it.
+pub agreedIs : AgreedIsThePlan
+unfolding agreed
+agreedIs r third k p = (λ e. highestHas (hasQuorum r k) (planNow r k) (r .set .n) e .0, found)
+  where
+    found : hasQuorum r k p ≡ true → agreed r k ≡ some p
+    found h =
+        let (j, low, at) = quorumMember r third (voters r third k p h) in
+        let (w, is, le) = highestMost (hasQuorum r k) (planNow r k) (r .set .n) j p low at h in
+        is ∙ ap some (onePlan r third k w p (highestHas (hasQuorum r k) (planNow r k) (r .set .n) is .0) h)

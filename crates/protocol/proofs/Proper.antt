@@ -18,7 +18,7 @@ use Rattle.frame.specs.Refusal.{first, badPrevious, linkRows}
 use Rattle.frame.proofs.Laws.{neither}
 use Rattle.entry.specs.declared.Entry.{Entry}
 use Rattle.entry.specs.Layout.{AllValid}
-use Rattle.entry.proofs.Theorems.{entries-read-back}
+use Rattle.entry.proofs.Theorems.{entriesReadBack}
 use Rattle.protocol.specs.Record.{Record, each, spelt, voteBy, voteOf}
 use Rattle.settings.specs.declared.Settings.{Settings}
 use Rattle.protocol.specs.Pass.{Act, ask, does, writes, Out, Step, taken, pass, fromA}
@@ -112,4 +112,4 @@ callWhole (some r) (timer v) was fed o e =
 pub callProper : AlwaysProper
 callProper b a was fed o e =
     let (w, valid) = callWhole b a was fed o e in
-    record { sound = w .sound; ranged = w .ranged; valid = valid; reads = entries-read-back (o .wrote) valid; fits = omega (arith, outputShort b a o e) }
+    record { sound = w .sound; ranged = w .ranged; valid = valid; reads = entriesReadBack (o .wrote) valid; fits = omega (arith, outputShort b a o e) }

@@ -12,7 +12,7 @@ use Rattle.frame.specs.declared.Frame.{Frame}
 use Rattle.frame.specs.declared.Reading.the-variants.{Accepted}
 use Rattle.frame.specs.Format.{encode, decode}
 use Rattle.frame.specs.Refusal.{first, linkRows, readFrame}
-use Rattle.frame.proofs.Theorems.{passed, accepted-valid, read-back}
+use Rattle.frame.proofs.Theorems.{passed, accepted-valid, readBack}
 use Rattle.protocol.specs.Calls.{Readable}
 use Rattle.protocol.proofs.Went.{noneGiven}
 
@@ -36,4 +36,4 @@ acceptedReadable s link n own x bytes e =
     )
 
 pub readableAccepted : (n own : ℕ) (x : Frame) → Readable n own x → readFrame (encode x) (x .sender) n own ≡ Accepted x
-readableAccepted n own x read = read-back x (x .sender) n own (read .valid) (read .link) (read .content) (read .leader)
+readableAccepted n own x read = readBack x (x .sender) n own (read .valid) (read .link) (read .content) (read .leader)

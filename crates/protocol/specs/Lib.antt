@@ -1,5 +1,6 @@
 pub mod Record
 pub mod Pass
+pub mod OnePlan
 pub mod Calls
 pub mod Example
 pub mod Sound

@@ -92,7 +92,8 @@ module _ (r : Record) where
   abbrev pub mayPropose : Bool
   mayPropose = leads r (r .view) && not (sentNow r 0)
 
-  -- 'its starting plan if that is safe by Rule 1, else the smallest safe plan'.
+  -- 'its starting plan if that is safe by Rule 1, else the smallest safe plan'. `choice` counts; that it is the rule by sets, `Chosen`, is
+  -- `ChoiceIsTheRule` in crates/rules/specs/Sentences, proved as `chosenIff` in crates/rules/proofs/Laws.
   abbrev pub chosen : Option ℕ
   chosen = choice (vaults r) (reportsOf r rule1) (r .view) (r .start)
 
@@ -100,7 +101,8 @@ module _ (r : Record) where
   abbrev pub actC : Option Act
   actC = when mayPropose (each chosen (λ p. some (cast 0 p)))
 
-  -- 'vote-1 was not sent in this view and the leader's proposal for it is .. safe by Rule 3'.
+  -- 'vote-1 was not sent in this view and the leader's proposal for it is .. safe by Rule 3'. `safe` counts; that it is the rule by sets,
+  -- `Safe`, is `CountingIsTheRule` in crates/rules/specs/Sentences, proved as `safeIff` in crates/rules/proofs/Laws.
   abbrev pub approves : ℕ → Bool
   approves p = not (sentNow r 1) && safe rule3 (vaults r) (reportsOf r rule3) (r .view) p
 
@@ -112,7 +114,7 @@ module _ (r : Record) where
   abbrev pub hasQuorum : ℕ → ℕ → Bool
   hasQuorum k p = isQuorum (vaults r) (λ j. holds (eqb p) (planNow r k j))
 
-  -- The plan that has it. No two plans do (`agreedIs`, in proofs/Agreed).
+  -- The plan that has it. No two plans do, and this is the one (`AtMostOnePlan`, `AgreedIsThePlan` in OnePlan).
   unfoldable pub agreed : ℕ → Option ℕ
   agreed k = highest (hasQuorum k) (planNow r k) (r .set .n)
 

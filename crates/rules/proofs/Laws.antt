@@ -5,7 +5,7 @@
 -- report names is safe only if every plan is, so where the starting plan is not, the smallest safe plan is named by a report.
 -- Assumes nothing.
 use Prim.Native.Nat.{ℕ, zero, suc, _+_, _-_, _≤_, _<_, min}
-use mathlib.Core.Path.{_≡_, refl, _∙_, ap}
+use mathlib.Core.Path.{_≡_, refl, _∙_, ap, subst}
 use mathlib.Core.Logic.{_≢_, _⊎_, inl, inr, ⊎-elim, _↔_}
 use mathlib.Core.Bool.{Bool, true, false, cond, not, _&&_, false≢true}
 use mathlib.Core.Option.{Option, none, some}
@@ -20,6 +20,7 @@ use Rattle.quorum.proofs.Laws.{ByWeight, blockingByWeight, enoughMono, groupMap
 use Rattle.rules.specs.Options.{holds}
 use Rattle.rules.specs.Rules.{Vote, Report, Reports, Rule, rule1, rule3, claims, unlocked, allows, reporting, Claimed, TwoSets, Backed, Safe, atStart, noLock, since, IsSmallest, Chosen, own, other}
 use Rattle.rules.specs.Counts.{claimed, free, allowed, planOr, planBy, votedPlan, twoClaimed, twoSets, backed, safe, names, namedPlan, smaller, smallest, choice}
+use Rattle.rules.specs.Sentences.{CountingIsTheRule, ChoiceIsTheRule}
 use Rattle.rules.proofs.Single.{claimsFall, claimsUnnamed, allowsUnnamed, namesSplit}
 
 -- ---- reporters
@@ -158,30 +159,6 @@ module _ (vs : Vaults) (rs : Reports) where
     λ h. ⊎-elim (λ c. inl (claimedIff p u .1 c)) (λ t. inr (twoIff v u .1 t)) (either (claimed vs rs p u) _ h),
   )
 
-  -- A plan is safe exactly if the quorum and the blocking sets named by the rules can be found among the reports.
-  pub safeIff : (rule : Rule) (v p : ℕ) → Safe rule vs rs v p ↔ (safe rule vs rs v p ≡ true)
-  unfolding safe free allowed
-  safeIff rule v p = (to, λ h. ⊎-elim (λ e. atStart (eqb-true v 0 e)) (λ g. ⊎-elim free′ since′ (either (free vs rs) _ g)) (either (eqb v 0) _ h))
-    where
-      serves : ℕ → Bool
-      serves u = allowed vs rs p u && backed rule vs rs v p u
-
-      to : Safe rule vs rs v p → safe rule vs rs v p ≡ true
-      to (atStart e) = orLeft (eqb v 0) _ (eq-eqb v 0 e)
-      to (noLock q) = orRight (eqb v 0) _ (orLeft (free vs rs) _ (countQuorum vs (reporting rs unlocked) .0 q))
-      to (since u low q b) =
-          orRight (eqb v 0) _ (orRight (free vs rs) _ (anyAt serves v u low
-          (bothJoin (allowed vs rs p u) _ (countQuorum vs (reporting rs (allows p u)) .0 q) (backedIff rule v p u .0 b))))
-
-      free′ : free vs rs ≡ true → Safe rule vs rs v p
-      free′ h = noLock (countQuorum vs (reporting rs unlocked) .1 h)
-
-      since′ : any (λ u. allowed vs rs p u && backed rule vs rs v p u) v ≡ true → Safe rule vs rs v p
-      since′ h =
-          let (u, low, both) = anyWhere (λ u. allowed vs rs p u && backed rule vs rs v p u) v h in
-          let (q, b) = bothSplit (allowed vs rs p u) _ both in
-          since u low (countQuorum vs (reporting rs (allows p u)) .1 q) (backedIff rule v p u .1 b)
-
   -- ---- plans named by no report
 
   -- Plans named by no report behave alike: where one is safe by Rule 1, every plan is.
@@ -206,6 +183,32 @@ module _ (vs : Vaults) (rs : Reports) where
       go : (any (reporting rs (names p)) (vs .n) ≡ true) ⊎ (any (reporting rs (names p)) (vs .n) ≡ false) → (i : ℕ) × (i < vs .n) × (reporting rs (names p) i ≡ true)
       go (inl h) = anyWhere (reporting rs (names p)) (vs .n) h
       go (inr h) = absurd (never (unnamedSafe v p start h s))
+
+-- ---- counting is the rule
+
+-- A plan is safe exactly if the quorum and the blocking sets named by the rules can be found among the reports.
+pub safeIff : CountingIsTheRule
+unfolding safe free allowed
+safeIff vs rs rule v p = (to, λ h. ⊎-elim (λ e. atStart (eqb-true v 0 e)) (λ g. ⊎-elim free′ since′ (either (free vs rs) _ g)) (either (eqb v 0) _ h))
+  where
+    serves : ℕ → Bool
+    serves u = allowed vs rs p u && backed rule vs rs v p u
+
+    to : Safe rule vs rs v p → safe rule vs rs v p ≡ true
+    to (atStart e) = orLeft (eqb v 0) _ (eq-eqb v 0 e)
+    to (noLock q) = orRight (eqb v 0) _ (orLeft (free vs rs) _ (countQuorum vs (reporting rs unlocked) .0 q))
+    to (since u low q b) =
+        orRight (eqb v 0) _ (orRight (free vs rs) _ (anyAt serves v u low
+        (bothJoin (allowed vs rs p u) _ (countQuorum vs (reporting rs (allows p u)) .0 q) (backedIff vs rs rule v p u .0 b))))
+
+    free′ : free vs rs ≡ true → Safe rule vs rs v p
+    free′ h = noLock (countQuorum vs (reporting rs unlocked) .1 h)
+
+    since′ : any (λ u. allowed vs rs p u && backed rule vs rs v p u) v ≡ true → Safe rule vs rs v p
+    since′ h =
+        let (u, low, both) = anyWhere (λ u. allowed vs rs p u && backed rule vs rs v p u) v h in
+        let (q, b) = bothSplit (allowed vs rs p u) _ both in
+        since u low (countQuorum vs (reporting rs (allows p u)) .1 q) (backedIff vs rs rule v p u .1 b)
 
 -- ---- the smallest plan that passes
 
@@ -307,3 +310,7 @@ module _ (vs : Vaults) (rs : Reports) (v start : ℕ) where
   chosenOne (own s) (other never l) = absurd (never s)
   chosenOne (other never l) (own s) = absurd (never s)
   chosenOne {o} {o′} (other never l) (other never′ l′) = smallestOne o o′ l l′
+
+-- The choice by counting is the one that document 01 allows, and no other is.
+pub chosenIff : ChoiceIsTheRule
+chosenIff vs rs v start o = (chosenOne vs rs v start (choiceIs vs rs v start), λ e. subst (Chosen vs rs v start) e (choiceIs vs rs v start))

@@ -16,12 +16,7 @@ use Rattle.rules.specs.Options.{isNone, holds}
 use Rattle.rules.specs.Rules.{Vote, Report, viewOf, viewFor, reach, claims, fits, allows}
 use Rattle.rules.specs.Counts.{names}
 use Rattle.rules.specs.Views.{under}
-
--- Document 01's three cases: 'v' is 0, or its highest vote is for p at v' or later, or its previous vote is at v' or later'.
-pub data Says (r : Report) (p u : ℕ) : Type 0 where
-  always : u ≡ 0 → Says r p u
-  forIt : {x : Vote} → r .highest ≡ some x → x .plan ≡ p → u ≤ x .view → Says r p u
-  forAny : {x : Vote} → r .previous ≡ some x → u ≤ x .view → Says r p u
+use Rattle.rules.specs.Sentences.{Says, always, forIt, forAny, ClaimIsSaid}
 
 -- A vote is there, or its view counts as 0.
 viewed : (o : Option Vote) (u : ℕ) → u ≤ viewOf o → (u ≡ 0) ⊎ ((x : Vote) × (o ≡ some x) × (u ≤ x .view))
@@ -40,7 +35,8 @@ viewedFor (some x) p u low = go (which (eqb (x .plan) p))
 forItView : (o : Option Vote) (x : Vote) (p : ℕ) → o ≡ some x → x .plan ≡ p → viewFor p o ≡ x .view
 forItView o x p e same = rw (e, eq-eqb (x .plan) p same)
 
-pub claimsSays : (r : Report) (p u : ℕ) → (claims p u r ≡ true) ↔ Says r p u
+-- Document 01's three cases.
+pub claimsSays : ClaimIsSaid
 unfolding claims reach
 claimsSays r p u = (λ h. to (leb-true u (max (viewFor p (r .highest)) (viewOf (r .previous))) h), from)
   where

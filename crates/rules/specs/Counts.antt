@@ -1,5 +1,6 @@
 -- The rules by counting: what `Safe` and `Chosen` say of sets, as tests that compute.
--- That both say the same is `safeIff` and `choiceIs`, in proofs/. Assumes nothing.
+-- That both say the same is `CountingIsTheRule` and `ChoiceIsTheRule` in Sentences.
+-- Assumes nothing.
 use Prim.Native.Nat.{ℕ, zero, suc, _+_, _-_, min}
 use mathlib.Core.Bool.{Bool, true, false, cond, not, _&&_, _||_}
 use mathlib.Core.Option.{Option, none, some}

@@ -1,4 +1,5 @@
 pub mod Counts
 pub mod Options
 pub mod Rules
+pub mod Sentences
 pub mod Views

@@ -53,7 +53,7 @@ viewFor p (some x) = cond (eqb (x .plan) p) (x .view) 0
 unfoldable pub reach : Report → ℕ → ℕ
 reach r p = max (viewFor p (r .highest)) (viewOf (r .previous))
 
--- Rules 2 and 4: the report claims p at view u (`claimsSays`, in proofs/, has document 01's three cases).
+-- Rules 2 and 4: the report claims p at view u (`ClaimIsSaid`, in Sentences, has document 01's three cases).
 unfoldable pub claims : ℕ → ℕ → Report → Bool
 claims p u r = leb u (reach r p)
 

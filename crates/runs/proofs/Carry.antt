@@ -19,7 +19,7 @@ use Rattle.frame.specs.declared.Reading.the-variants.{Accepted, Refused}
 use Rattle.frame.specs.Refusal.{readFrame}
 use Rattle.entry.specs.declared.Entry.{Entry}
 use Rattle.entry.specs.Layout.{layout, AllValid, entriesOf}
-use Rattle.entry.proofs.Theorems.{entries-read-back}
+use Rattle.entry.proofs.Theorems.{entriesReadBack}
 use Rattle.layout.specs.Layout.{decodeRecord}
 use Rattle.sound.specs.Sound.{lentIs}
 use Rattle.protocol.specs.Record.{Record}
@@ -104,7 +104,7 @@ fedSaid rec (some r) (timer view) h low = tt
 -- The written bytes of an output read as the entries written.
 readBack : (out : List ℕ) (es : List Entry) → AllValid es → entriesOf (take (length (layout es)) (placed out 0 (layout es))) ≡ es
 unfolding placed
-readBack out es valid = ap entriesOf (take-at (layout es) (drop (0 + length (layout es)) out) (length (layout es)) refl) ∙ entries-read-back es valid
+readBack out es valid = ap entriesOf (take-at (layout es) (drop (0 + length (layout es)) out) (length (layout es)) refl) ∙ entriesReadBack es valid
 
 -- What an accepted call leaves: bytes that hold the new contents, and an output that says its entries.
 pub record LeftWell (rec out : List ℕ) (o : Out) : Type 0 where

@@ -1,5 +1,5 @@
 -- Laws of entries on the page: "Entries lie end to end", "one output entry a line". The first two bytes of an entry tell its size, so
--- entries laid end to end are found again, one after the other (`entry-says`, `entries-read-back` of crate entry). The loop that prints
+-- entries laid end to end are found again, one after the other (`entry-says`, `entriesReadBack` of crate entry). The loop that prints
 -- them keeps that what is on the page, with the lines of the rest put behind it, is the page with all the lines.
 -- Assumes nothing.
 use Prim.Native.Nat.{ℕ, _+_, _*_, _-_, _≤_, _<_}
@@ -19,7 +19,7 @@ use Rattle.wire.proofs.Laws.{length-spell}
 use Rattle.entry.specs.declared.Entry.{Entry}
 use Rattle.entry.specs.declared.Entry.the-variants.{ForAll, ForOne, Timer, Decision}
 use Rattle.entry.specs.Layout.{hostFields, entryBytes, layout, AllValid, sizeAt, entriesWithin, entriesOf}
-use Rattle.entry.proofs.Theorems.{entry-says, entries-read-back}
+use Rattle.entry.proofs.Theorems.{entry-says, entriesReadBack}
 use Rattle.vaultlines.specs.Digits.{lineOf}
 use Rattle.vaultlines.specs.Lines.{entryLines, Shown}
 use Rattle.vaultlines.specs.Steps.{Laid}
@@ -82,7 +82,7 @@ firstIs s e es v is read =
     let says = entry-says e (v .0) (layout es) in
     let size : sizeAt s ≡ length (entryBytes e) = ap sizeAt is ∙ says .size in
     let next : drop (sizeAt s) s ≡ layout es = ap (λ (k : ℕ). drop k s) size ∙ ap (λ (l : List ℕ). drop (length (entryBytes e)) l) is ∙ drop-at (entryBytes e) (layout es) (length (entryBytes e)) refl in
-    let back : entriesOf (layout es) ≡ es = entries-read-back es (v .1) in
+    let back : entriesOf (layout es) ≡ es = entriesReadBack es (v .1) in
     let again : entriesOf (drop (sizeAt s) s) ≡ es = ap entriesOf next ∙ back in
     let all = length-append (entryBytes e) (layout es) in
     let whole : length s ≡ length (entryBytes e ++ layout es) = ap length is in
