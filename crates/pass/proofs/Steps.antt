@@ -11,14 +11,15 @@ use mathlib.Core.Option.{Option, none, some}
 use native.Mathlib.Omega.{arith}
 use lib.ListN.{length, getD}
 use borrow.Author.Tests.{eq-eqb, ne-eqb}
-use Rattle.rules.specs.Rules.{Rule, rule1, rule3}
+use Rattle.rules.specs.Rules.{Rule, rule1, rule3, claimVote, lockVote}
 use Rattle.rules.specs.Options.{isNone}
 use Rattle.quorum.specs.Sets.{isBlocking}
 use Rattle.settings.specs.declared.Settings.{Settings}
 use Rattle.settings.specs.Settings.{delayOf}
+use Rattle.frame.specs.declared.Report.{Report}
 use Rattle.frame.specs.declared.Body.the-variants.{Plan, Empty, Told}
 use Rattle.frame.specs.declared.Frame.{Frame}
-use Rattle.frame.specs.Format.{within, fits}
+use Rattle.frame.specs.Format.{fits}
 use Rattle.frame.specs.Refusal.{leaderOf}
 use Rattle.frame.proofs.Laws.{inside}
 use Rattle.entry.specs.declared.Entry.{Entry}
@@ -31,10 +32,11 @@ use Rattle.keeping.specs.Keeping.{ownBroadcast}
 use Rattle.rules.specs.Rules.{Vote}
 use Rattle.frame.specs.Refusal.{badPrevious}
 use Rattle.protocol.specs.Sound.{InRow}
-use Rattle.protocol.specs.Record.{Record, spelt, highest, leads, leader, changeOf, planNow, sentNow, reportFrame}
-use Rattle.protocol.specs.Pass.{Act, ask, enter, cast, decide, does, writes, suggestEntry, taken, asked, isNews, canEnter, mayPropose, chosen, approves, agreed, actVote, Out, Step, stepA, stepB, stepC, stepD, stepVote, stepH}
+use Rattle.protocol.specs.Record.{Record, spelt, kindOf, highest, leads, leader, changeOf, planNow, sentNow, reportFrame}
+use Rattle.protocol.specs.Pass.{Act, ask, enter, cast, decide, does, writes, suggestEntry, taken, Out, Step}
+use Rattle.protocol.specs.Pass.{asked, isNews, canEnter, mayPropose, chosen, approves, agreed, actVote, stepA, stepB, stepC, stepD, stepVote, stepH}
 use Rattle.agreement.proofs.Reports.{none≢some}
-use Rattle.protocol.proofs.May.{May, Lawful, Sure, done, and, sureA}
+use Rattle.protocol.proofs.May.{Lawful, Sure, done, and, sureA}
 use Rattle.protocol.proofs.Tables.{whenSome, keepWas}
 use Rattle.protocol.proofs.Size.{actIs}
 use Rattle.protocol.proofs.Good.{voteKept, previousBelow}
@@ -66,6 +68,11 @@ didHeld held left clean wrote = record {
 
 pub fitsVote : (k p : ℕ) → k ≤ 4 → fits (k + 1) (Plan p) ≡ true
 fitsVote k p low = inside 1 5 (k + 1) (omega arith) (omega arith)
+
+pub fitsTold : (slots : ℕ → Report) (id w kind claim lock : ℕ) → 7 ≤ kind → kind ≤ 8 → {f : Frame} → f ≡ toldFor slots id w kind claim lock
+    → fits (f .kind) (f .body) ≡ true
+fitsTold slots id w kind claim lock low high e =
+    subst (λ (x : Frame). fits (x .kind) (x .body) ≡ true) (sym e) (inside 7 8 kind low high)
 
 module _ (rec : List ℕ) (h : Ready rec) where
   abbrev r : slots.Record
@@ -121,25 +128,19 @@ module _ (rec : List ℕ) (h : Ready rec) where
   -- To enter a view: the frames that are told, the timer and the leader as the code has them.
   module _ (set : Settings) (own : set ≡ r .set) (w : ℕ) (proof suggest : Frame) (ep : proof ≡ toldFor (slotOf r) (set .id) w 8 2 5)
       (es : suggest ≡ toldFor (slotOf r) (set .id) w 7 3 4) where
-    proofTold : proof ≡ reportFrame c rule3 w
+    told : (rule : Rule) {f : Frame} → f ≡ toldFor (slotOf r) (set .id) w (kindOf rule) (suc (claimVote rule)) (suc (lockVote rule))
+        → f ≡ reportFrame c rule w
     unfolding contents
-    proofTold =
-        let e = tellsAt r rule3 (h .clean) row in
-        ep ∙ (λ i. toldFor (slotOf r) (own i .id) w 8 2 5) ∙ (λ i. record { kind = 8; sender = r .set .id; view = w; body = Told (sym e i) })
+    told rule e =
+        let tells = tellsAt r rule (h .clean) row in
+        e ∙ (λ i. toldFor (slotOf r) (own i .id) w (kindOf rule) (suc (claimVote rule)) (suc (lockVote rule)))
+        ∙ (λ i. record { kind = kindOf rule; sender = r .set .id; view = w; body = Told (sym tells i) })
+
+    proofTold : proof ≡ reportFrame c rule3 w
+    proofTold = told rule3 ep
 
     suggestTold : suggest ≡ reportFrame c rule1 w
-    unfolding contents
-    suggestTold =
-        let e = tellsAt r rule1 (h .clean) row in
-        es ∙ (λ i. toldFor (slotOf r) (own i .id) w 7 3 4) ∙ (λ i. record { kind = 7; sender = r .set .id; view = w; body = Told (sym e i) })
-
-    pub fitsProof : fits (proof .kind) (proof .body) ≡ true
-    unfolding within
-    fitsProof = subst (λ (x : Frame). fits (x .kind) (x .body) ≡ true) (sym ep) refl
-
-    pub fitsSuggest : fits (suggest .kind) (suggest .body) ≡ true
-    unfolding within
-    fitsSuggest = subst (λ (x : Frame). fits (x .kind) (x .body) ≡ true) (sym es) refl
+    suggestTold = told rule1 es
 
     module _ (millis to : ℕ) (em : millis ≡ 9 * delayOf (set .class)) (et : to ≡ leaderOf w (set .n)) {viewed proved : List ℕ}
         (hv : Holds viewed (withView r w)) (hp : Holds proved (keepFrame (decodeRecord viewed) (set .id) proof)) where
@@ -298,11 +299,14 @@ askWhole c whole w later low = record {
   sound = record {
     settings = whole .sound .settings;
     kept = rowsBy whole new (c .kept) here (whole .sound .kept);
-    own = λ k x e other. ⊎-elim (λ (kind, sender, same). absurd (other (sym kind))) (λ was. whole .sound .own k x was other) (keepWas new (c .kept) k (c .set .id) e);
+    own = λ k x e other. ⊎-elim (λ (kind, sender, same). absurd (other (sym kind))) (λ was. whole .sound .own k x was other)
+        (keepWas new (c .kept) k (c .set .id) e);
     previous = λ k has. subst (λ (o : Option Vote). badPrevious (spelt o) (spelt (c .previous k)) ≡ false)
         (sym (voteKept c (ask w) k (c .set .id) (previousBelow k has) (λ p e. noCast e))) (whole .sound .previous k has);
   };
-  ranged = record { start = whole .ranged .start; view = whole .ranged .view; previous = whole .ranged .previous; decision = whole .ranged .decision };
+  ranged =
+      let was = whole .ranged in
+      record { start = was .start; view = was .view; previous = was .previous; decision = was .decision };
 }
   where
     new : Frame
@@ -312,7 +316,9 @@ askWhole c whole w later low = record {
     noCast e = let z : _≡_ {A = ℕ} 0 1 = cc in omega arith
 
     fine : Sendable (c .set .n) (c .set .id) new
-    fine = changeSendable (c .set .n) (c .set .id) (omega (arith, idBelow (c .set) (whole .sound .settings), sizeBelow (c .set) (whole .sound .settings))) w (omega arith) low
+    fine =
+        let set = whole .sound .settings in
+        changeSendable (c .set .n) (c .set .id) (omega (arith, idBelow (c .set) set, sizeBelow (c .set) set)) w (omega arith) low
 
     here : InRow (c .set) 6 (c .set .id) new
     here = record {

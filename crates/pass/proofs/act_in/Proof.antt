@@ -49,31 +49,41 @@ same-length : tie.Need-same-length
 same-length c = search needs
 
 returns : tie.Need-returns
-returns c = didAct _ (c .before .before .before .before .before .before .before .before .before .before .before .before .args .act) _ (c .before .before .before .before .before .act .given .1) (c .before .before .ask-in .ensures)
+returns c =
+    let m = c .before .before .before .before .before in
+    didAct _ (m .before .before .before .before .before .before .before .args .act) _ (m .act .given .1) (c .before .before .ask-in .ensures)
 
 same-length-2 : tie.Need-same-length-2
 same-length-2 c = search needs
 
 returns-2 : tie.Need-returns-2
-returns-2 c = didAct _ (c .before .before .before .before .before .before .before .before .before .before .before .before .args .act) _ (c .before .before .before .before .before .act2 .given .1) (c .before .before .enter-in .ensures)
+returns-2 c =
+    let m = c .before .before .before .before .before in
+    didAct _ (m .before .before .before .before .before .before .before .args .act) _ (m .act2 .given .1) (c .before .before .enter-in .ensures)
 
 same-length-3 : tie.Need-same-length-3
 same-length-3 c = search needs
 
 returns-3 : tie.Need-returns-3
-returns-3 c = didAct _ (c .before .before .before .before .before .before .before .before .before .before .before .before .args .act) _ (c .before .before .before .before .before .act3 .given .1) (c .before .before .cast-in .ensures)
+returns-3 c =
+    let m = c .before .before .before .before .before in
+    didAct _ (m .before .before .before .before .before .before .before .args .act) _ (m .act3 .given .1) (c .before .before .cast-in .ensures)
 
 same-length-4 : tie.Need-same-length-4
 same-length-4 c = search needs
 
 returns-4 : tie.Need-returns-4
-returns-4 c = didAct _ (c .before .before .before .before .before .before .before .before .before .before .before .before .args .act) _ (c .before .before .before .before .before .act4 .given .1) (c .before .before .decide-in .ensures)
+returns-4 c =
+    let m = c .before .before .before .before .before in
+    didAct _ (m .before .before .before .before .before .before .before .args .act) _ (m .act4 .given .1) (c .before .before .decide-in .ensures)
 
 same-length-5 : tie.Need-same-length-5
 same-length-5 c = search needs
 
 returns-5 : tie.Need-returns-5
-returns-5 c = let s = c .before .before .before .before .before .before .before in didAct _ (s .args .act) _ (c .enum-told .given .1) (didNothing _ (s .pre .0))
+returns-5 c =
+    let s = c .before .before .before .before .before .before .before in
+    didAct _ (s .args .act) _ (c .enum-told .given .1) (didNothing _ (s .pre .0))
 
 pub act-in-spec : {M : Type 1} → statement M
 act-in-spec =

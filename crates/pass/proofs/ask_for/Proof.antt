@@ -20,7 +20,8 @@ write-entries-requires : tie.Need-write-entries-requires
 write-entries-requires c κs =
     let s = c .before .before .before .before .before .before .before in
     let did = c .before .before .before .ask-in in
-    roomWritten (taken (contentsIn (now (s .args .rec))) (some (ask (s .args .w)))) (did .result) (did .ensures .wrote) (s .args .at) (now (s .args .out)) (s .pre .3)
+    let out = taken (contentsIn (now (s .args .rec))) (some (ask (s .args .w))) in
+    roomWritten out (did .result) (did .ensures .wrote) (s .args .at) (now (s .args .out)) (s .pre .3)
 
 same-length : tie.Need-same-length
 same-length c = search needs
@@ -34,7 +35,8 @@ returns c =
     let did = c .before .before .before .before .before .before .ask-in in
     let low : s .args .w < 2 ^ 32 = search needs in
     let ready = readyAsk (now (s .args .rec)) (s .pre .0) (s .args .w) (s .pre .2) low (did .ensures) in
-    ranWritten _ (did .result) (did .ensures .wrote) (s .args .at) (now (s .args .out)) (did .ensures .left) ready (c .before .before .write-entries .ensures)
+    ranWritten _ (did .result) (did .ensures .wrote) (s .args .at) (now (s .args .out)) (did .ensures .left) ready
+    (c .before .before .write-entries .ensures)
 
 pub ask-for-spec : {M : Type 1} → statement M
 ask-for-spec =

@@ -22,8 +22,9 @@ view-of-requires c κs = c .before .before .loop .inv .ready .size
 
 act-at-requires : tie.Need-act-at-requires Inv-loop μ-loop
 act-at-requires c κs =
-    let g = c .before .before .before .before .loop .inv in
-    (g .ready, c .before .before .before .before .before .before .before .pre .1 ∙ sym (g .same), c .before .view-of .ensures, c .before .before .before .loop-test .taken)
+    let l = c .before .before .before .before in
+    let g = l .loop .inv in
+    (g .ready, l .before .before .before .pre .1 ∙ sym (g .same), c .before .view-of .ensures, c .before .before .before .loop-test .taken)
 
 take-step-requires : tie.Need-take-step-requires Inv-loop μ-loop
 take-step-requires c κs =
@@ -38,7 +39,10 @@ loop-less : tie.Need-loop-less Inv-loop μ-loop
 loop-less c = omega arith
 
 loop-again : tie.Need-loop-again Inv-loop μ-loop
-loop-again c = goingStep (c .before .before .before .before .before .before .before .before .before .before .before .before .loop .inv) (c .before .before .before .before .before .before .before .before .before .before .before .loop-test .taken) (c .before .before .before .before .take-step .ensures)
+loop-again c =
+    let q = c .before .before .before .before in
+    let l = q .before .before .before .before .before .before .before in
+    goingStep (l .before .loop .inv) (l .loop-test .taken) (q .take-step .ensures)
 
 same-length : tie.Need-same-length Inv-loop μ-loop
 same-length c = goingSize (c .before .loop .inv) (c .before .before .before .before .pre .0 .size)

@@ -26,10 +26,11 @@ store-requires c κs = search needs
 
 write-entries-requires : tie.Need-write-entries-requires
 write-entries-requires c κs =
-    let s = c .before .before .before .before .before .before .before .before .before .before .before in
-    let step = c .before .before .before .before .before .before .step-at in
-    let took = tookFrom (stepAt (s .args .k)) (step .result) (c .before .before .before .before .before .before .before .load .ensures) (step .ensures) in
-    roomWritten (stepAt (s .args .k) (contentsIn (now (s .args .rec)))) (step .result .entries) (took .wrote) (s .args .at) (now (s .args .out)) (s .pre .3)
+    let q = c .before .before .before .before .before .before in
+    let s = q .before .before .before .before .before in
+    let t = q .step-at .result in
+    let took = tookFrom (stepAt (s .args .k)) t (q .before .load .ensures) (q .step-at .ensures) in
+    roomWritten (stepAt (s .args .k) (contentsIn (now (s .args .rec)))) (t .entries) (took .wrote) (s .args .at) (now (s .args .out)) (s .pre .3)
 
 same-length : tie.Need-same-length
 same-length c = search needs
@@ -39,10 +40,11 @@ same-length-2 c = search needs
 
 returns : tie.Need-returns
 returns c =
-    let s = c .before .before .before .before .before .before .before .before .before .before .before .before .before .before in
-    let step = c .before .before .before .before .before .before .before .before .before .step-at in
-    let took = tookFrom (stepAt (s .args .k)) (step .result) (c .before .before .before .before .before .before .before .before .before .before .load .ensures) (step .ensures) in
-    ranStored _ (step .result) took (s .args .at) (now (s .args .out)) (c .before .before .before .before .before .before .store .ensures) (c .before .before .write-entries .ensures)
+    let q = c .before .before .before .before .before .before .before .before .before in
+    let s = q .before .before .before .before .before in
+    let t = q .step-at .result in
+    let took = tookFrom (stepAt (s .args .k)) t (q .before .load .ensures) (q .step-at .ensures) in
+    ranStored _ t took (s .args .at) (now (s .args .out)) (c .before .before .before .before .before .before .store .ensures) (c .before .before .write-entries .ensures)
 
 pub run-step-spec : {M : Type 1} → statement M
 run-step-spec =

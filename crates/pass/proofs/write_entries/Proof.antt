@@ -45,9 +45,12 @@ put-entry-requires-5 c κs = let s = c .before .before .before .before .before .
     omega (arith, size, s .pre, c .before .before .before .put-entry4 .ensures .0)
 
 put-entry-requires-6 : tie.Need-put-entry-requires-6
-put-entry-requires-6 c κs = let s = c .before .before .before .before .before .before .before .before .before .before .before .before .before in
-    let size = sizeThree (s .args .e) _ _ _ (c .before .before .before .before .before .before .before .before .before .before .e3 .given .1) in
-    omega (arith, size, s .pre, c .before .before .before .before .before .before .before .put-entry4 .ensures .0, c .before .before .before .put-entry5 .ensures .0)
+put-entry-requires-6 c κs =
+    let one = c .before .before .before .before .before .before .before in
+    let m = one .before .before .before in
+    let s = m .before .before .before in
+    let size = sizeThree (s .args .e) _ _ _ (m .e3 .given .1) in
+    omega (arith, size, s .pre, one .put-entry4 .ensures .0, c .before .before .before .put-entry5 .ensures .0)
 
 returns : tie.Need-returns
 returns c = let s = c .before .before .before in wroteZero (s .args .e) (s .args .at) (now (s .args .out)) (s .pre) (c .enum-told .given .1)
@@ -56,21 +59,33 @@ same-length : tie.Need-same-length
 same-length c = search needs
 
 returns-2 : tie.Need-returns-2
-returns-2 c = let s = c .before .before .before .before .before .before .before .before in wroteOne (s .args .e) (s .args .at) (now (s .args .out)) (s .pre) _ (c .before .before .put-entry .ensures) (c .before .before .before .before .before .e .given .1)
+returns-2 c =
+    let m = c .before .before .before .before .before in
+    let s = m .before .before .before in
+    wroteOne (s .args .e) (s .args .at) (now (s .args .out)) (s .pre) _ (c .before .before .put-entry .ensures) (m .e .given .1)
 
 same-length-2 : tie.Need-same-length-2
 same-length-2 c = search needs
 
 returns-3 : tie.Need-returns-3
-returns-3 c = let s = c .before .before .before .before .before .before .before .before .before .before .before .before in
-    wroteTwo (s .args .e) (s .args .at) (now (s .args .out)) (s .pre) _ (c .before .before .before .before .before .before .put-entry2 .ensures) _ (c .before .before .put-entry3 .ensures) (c .before .before .before .before .before .before .before .before .before .e2 .given .1)
+returns-3 c =
+    let one = c .before .before .before .before .before .before in
+    let m = one .before .before .before in
+    let s = m .before .before .before in
+    wroteTwo (s .args .e) (s .args .at) (now (s .args .out)) (s .pre) _ (one .put-entry2 .ensures) _ (c .before .before .put-entry3 .ensures)
+    (m .e2 .given .1)
 
 same-length-3 : tie.Need-same-length-3
 same-length-3 c = search needs
 
 returns-4 : tie.Need-returns-4
-returns-4 c = let s = c .before .before .before .before .before .before .before .before .before .before .before .before .before .before .before .before in
-    wroteThree (s .args .e) (s .args .at) (now (s .args .out)) (s .pre) _ (c .before .before .before .before .before .before .before .before .before .before .put-entry4 .ensures) _ (c .before .before .before .before .before .before .put-entry5 .ensures) _ (c .before .before .put-entry6 .ensures) (c .before .before .before .before .before .before .before .before .before .before .before .before .before .e3 .given .1)
+returns-4 c =
+    let two = c .before .before .before .before .before .before in
+    let one = two .before .before .before .before in
+    let m = one .before .before .before in
+    let s = m .before .before .before in
+    wroteThree (s .args .e) (s .args .at) (now (s .args .out)) (s .pre) _ (one .put-entry4 .ensures) _ (two .put-entry5 .ensures) _
+    (c .before .before .put-entry6 .ensures) (m .e3 .given .1)
 
 pub write-entries-spec : {M : Type 1} → statement M
 write-entries-spec =
