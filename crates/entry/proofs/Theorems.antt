@@ -59,11 +59,11 @@ host code view width value rest c v x =
 
 timer-here : (s : List ℕ) (view millis : ℕ) → Host s 11 view 4 millis → (entryAt s ≡ Timer view millis) × (sizeAt s ≡ 10)
 unfolding entryAt sizeAt
-timer-here s view millis h = (simp (h .to-host, h .told, h .view-here, h .value-here), simp (h .to-host, h .told))
+timer-here s view millis h = (simp (h .to-host, h .told, h .view-here, h .value-here) refl, simp (h .to-host, h .told) refl)
 
 decision-here : (s : List ℕ) (view plan : ℕ) → Host s 10 view 8 plan → (entryAt s ≡ Decision view plan) × (sizeAt s ≡ 14)
 unfolding entryAt sizeAt
-decision-here s view plan h = (simp (h .to-host, h .told, h .view-here, h .value-here), simp (h .to-host, h .told))
+decision-here s view plan h = (simp (h .to-host, h .told, h .view-here, h .value-here) refl, simp (h .to-host, h .told) refl)
 
 -- The bytes of an entry say that entry and its length.
 pub entry-says : (e : Entry) → ValidEntry e → (rest : List ℕ) → Says e rest

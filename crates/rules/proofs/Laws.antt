@@ -5,7 +5,7 @@
 -- report names is safe only if every plan is, so where the starting plan is not, the smallest safe plan is named by a report.
 -- Assumes nothing.
 use Prim.Native.Nat.{ℕ, zero, suc, _+_, _-_, _≤_, _<_, min}
-use mathlib.Core.Path.{_≡_, refl, _∙_, ap, subst}
+use mathlib.Core.Path.{_≡_, refl, sym, _∙_, ap, subst}
 use mathlib.Core.Logic.{_≢_, _⊎_, inl, inr, ⊎-elim, _↔_}
 use mathlib.Core.Bool.{Bool, true, false, cond, not, _&&_, false≢true}
 use mathlib.Core.Option.{Option, none, some}
@@ -246,7 +246,9 @@ module _ (test : ℕ → Bool) (plan : ℕ → ℕ) where
 
   pub smallestLeast : (k : ℕ) → Least test plan k (smallest test plan k)
   unfolding smallest
-  smallestLeast zero = λ i low. absurd (omega arith)
+  smallestLeast zero =
+      let waits : smallest test plan 0 ≡ none = refl {a = none} in
+      subst (Least test plan 0) (sym waits) (λ i low. absurd (omega arith))
   smallestLeast (suc k) = leastMore k (test (plan k)) (smallest test plan k) refl (smallestLeast k)
 
 module _ (vs : Vaults) (rs : Reports) (v start : ℕ) where
