@@ -5,7 +5,7 @@ use std::hint::black_box;
 
 use comparison::case::{Before, Case, Expected, Harm, SPACE};
 use comparison::records::spell;
-use comparison::rows::{random, rows, Reports, Rows};
+use comparison::rows::{random, table_of, Reports, Table};
 use comparison::scenes::heard;
 use comparison::{choose_plan, safe_plan};
 use inplace::Search;
@@ -36,7 +36,7 @@ struct Input {
     n: usize,
     f: usize,
     reports: Reports,
-    flat: Rows,
+    flat: Table,
     /// The in-place vault's record, with the reports of the current view.
     rec: Vec<u8>,
     rule: Rule,
@@ -45,7 +45,7 @@ struct Input {
 
 impl Input {
     fn new(name: String, n: usize, f: usize, reports: Reports, rule: Rule, plan: u64) -> Input {
-        let flat = rows(&mut Rng(9), VIEW, &reports);
+        let flat = table_of(&mut Rng(9), VIEW, &reports);
         let rec = spell(&kept(n, f, &reports, rule, plan));
         Input { name, n, f, reports, flat, rec, rule, plan }
     }
@@ -66,7 +66,7 @@ impl Input {
         }
     }
 
-    /// The in-place search. Who reports is found beforehand, as the library's rows are.
+    /// The in-place search. Who reports is found beforehand, as the library's table is.
     fn in_place(&self) -> impl Fn() -> Option<u64> + '_ {
         let search = match self.rule {
             Rule::One => Search::of_suggests(&self.rec),

@@ -11,46 +11,13 @@ pub mod sides;
 pub mod vaults;
 
 use records::Class;
-use rows::Rows;
+use rows::Table;
 
 mod sys {
     extern "C" {
         pub fn frame_echo(bytes: *const u8, len: usize, link: u8, n: u8, own: u8, out: *mut u8, out_len: usize) -> u32;
-        pub fn safe_plan(
-            kept: *const u8,
-            kept_len: usize,
-            at: *const u32,
-            at_len: usize,
-            marks: *const u8,
-            marks_len: usize,
-            views: *const u32,
-            views_len: usize,
-            plans: *const u64,
-            plans_len: usize,
-            n: u8,
-            f: u8,
-            v: u32,
-            p: u64,
-            three: u8,
-        ) -> u32;
-        pub fn choose_plan(
-            kept: *const u8,
-            kept_len: usize,
-            at: *const u32,
-            at_len: usize,
-            marks: *const u8,
-            marks_len: usize,
-            views: *const u32,
-            views_len: usize,
-            plans: *const u64,
-            plans_len: usize,
-            n: u8,
-            f: u8,
-            v: u32,
-            start: u64,
-            out: *mut u64,
-            out_len: usize,
-        ) -> u32;
+        pub fn safe_plan(table: *const u64, table_len: usize, n: u8, f: u8, v: u32, p: u64, three: u8) -> u32;
+        pub fn choose_plan(table: *const u64, table_len: usize, n: u8, f: u8, v: u32, start: u64, out: *mut u64, out_len: usize) -> u32;
         pub fn record_class(bytes: *const u8, len: usize) -> u32;
     }
 }
@@ -62,33 +29,13 @@ pub fn frame_echo(bytes: &[u8], link: u8, n: u8, own: u8, out: &mut [u8]) -> u32
 }
 
 /// 0 not safe, 1 safe, 2 where a length or a size is out of range.
-#[allow(clippy::too_many_arguments)]
-pub fn safe_plan_raw(kept: &[u8], at: &[u32], marks: &[u8], views: &[u32], plans: &[u64], n: u8, f: u8, v: u32, p: u64, three: u8) -> u32 {
-    unsafe {
-        sys::safe_plan(
-            kept.as_ptr(),
-            kept.len(),
-            at.as_ptr(),
-            at.len(),
-            marks.as_ptr(),
-            marks.len(),
-            views.as_ptr(),
-            views.len(),
-            plans.as_ptr(),
-            plans.len(),
-            n,
-            f,
-            v,
-            p,
-            three,
-        )
-    }
+pub fn safe_plan_raw(table: &[u64], n: u8, f: u8, v: u32, p: u64, three: u8) -> u32 {
+    unsafe { sys::safe_plan(table.as_ptr(), table.len(), n, f, v, p, three) }
 }
 
 /// Whether a plan is safe in view v, by Rule 3 or by Rule 1.
-pub fn safe_plan(rows: &Rows, n: usize, f: usize, v: u32, plan: u64, three: bool) -> bool {
-    let Rows { kept, at, marks, views, plans } = rows;
-    match safe_plan_raw(kept, at, marks, views, plans, n as u8, f as u8, v, plan, u8::from(three)) {
+pub fn safe_plan(table: &Table, n: usize, f: usize, v: u32, plan: u64, three: bool) -> bool {
+    match safe_plan_raw(table, n as u8, f as u8, v, plan, u8::from(three)) {
         0 => false,
         1 => true,
         answer => panic!("refused: {answer}"),
@@ -96,29 +43,9 @@ pub fn safe_plan(rows: &Rows, n: usize, f: usize, v: u32, plan: u64, three: bool
 }
 
 /// What a leader proposes in view v, if anything.
-pub fn choose_plan(rows: &Rows, n: usize, f: usize, v: u32, start: u64) -> Option<u64> {
-    let Rows { kept, at, marks, views, plans } = rows;
+pub fn choose_plan(table: &Table, n: usize, f: usize, v: u32, start: u64) -> Option<u64> {
     let mut out = [77, 88];
-    let answer = unsafe {
-        sys::choose_plan(
-            kept.as_ptr(),
-            kept.len(),
-            at.as_ptr(),
-            at.len(),
-            marks.as_ptr(),
-            marks.len(),
-            views.as_ptr(),
-            views.len(),
-            plans.as_ptr(),
-            plans.len(),
-            n as u8,
-            f as u8,
-            v,
-            start,
-            out.as_mut_ptr(),
-            out.len(),
-        )
-    };
+    let answer = unsafe { sys::choose_plan(table.as_ptr(), table.len(), n as u8, f as u8, v, start, out.as_mut_ptr(), out.len()) };
     assert_eq!(out[1], 88);
     match answer {
         0 => {

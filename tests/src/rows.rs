@@ -1,40 +1,34 @@
-//! Report sets in the flat rows that the Rattle search is lent, and random ones.
+//! Report sets in the flat table that the Rattle search is lent, and random ones.
 use crate::frames;
 use reference::frame::Report;
 use reference::rng::Rng;
 
 pub type Reports = Vec<Option<[Option<Report>; 3]>>;
 
-/// Row r holds the kept frame's mark and view; its reports stand at j * 64 + r, j = 0 highest, 1 previous, 2 lock.
-pub struct Rows {
-    pub kept: [u8; 64],
-    pub at: [u32; 64],
-    pub marks: [u8; 192],
-    pub views: [u32; 192],
-    pub plans: [u64; 192],
-}
+/// Columns of 64 numbers, one for each vault: 1 where it has reported; then of its highest vote, previous vote and lock the view + 1,
+/// 0 where it has none, and the plan.
+pub const COLUMN: usize = 64;
+pub type Table = [u64; 7 * COLUMN];
 
-/// The rows of reports kept for view v. Where there is no reporter a frame of another view may be kept.
-pub fn rows(rng: &mut Rng, v: u32, reports: &Reports) -> Rows {
-    let mut rows = Rows { kept: [0; 64], at: [0; 64], marks: [0; 192], views: [0; 192], plans: [0; 192] };
-    for r in 0..64 {
-        let told = reports.get(r).copied().flatten();
-        let view = if told.is_some() { v } else { v.wrapping_add(1 + rng.below(3) as u32) };
+/// The table of reports kept for view v. Where there is no reporter, reports of another view may stand there.
+pub fn table_of(rng: &mut Rng, v: u32, reports: &Reports) -> Table {
+    let mut table = [0; 7 * COLUMN];
+    for vault in 0..COLUMN {
+        let told = reports.get(vault).copied().flatten();
         if told.is_none() && rng.below(2) == 0 {
             continue;
         }
-        rows.kept[r] = 1;
-        rows.at[r] = view;
-        let three = told.unwrap_or_else(|| frames::reports(rng, view));
+        table[vault] = u64::from(told.is_some());
+        let another = v.wrapping_add(1 + rng.below(3) as u32);
+        let three = told.unwrap_or_else(|| frames::reports(rng, another));
         for (j, report) in three.iter().enumerate() {
             if let Some(report) = report {
-                rows.marks[j * 64 + r] = 1;
-                rows.views[j * 64 + r] = report.view;
-                rows.plans[j * 64 + r] = report.plan;
+                table[(1 + 2 * j) * COLUMN + vault] = u64::from(report.view) + 1;
+                table[(2 + 2 * j) * COLUMN + vault] = report.plan;
             }
         }
     }
-    rows
+    table
 }
 
 /// Reports that pass 14 in view v, with views below v and plans below `plans`, so that all clauses occur.

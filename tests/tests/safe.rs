@@ -1,5 +1,5 @@
 //! The Rattle search for safe plans against the reference: by trying every set for n up to 7, by counting up to 64.
-use comparison::rows::{random, rows, Rows};
+use comparison::rows::{random, table_of};
 use comparison::{choose_plan, safe_plan};
 use reference::frame::Report;
 use reference::literal;
@@ -35,7 +35,7 @@ fn search_equals_trying_every_set() {
         let v = if rng.below(50) == 0 { 0 } else { 1 + rng.below(6) as u32 };
         let plans = 2 + rng.below(3);
         let reports = if v == 0 { vec![None; n] } else { random(&mut rng, n, v, plans) };
-        let flat = rows(&mut rng, v, &reports);
+        let flat = table_of(&mut rng, v, &reports);
         let plan = rng.below(plans + 1);
         let three = rng.below(2) == 0;
         let expected = literal::safe(rule_of(three), n, f, v, &reports, plan);
@@ -68,7 +68,7 @@ fn search_equals_counting_up_to_64_vaults() {
         };
         let plans = 2 + rng.below(5);
         let reports = random(&mut rng, n, v, plans);
-        let flat = rows(&mut rng, v, &reports);
+        let flat = table_of(&mut rng, v, &reports);
         let plan = rng.below(plans + 1);
         for three in [false, true] {
             let clause = rules::safe(rule_of(three), n, f, v, &reports, plan);
@@ -80,7 +80,7 @@ fn search_equals_counting_up_to_64_vaults() {
     println!("by clause {decided:?}");
 }
 
-/// Document 01, M4 to M10, in the same rows.
+/// Document 01, M4 to M10, in the same table.
 #[test]
 fn marked_edges() {
     const A: u64 = 10;
@@ -96,7 +96,7 @@ fn marked_edges() {
         Some([vote(2, B), None, vote(1, C)]),
         Some([vote(2, B), None, None]),
     ];
-    let safe = |reports: &Vec<_>, v, plan| safe_plan(&rows(&mut Rng(1), v, reports), 4, 1, v, plan, true);
+    let safe = |reports: &Vec<_>, v, plan| safe_plan(&table_of(&mut Rng(1), v, reports), 4, 1, v, plan, true);
     assert!(safe(&vec![bare, bare, bare, None], 1, D));
     assert!(safe(&vec![locked, bare, bare, None], 1, A));
     assert!(!safe(&vec![locked, bare, bare, None], 1, B));
@@ -120,7 +120,7 @@ fn two_set_clause_alone_serves() {
         Some([vote(5, A), vote(1, B), None]),
         Some([vote(5, A), None, None]),
     ];
-    let flat = rows(&mut Rng(1), 6, &reports);
+    let flat = table_of(&mut Rng(1), 6, &reports);
     assert!(safe_plan(&flat, 4, 1, 6, C, true));
     assert!(!safe_plan(&flat, 4, 1, 6, C, false));
 }
@@ -128,12 +128,11 @@ fn two_set_clause_alone_serves() {
 /// Where lengths or sizes are out of range the answer is 2, and nothing is read or written.
 #[test]
 fn bad_sizes_are_refused() {
-    let Rows { kept, at, marks, views, plans } = rows(&mut Rng(1), 1, &vec![None; 4]);
-    let ask = |kept: &[u8], n, f| comparison::safe_plan_raw(kept, &at, &marks, &views, &plans, n, f, 1, 0, 1);
-    assert_eq!(ask(&kept[..63], 4, 1), 2);
-    assert_eq!(ask(&kept, 65, 1), 2);
-    assert_eq!(ask(&kept, 4, 4), 2);
-    assert_eq!(ask(&kept, 4, 1), 0);
-    let short = &views[..191];
-    assert_eq!(comparison::safe_plan_raw(&kept, &at, &marks, short, &plans, 4, 1, 1, 0, 1), 2);
+    let table = table_of(&mut Rng(1), 1, &vec![None; 4]);
+    let ask = |table: &[u64], n, f| comparison::safe_plan_raw(table, n, f, 1, 0, 1);
+    assert_eq!(ask(&table[1..], 4, 1), 2);
+    assert_eq!(ask(&[], 4, 1), 2);
+    assert_eq!(ask(&table, 65, 1), 2);
+    assert_eq!(ask(&table, 4, 4), 2);
+    assert_eq!(ask(&table, 4, 1), 0);
 }

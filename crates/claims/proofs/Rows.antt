@@ -109,7 +109,8 @@ pub countStep : (plans : List ℕ) (at k p every count share : ℕ) → count �
     → share ≡ cond (eqb (getD plans (at + k) 0) p) 1 0 → count + share ≡ every + countOf plans at (k + 1) p
 countStep plans at k p every count share e is = omega (arith, countMore plans at k p)
 
-pub countSame : (before after : List ℕ) (at k p : ℕ) → ((r : ℕ) → r < k → getD after (at + r) 0 ≡ getD before (at + r) 0) → countOf after at k p ≡ countOf before at k p
+pub countSame : (before after : List ℕ) (at k p : ℕ) → ((r : ℕ) → r < k → getD after (at + r) 0 ≡ getD before (at + r) 0)
+    → countOf after at k p ≡ countOf before at k p
 unfolding countOf
 countSame before after at k p same = weighSame _ _ _ k (λ r low. ap (λ (x : ℕ). eqb x p) (same r low))
 
@@ -188,7 +189,8 @@ pub writtenAbove : (first plans : List ℕ) (at k x : ℕ) → at ≤ k → Same
 writtenAbove first plans at k x high same i low = getD-set-other plans k i x 0 (λ (e : i ≡ k). omega arith) ∙ same i low
 
 -- A row stays where what lies behind it is written.
-pub rowKept : (rs : Reports) (n : ℕ) (test : ℕ → Report → Bool) (before after : List ℕ) (at end : ℕ) (t : Tally) → SameBelow before after end → at + t .some ≤ end
+pub rowKept : (rs : Reports) (n : ℕ) (test : ℕ → Report → Bool) (before after : List ℕ) (at end : ℕ) (t : Tally) → SameBelow before after end
+    → at + t .some ≤ end
     → Tells rs n test before at t → Tells rs n test after at t
 rowKept rs n test before after at end t same low row = record {
   most = row .most;

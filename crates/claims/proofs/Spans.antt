@@ -80,8 +80,12 @@ module _ (spans : List ℕ) (n f : ℕ) where
   -- All spans are at most v: none covers v.
   pub nobodyAt : (v : ℕ) → Within spans n v → covers v ≤ f
   unfolding weigh
-  nobodyAt v within = omega (arith, weighMono (λ i. 1) (covering spans v) (λ i. false) n (λ i low h. absurd (omega (arith, ltb-true v (getD spans i 0) h, within i low))), nothing n)
+  nobodyAt v within =
+      omega (arith, weighMono (λ i. 1) (covering spans v) (λ i. false) n (λ i low h. absurd (above i low h)), nothing n)
     where
+      above : (i : ℕ) → i < n → covering spans v i ≡ true → ⊥
+      above i low h = omega (arith, ltb-true v (getD spans i 0) h, within i low)
+
       nothing : (k : ℕ) → weigh (λ i. 1) (λ i. false) k ≡ 0
       nothing zero = refl
       nothing (suc k) = omega (arith, nothing k)
@@ -116,7 +120,8 @@ module _ (spans : List ℕ) (n : ℕ) (span : ℕ → ℕ) (are : AreSpans spans
   spansWithin v most i low = rw (are i low) (most i)
 
   -- A test of views that asks for a blocking set passes in as many views as the spans say.
-  pub spansReach : (f v : ℕ) (test : ℕ → Bool) → ((u : ℕ) → u < v → test u ≡ isBlocking (equals n f) (λ i. ltb u (span i))) → coveredViews spans n f v ≡ views test v
+  pub spansReach : (f v : ℕ) (test : ℕ → Bool) → ((u : ℕ) → u < v → test u ≡ isBlocking (equals n f) (λ i. ltb u (span i)))
+      → coveredViews spans n f v ≡ views test v
   unfolding coveredViews covered isBlocking
   spansReach f v test asks = weighSame (λ u. 1) (covered spans n f) test v (λ u low. ap (leb (f + 1)) (same u) ∙ sym (asks u low))
     where

@@ -13,18 +13,18 @@ ghost use Rattle.claims.specs.Table.{column, tableSize, reporter, report
 // The places of a column, one for each vault, and of the table.
 pub const COLUMN: usize = 64;
 
-pub const TABLE: usize = 448;
+pub const TABLE: usize = 7 * COLUMN;
 
 // Where the columns begin of the highest vote's view + 1 and plan, of the previous vote's view + 1, and of the lock's view + 1 and plan.
-const HIGHEST: usize = 64;
+const HIGHEST: usize = COLUMN;
 
-const VOTED: usize = 128;
+const VOTED: usize = 2 * COLUMN;
 
-const PREVIOUS: usize = 192;
+const PREVIOUS: usize = 3 * COLUMN;
 
-pub const LOCK: usize = 320;
+pub const LOCK: usize = 5 * COLUMN;
 
-pub const LOCKED: usize = 384;
+pub const LOCKED: usize = 6 * COLUMN;
 
 // How many are for every plan, and how many others for one plan only, which stands in a row of plans.
 pub struct Tally {

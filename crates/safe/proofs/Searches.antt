@@ -132,7 +132,8 @@ module _ (plans : List ℕ) (c : Search) (w : ℕ) (spare : Option ℕ) where
     pub foundOther : (x : ℕ) → tried x ≡ true → (apart x spare && claimedIn plans c x w) ≡ true
     foundOther x h = sym (ap (λ (b : Bool). apart x spare && b) (served x)) ∙ h
 
-    pub noneFound : (k : ℕ) → tallyAt c w .some ≤ k → servedFrom plans c w first ≡ false → NonePass k → (x : ℕ) → (apart x spare && claimedIn plans c x w) ≡ false
+    pub noneFound : (k : ℕ) → tallyAt c w .some ≤ k → servedFrom plans c w first ≡ false → NonePass k
+        → (x : ℕ) → (apart x spare && claimedIn plans c x w) ≡ false
     unfolding claimedIn
     noneFound k all never before x = notTrue _ (λ h. over (bothSplit (apart x spare) _ h .0) (bothSplit (apart x spare) _ h .1))
       where
@@ -262,7 +263,8 @@ module _ (rs : Reports) (c : Search) (plans : List ℕ) (ready : Prepared rs c p
           let few : claimed vs rs p (c .u + 1) ≡ false
           = sym (ap (λ (t : Bool). t && claimed vs rs p (c .u + 1)) under) ∙ sym (nextServes vs rs (c .v) rule1 p (c .u) l off) ∙ unsafe in
           is ∙ sym (ap (λ (t : Bool). t || twoSets vs rs (c .v) (c .u + 1)) few)
-          ∙ sym (ap (λ (t : Bool). t && (claimed vs rs p (c .u + 1) || twoSets vs rs (c .v) (c .u + 1))) under) ∙ sym (nextServes vs rs (c .v) rule3 p (c .u) l off)
+          ∙ sym (ap (λ (t : Bool). t && (claimed vs rs p (c .u + 1) || twoSets vs rs (c .v) (c .u + 1))) under) ∙ sym
+          (nextServes vs rs (c .v) rule3 p (c .u) l off)
 
       -- There is no next view below v.
       pub threeLast : c .v ≤ c .u + 1 → false ≡ safe rule3 vs rs (c .v) p
@@ -428,7 +430,8 @@ module _ (best : Option ℕ) (test : ℕ → Bool) (plan : ℕ → ℕ) where
   unfolding smallestFrom
   fromWhere zero y is = inl is
   fromWhere (suc k) y is =
-      ⊎-elim (fromWhere k y) (λ (at, same). inr (subst (λ (x : ℕ). test x ≡ true) same at)) (smallerIs (test (plan k)) (plan k) y (smallestFrom best test plan k) is)
+      ⊎-elim (fromWhere k y) (λ (at, same). inr (subst (λ (x : ℕ). test x ≡ true) same at))
+      (smallerIs (test (plan k)) (plan k) y (smallestFrom best test plan k) is)
 
   -- One plan more is tried.
   pub smallestStep : (k x : ℕ) (found next : Option ℕ) → x ≡ plan k → next ≡ smaller (test x) x found → found ≡ smallestFrom best test plan k

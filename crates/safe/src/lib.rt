@@ -21,9 +21,9 @@ ghost use Rattle.safe.specs.Choices.{ruleOf, chosen, better, apart, Foun
 ghost use Rattle.safe.specs.Searches.{lockRow, allowedIn, servedFrom, safeIn, passesIn, triedAt, triedCount, smallestFrom, smallestOf, Pair, Falling, Laid, Prepared};
 
 // Where the row of locks begins, and the places of all rows.
-const LOCKS: usize = 128;
+const LOCKS: usize = 2 * claims::COLUMN;
 
-const ROOM: usize = 192;
+const ROOM: usize = 3 * claims::COLUMN;
 
 fn wide(x: u8) -> usize
     ensures { λ r. ⌜ r ≡ x ⌝ }

@@ -27,7 +27,8 @@ is-at-requires c κs = search needs
 returns : tie.Need-returns
 returns c =
     let a = c .before .before .before .before .before .before .args in
-    forAll refl refl (claimsEvery (a .table .now) (a .r) (a .w) (sym (c .before .before .before .before .reported .ensures) ∙ c .before .before .before .if1 .taken) (sym (c .before .is-at .ensures) ∙ c .if2 .taken))
+    let reports = sym (c .before .before .before .before .reported .ensures) ∙ c .before .before .before .if1 .taken in
+    forAll refl refl (claimsEvery (a .table .now) (a .r) (a .w) reports (sym (c .before .is-at .ensures) ∙ c .if2 .taken))
 
 add-is-at-2 : tie.Need-add-is-at-2
 add-is-at-2 c = search needs
@@ -44,14 +45,16 @@ is-at-requires-2 c κs = search needs
 returns-2 : tie.Need-returns-2
 returns-2 c =
     let a = c .before .before .before .before .before .before .before .before .before .args in
-    forOne refl refl (claimsOne (a .table .now) (a .r) (a .w) (sym (c .before .before .before .before .before .before .before .reported .ensures) ∙ c .before .before .before .before .before .before .if1 .taken)
-    (sym (c .before .before .before .before .is-at .ensures) ∙ c .before .before .before .if2 .left) (sym (c .before .is-at2 .ensures) ∙ c .if3 .taken))
+    let reports = sym (c .before .before .before .before .before .before .before .reported .ensures) ∙ c .before .before .before .before .before .before .if1 .taken in
+    let few = sym (c .before .before .before .before .is-at .ensures) ∙ c .before .before .before .if2 .left in
+    forOne refl refl (claimsOne (a .table .now) (a .r) (a .w) reports few (sym (c .before .is-at2 .ensures) ∙ c .if3 .taken))
 
 returns-3 : tie.Need-returns-3
 returns-3 c =
     let a = c .before .before .before .before .before .before .before .before .before .args in
-    forNone refl refl (claimsNone (a .table .now) (a .r) (a .w) (sym (c .before .before .before .before .before .before .before .reported .ensures) ∙ c .before .before .before .before .before .before .if1 .taken)
-    (sym (c .before .before .before .before .is-at .ensures) ∙ c .before .before .before .if2 .left) (sym (c .before .is-at2 .ensures) ∙ c .if3 .left))
+    let reports = sym (c .before .before .before .before .before .before .before .reported .ensures) ∙ c .before .before .before .before .before .before .if1 .taken in
+    let few = sym (c .before .before .before .before .is-at .ensures) ∙ c .before .before .before .if2 .left in
+    forNone refl refl (claimsNone (a .table .now) (a .r) (a .w) reports few (sym (c .before .is-at2 .ensures) ∙ c .if3 .left))
 
 returns-4 : tie.Need-returns-4
 returns-4 c =

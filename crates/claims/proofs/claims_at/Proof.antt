@@ -16,7 +16,8 @@ use Rattle.claims.proofs.claims_at.Tie as tie
 
 abbrev Inv-loop : tie.InvT-loop
 Inv-loop table n w plans₀ at view every₀ some₀ r₀ plans every some r =
-    (r ≤ n) × (length plans ≡ rowsSize) × SameBelow plans₀ plans at × Tells (reportsIn table) r (λ p. claims p view) plans at (record { every = every; some = some })
+    (r ≤ n) × (length plans ≡ rowsSize) × SameBelow plans₀ plans at × Tells (reportsIn table) r (λ p. claims p view) plans at
+    (record { every = every; some = some })
 
 abbrev μ-loop : tie.MeasureT-loop
 μ-loop table n w plans₀ at view every₀ some₀ r₀ plans every some r = n - r
@@ -25,7 +26,9 @@ long-requires : tie.Need-long-requires Inv-loop μ-loop
 long-requires c κs = search needs
 
 loop-holds : tie.Need-loop-holds Inv-loop μ-loop
-loop-holds c = let a = c .before .before .before .args in (omega arith, c .before .before .before .pre .2, λ i low. refl, rowNone (reportsIn (a .table .now)) (λ p. claims p (c .long .result)) (a .plans .now) (a .at))
+loop-holds c =
+    let a = c .before .before .before .args in
+    (omega arith, c .before .before .before .pre .2, λ i low. refl, rowNone (reportsIn (a .table .now)) (λ p. claims p (c .long .result)) (a .plans .now) (a .at))
 
 claim-share-requires : tie.Need-claim-share-requires Inv-loop μ-loop
 claim-share-requires c κs = search needs
@@ -53,14 +56,20 @@ add-every c =
     let a = c .before .before .before .before .before .before .before .before .args in
     let at = c .before .before .before .before .loop in
     let add = c .before .before .claim-share in
-    omega (arith, at .inv .3 .most, shareFits (λ p. reporting (reportsIn (a .table .now)) (claims p (c .before .before .before .before .before .long .result)) (at .r)) (getD (a .table .now) (column * 2 + at .r) 0) (add .result .every) (add .result .some) (add .ensures))
+    let x = getD (a .table .now) (column * 2 + at .r) 0 in
+    let most = shareFits (λ p. reporting (reportsIn (a .table .now)) (claims p (c .before .before .before .before .before .long .result)) (at .r)) x (add .result .every)
+    (add .result .some) (add .ensures) in
+    omega (arith, at .inv .3 .most, most)
 
 add-some : tie.Need-add-some Inv-loop μ-loop
 add-some c =
     let a = c .before .before .before .before .before .before .before .before .before .args in
     let at = c .before .before .before .before .before .loop in
     let add = c .before .before .before .claim-share in
-    omega (arith, at .inv .3 .most, shareFits (λ p. reporting (reportsIn (a .table .now)) (claims p (c .before .before .before .before .before .before .long .result)) (at .r)) (getD (a .table .now) (column * 2 + at .r) 0) (add .result .every) (add .result .some) (add .ensures))
+    let x = getD (a .table .now) (column * 2 + at .r) 0 in
+    let most = shareFits (λ p. reporting (reportsIn (a .table .now)) (claims p (c .before .before .before .before .before .before .long .result)) (at .r)) x (add .result .every)
+    (add .result .some) (add .ensures) in
+    omega (arith, at .inv .3 .most, most)
 
 add-r : tie.Need-add-r Inv-loop μ-loop
 add-r c = search needs
@@ -73,12 +82,14 @@ loop-again c =
     let a = c .before .before .before .before .before .before .before .before .before .args in
     let at = c .before .before .before .before .before .loop in
     let add = c .before .before .before .claim-share in
+    let view = c .before .before .before .before .before .before .long .result in
     let x = getD (a .table .now) (column * 2 + at .r) 0 in
     let low : a .at + at .some < length (at .plans) = omega (arith, at .inv .3 .most) in (
       omega arith,
       simp length-set (at .inv .1),
       writtenAbove (a .plans .now) (at .plans) (a .at) (a .at + at .some) x (omega arith) (at .inv .2),
-      rowMore (at .plans) (a .at) (at .some) x low (reportsIn (a .table .now)) (λ p. claims p (c .before .before .before .before .before .before .long .result)) (at .r) (at .every) (add .result .every) (add .result .some) (add .ensures) (at .inv .3),
+      rowMore (at .plans) (a .at) (at .some) x low (reportsIn (a .table .now)) (λ p. claims p view) (at .r) (at .every)
+          (add .result .every) (add .result .some) (add .ensures) (at .inv .3),
     )
 
 same-length : tie.Need-same-length Inv-loop μ-loop
@@ -93,7 +104,8 @@ returns c =
       at .inv .1,
       at .inv .2,
       subst (λ (k : ℕ). Tells (reportsIn (a .table .now)) k (λ p. claims p (a .w)) (at .plans) (a .at) t) all
-          (subst (λ (v : ℕ). Tells (reportsIn (a .table .now)) (at .r) (λ p. claims p v) (at .plans) (a .at) t) (c .before .before .long .ensures) (at .inv .3)),
+          (subst (λ (v : ℕ). Tells (reportsIn (a .table .now)) (at .r) (λ p. claims p v) (at .plans) (a .at) t) (c .before .before .long .ensures)
+          (at .inv .3)),
     )
 
 pub claims-at-spec : {M : Type 1} → statement M

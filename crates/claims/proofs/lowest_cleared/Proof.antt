@@ -115,7 +115,8 @@ returns-2 c =
     let t = c .before .before .before .before .before .before .highest-to in
     let at = c .before .before .before .before .reporters in
     let count = c .before .before .wide in
-    searchFound (a .spans .now) (a .n) (a .f) (a .v) (last .last) (t .result) (last .inv .0) (last .inv .1) (t .ensures) (c .before .before .before .before .before .if1 .left)
+    searchFound (a .spans .now) (a .n) (a .f) (a .v) (last .last) (t .result) (last .inv .0) (last .inv .1) (t .ensures)
+    (c .before .before .before .before .before .if1 .left)
     (omega (
       arith,
       leb-true (a .f + 1) (count .result) (sym (c .before .is-blocking .ensures) ∙ c .if3 .taken),

@@ -10,12 +10,14 @@ use lib.Dec.{eqb}
 use lib.ListN.{getD}
 use Rattle.claims.proofs.Rows.{countNone, countStep, rowFits, Below, walkOver, walkFound, walkOn}
 use Rattle.claims.specs.Rows.{countOf, claimedIn, endOf, servingView}
+use Rattle.claims.specs.Table.{column}
 use Rattle.quorum.proofs.Laws.{shareMost}
 use Rattle.claims.proofs.serving_view.Statement.{statement}
 use Rattle.claims.proofs.serving_view.Tie as tie
 
 abbrev Inv-reporters : tie.InvT-reporters
-Inv-reporters plans c low p end w row some claimers₀ r₀ claimers r = (r ≤ some) × (claimers ≤ claimers₀ + r) × (claimers ≡ claimers₀ + countOf plans row r p)
+Inv-reporters plans c low p end w row some claimers₀ r₀ claimers r =
+    (r ≤ some) × (claimers ≤ claimers₀ + r) × (claimers ≡ claimers₀ + countOf plans row r p) × (row ≤ column) × (claimers₀ ≤ column) × (some ≤ column)
 
 abbrev μ-reporters : tie.MeasureT-reporters
 μ-reporters plans c low p end w row some claimers₀ r₀ claimers r = some - r
@@ -46,35 +48,24 @@ tally-at-requires c κs = search needs
 reporters-holds : tie.Need-reporters-holds Inv-reporters μ-reporters Inv-views μ-views
 reporters-holds c =
     let a = c .before .before .before .before .before .before .args in
-    (omega arith, omega arith, omega (arith, countNone (a .plans .now) (c .before .place-at .result) (a .p)))
+    let pre = c .before .before .before .before .before .before .pre in
+    let row = c .before .place-at in
+    let t = c .tally-at in
+    let (low, fits) = rowFits (a .c) (c .before .before .before .views .end - 1) (row .result) (t .result) (row .ensures) (t .ensures) (pre .2) (pre .3) in
+    (omega arith, omega arith, omega (arith, countNone (a .plans .now) (row .result) (a .p)), low, fits .0, fits .1)
 
 is-blocking-requires : tie.Need-is-blocking-requires Inv-reporters μ-reporters Inv-views μ-views
 is-blocking-requires c κs = search needs
 
 add-same : tie.Need-add-same Inv-reporters μ-reporters Inv-views μ-views
-add-same c =
-    let row = c .before .before .before .place-at in
-    let t = c .before .before .tally-at in
-    let pre = c .before .before .before .before .before .before .before .before .pre in
-    let (low, fits) = rowFits (c .before .before .before .before .before .before .before .before .args .c) (c .before .before .before .before .before .views .end - 1) (row .result) (t .result) (row .ensures) (t .ensures) (pre .2) (pre .3) in
-    omega arith
+add-same c = omega arith
 
 mul-same : tie.Need-mul-same Inv-reporters μ-reporters Inv-views μ-views
-mul-same c =
-    let row = c .before .before .before .place-at in
-    let t = c .before .before .tally-at in
-    let pre = c .before .before .before .before .before .before .before .before .pre in
-    let (low, fits) = rowFits (c .before .before .before .before .before .before .before .before .args .c) (c .before .before .before .before .before .views .end - 1) (row .result) (t .result) (row .ensures) (t .ensures) (pre .2) (pre .3) in
-    omega arith
+mul-same c = omega arith
 
 shared-slice-read-same :
     tie.Need-shared-slice-read-same Inv-reporters μ-reporters Inv-views μ-views
-shared-slice-read-same c =
-    let row = c .before .before .before .before .place-at in
-    let t = c .before .before .before .tally-at in
-    let pre = c .before .before .before .before .before .before .before .before .before .pre in
-    let (low, fits) = rowFits (c .before .before .before .before .before .before .before .before .before .args .c) (c .before .before .before .before .before .before .views .end - 1) (row .result) (t .result) (row .ensures) (t .ensures) (pre .2) (pre .3) in
-    omega arith
+shared-slice-read-same c = omega arith
 
 same-requires : tie.Need-same-requires Inv-reporters μ-reporters Inv-views μ-views
 same-requires c κs = search needs
@@ -83,19 +74,11 @@ add-claimers : tie.Need-add-claimers Inv-reporters μ-reporters Inv-views μ-vie
 add-claimers c =
     let a = c .before .before .before .before .before .before .before .before .before .before .args in
     let at = c .before .before .before .reporters in
-    let row = c .before .before .before .before .before .place-at in
-    let t = c .before .before .before .before .tally-at in
-    let pre = c .before .before .before .before .before .before .before .before .before .before .pre in
-    let (low, fits) = rowFits (c .before .before .before .before .before .before .before .before .before .before .args .c) (c .before .before .before .before .before .before .before .views .end - 1) (row .result) (t .result) (row .ensures) (t .ensures) (pre .2) (pre .3) in
-    omega (arith, shareMost (eqb (getD (a .plans .now) (row .result + at .r) 0) (a .p)) 1 (c .same .result) (c .same .ensures))
+    let row = c .before .before .before .before .before .place-at .result in
+    omega (arith, shareMost (eqb (getD (a .plans .now) (row + at .r) 0) (a .p)) 1 (c .same .result) (c .same .ensures))
 
 add-r : tie.Need-add-r Inv-reporters μ-reporters Inv-views μ-views
-add-r c =
-    let row = c .before .before .before .before .before .place-at in
-    let t = c .before .before .before .before .tally-at in
-    let pre = c .before .before .before .before .before .before .before .before .before .before .pre in
-    let (low, fits) = rowFits (c .before .before .before .before .before .before .before .before .before .before .args .c) (c .before .before .before .before .before .before .before .views .end - 1) (row .result) (t .result) (row .ensures) (t .ensures) (pre .2) (pre .3) in
-    omega arith
+add-r c = omega arith
 
 reporters-less : tie.Need-reporters-less Inv-reporters μ-reporters Inv-views μ-views
 reporters-less c = search needs
@@ -110,6 +93,9 @@ reporters-again c =
       omega arith,
       omega (arith, most),
       countStep (a .plans .now) row (at .r) (a .p) (t .every) (at .claimers) (c .same .result) (at .inv .2) (c .same .ensures),
+      at .inv .3,
+      at .inv .4,
+      at .inv .5,
     )
 
 views-less : tie.Need-views-less Inv-reporters μ-reporters Inv-views μ-views
@@ -122,7 +108,8 @@ views-again c =
     let t = c .before .before .before .before .tally-at in
     let row = c .before .before .before .before .before .place-at in
     let last = c .before .before .before .before .before .before .before .views in
-    walkOn (a .plans .now) (a .c) (a .low) (a .p) (last .end) _ _ _ _ _ (last .inv) (c .before .before .before .before .before .before .if1 .left) refl (row .ensures) (t .ensures) (c .before .before .if2 .taken) (at .inv .2)
+    walkOn (a .plans .now) (a .c) (a .low) (a .p) (last .end) _ _ _ _ _ (last .inv) (c .before .before .before .before .before .before .if1 .left) refl
+    (row .ensures) (t .ensures) (c .before .before .if2 .taken) (at .inv .2)
     (sym (c .before .is-blocking .ensures) ∙ c .if3 .left)
 
 returns : tie.Need-returns Inv-reporters μ-reporters Inv-views μ-views
@@ -138,7 +125,8 @@ returns-2 c =
     let t = c .before .before .before .before .tally-at in
     let row = c .before .before .before .before .before .place-at in
     let last = c .before .before .before .before .before .before .before .views in
-    walkFound (a .plans .now) (a .c) (a .low) (a .p) (last .end) _ _ _ _ _ (last .inv) (c .before .before .before .before .before .before .if1 .left) refl (row .ensures) (t .ensures) (c .before .before .if2 .taken) (at .inv .2)
+    walkFound (a .plans .now) (a .c) (a .low) (a .p) (last .end) _ _ _ _ _ (last .inv) (c .before .before .before .before .before .before .if1 .left) refl
+    (row .ensures) (t .ensures) (c .before .before .if2 .taken) (at .inv .2)
     (sym (c .before .is-blocking .ensures) ∙ c .if3 .taken)
 
 pub serving-view-spec : {M : Type 1} → statement M

@@ -25,7 +25,8 @@ shared-slice-read-above c = search needs
 returns : tie.Need-returns
 returns c =
     let a = c .before .before .before .before .before .args in
-    forAll refl refl (λ p. allowsEvery (a .table .now) (a .r) (sym (c .before .before .before .reported .ensures) ∙ c .before .before .if1 .taken) (a .u) p (c .if2 .taken))
+    forAll refl refl (λ p. allowsEvery (a .table .now) (a .r) (sym (c .before .before .before .reported .ensures) ∙ c .before .before .if1 .taken) (a .u) p
+    (c .if2 .taken))
 
 sub-if3 : tie.Need-sub-if3
 sub-if3 c = search needs
@@ -33,12 +34,14 @@ sub-if3 c = search needs
 returns-2 : tie.Need-returns-2
 returns-2 c =
     let a = c .before .before .before .before .before .before .args in
-    forOne refl refl (λ p. allowsOne (a .table .now) (a .r) (sym (c .before .before .before .before .reported .ensures) ∙ c .before .before .before .if1 .taken) (a .u) p (c .before .if2 .left) (c .if3 .taken))
+    forOne refl refl (λ p. allowsOne (a .table .now) (a .r) (sym (c .before .before .before .before .reported .ensures)
+    ∙ c .before .before .before .if1 .taken) (a .u) p (c .before .if2 .left) (c .if3 .taken))
 
 returns-3 : tie.Need-returns-3
 returns-3 c =
     let a = c .before .before .before .before .before .before .args in
-    forNone refl refl (λ p. allowsNone (a .table .now) (a .r) (sym (c .before .before .before .before .reported .ensures) ∙ c .before .before .before .if1 .taken) (a .u) p (c .before .if2 .left) (c .if3 .left))
+    forNone refl refl (λ p. allowsNone (a .table .now) (a .r) (sym (c .before .before .before .before .reported .ensures)
+    ∙ c .before .before .before .if1 .taken) (a .u) p (c .before .if2 .left) (c .if3 .left))
 
 returns-4 : tie.Need-returns-4
 returns-4 c =

@@ -41,7 +41,12 @@ add-count : tie.Need-add-count Inv-loop μ-loop
 add-count c =
     let a = c .before .before .before .before .before .args in
     let at = c .before .before .before .loop in
-    omega (arith, c .before .before .before .before .before .pre .locks, shareMost (eqb (getD (a .plans .now) (lockRow + at .r) 0) (a .p)) 1 (c .same .result) (c .same .ensures))
+    omega (
+      arith,
+      c .before .before .before .before .before .pre .locks,
+      shareMost (eqb (getD (a .plans .now) (lockRow + at .r) 0) (a .p)) 1
+          (c .same .result) (c .same .ensures),
+    )
 
 add-r : tie.Need-add-r Inv-loop μ-loop
 add-r c = omega (arith, c .before .before .before .before .before .pre .locks)

@@ -13,7 +13,8 @@ wide-requires-2 : tie.Need-wide-requires-2
 wide-requires-2 c κs = search needs
 
 choose-among-requires : tie.Need-choose-among-requires
-choose-among-requires c κs = let pre = c .before .before .before .pre in (pre .0, omega (arith, c .before .wide .ensures), omega (arith, c .before .wide .ensures, c .wide2 .ensures))
+choose-among-requires c κs = let pre = c .before .before .before .pre in
+    (pre .0, omega (arith, c .before .wide .ensures), omega (arith, c .before .wide .ensures, c .wide2 .ensures))
 
 returns : tie.Need-returns
 returns c = rw (← c .before .before .wide .ensures, ← c .before .wide2 .ensures) (c .choose-among .ensures)

@@ -37,10 +37,16 @@ returns-3 c =
     let rs = reportsIn (a .table .now) in
     let u = c .before .before .before .before .before .before .before .before .lowest-view .result in
     let l : Lowest (equals (a .n) (a .f)) rs (a .v) u
-    = record { locked = sym (c .before .before .before .before .before .before .before .before .before .before .free .ensures) ∙ c .before .before .before .before .before .before .before .before .before .if2 .left; below = c .before .before .before .before .before .before .before .if3 .taken; is = c .before .before .before .before .before .before .before .before .lowest-view .ensures } in
+    = record {
+      locked = sym (c .before .before .before .before .before .before .before .before .before .before .free .ensures)
+          ∙ c .before .before .before .before .before .before .before .before .before .if2 .left;
+      below = c .before .before .before .before .before .before .before .if3 .taken;
+      is = c .before .before .before .before .before .before .before .before .lowest-view .ensures;
+    } in
     let s = c .before .before .before .before .before .before .prepare in
     let (ready, en, ef, eu, ev) = s .ensures in
-    choiceStart _ _ _ _ (oneSame rs (s .result .search) (s .result .plans) ready (a .n) (a .f) u (a .v) en ef eu ev l (a .start) true (sym (c .if4 .taken) ∙ c .before .safe-one .ensures))
+    choiceStart _ _ _ _ (oneSame rs (s .result .search) (s .result .plans) ready (a .n) (a .f) u (a .v) en ef eu ev l (a .start) true
+    (sym (c .if4 .taken) ∙ c .before .safe-one .ensures))
 
 smallest-safe-requires : tie.Need-smallest-safe-requires
 smallest-safe-requires c κs =
@@ -48,7 +54,13 @@ smallest-safe-requires c κs =
     let rs = reportsIn (a .table .now) in
     let u = c .before .before .before .before .before .before .before .before .before .before .before .before .lowest-view .result in
     let l : Lowest (equals (a .n) (a .f)) rs (a .v) u
-    = record { locked = sym (c .before .before .before .before .before .before .before .before .before .before .before .before .before .before .free .ensures) ∙ c .before .before .before .before .before .before .before .before .before .before .before .before .before .if2 .left; below = c .before .before .before .before .before .before .before .before .before .before .before .if3 .taken; is = c .before .before .before .before .before .before .before .before .before .before .before .before .lowest-view .ensures } in
+    = record {
+      locked = sym
+          (c .before .before .before .before .before .before .before .before .before .before .before .before .before .before .free .ensures)
+          ∙ c .before .before .before .before .before .before .before .before .before .before .before .before .before .if2 .left;
+      below = c .before .before .before .before .before .before .before .before .before .before .before .if3 .taken;
+      is = c .before .before .before .before .before .before .before .before .before .before .before .before .lowest-view .ensures;
+    } in
     let s = c .before .before .before .before .before .before .before .before .before .before .prepare in
     let (ready, en, ef, eu, ev) = s .ensures in
     let never = sym (c .before .before .before .before .before .safe-one .ensures) ∙ c .before .before .before .before .if4 .left in
@@ -64,15 +76,24 @@ returns-4 c =
     let rs = reportsIn (a .table .now) in
     let u = c .before .before .before .before .before .before .before .before .before .before .before .before .before .lowest-view .result in
     let l : Lowest (equals (a .n) (a .f)) rs (a .v) u
-    = record { locked = sym (c .before .before .before .before .before .before .before .before .before .before .before .before .before .before .before .free .ensures) ∙ c .before .before .before .before .before .before .before .before .before .before .before .before .before .before .if2 .left; below = c .before .before .before .before .before .before .before .before .before .before .before .before .if3 .taken; is = c .before .before .before .before .before .before .before .before .before .before .before .before .before .lowest-view .ensures } in
+    = record {
+      locked = sym
+          (c .before .before .before .before .before .before .before .before .before .before .before .before .before .before .before .free .ensures)
+          ∙ c .before .before .before .before .before .before .before .before .before .before .before .before .before .before .if2 .left;
+      below = c .before .before .before .before .before .before .before .before .before .before .before .before .if3 .taken;
+      is = c .before .before .before .before .before .before .before .before .before .before .before .before .before .lowest-view .ensures;
+    } in
     let s = c .before .before .before .before .before .before .before .before .before .before .before .prepare in
     let (ready, en, ef, eu, ev) = s .ensures in
-    choiceSame rs (s .result .search) (s .result .plans) ready (a .n) (a .f) u (a .v) en ef eu ev l (a .start) _ (sym (c .before .before .before .before .before .before .safe-one .ensures) ∙ c .before .before .before .before .before .if4 .left) (c .smallest-safe .ensures)
+    choiceSame rs (s .result .search) (s .result .plans) ready (a .n) (a .f) u (a .v) en ef eu ev l (a .start) _
+    (sym (c .before .before .before .before .before .before .safe-one .ensures) ∙ c .before .before .before .before .before .if4 .left)
+    (c .smallest-safe .ensures)
 
 returns-5 : tie.Need-returns-5
 returns-5 c =
     choiceNone _ _ _ _
-    (λ x. neverSafe _ _ _ (sym (c .before .before .before .free .ensures) ∙ c .before .before .if2 .left) (c .before .before .before .before .if1 .left) _ _ _ (c .before .lowest-view .ensures) (c .if3 .left))
+    (λ x. neverSafe _ _ _ (sym (c .before .before .before .free .ensures) ∙ c .before .before .if2 .left)
+    (c .before .before .before .before .if1 .left) _ _ _ (c .before .lowest-view .ensures) (c .if3 .left))
 
 pub choose-among-spec : {M : Type 1} → statement M
 choose-among-spec =

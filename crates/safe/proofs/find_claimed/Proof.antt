@@ -9,6 +9,7 @@ use lib.ListN.{getD}
 use borrow.Author.Needs.{needs}
 use Rattle.claims.proofs.Rows.{rowFits}
 use Rattle.claims.specs.Rows.{placeAt}
+use Rattle.claims.specs.Table.{column}
 use Rattle.claims.specs.declared.Tally.{Tally}
 use Rattle.quorum.proofs.Bools.{bothJoin}
 use Rattle.safe.proofs.Searches.{servedAt, tried, NonePass, untriedFirst, nonePassMore, foundFirst, foundOther, noneFound}
@@ -17,7 +18,8 @@ use Rattle.safe.proofs.find_claimed.Statement.{statement}
 use Rattle.safe.proofs.find_claimed.Tie as tie
 
 abbrev Inv-loop : tie.InvT-loop
-Inv-loop plans c w spare first row some last₀ r₀ last r = (r ≤ some) × (tried plans c w (chosen spare) last ≡ false) × NonePass plans c w (chosen spare) r
+Inv-loop plans c w spare first row some last₀ r₀ last r =
+    (r ≤ some) × (tried plans c w (chosen spare) last ≡ false) × NonePass plans c w (chosen spare) r × (row ≤ column) × (some ≤ column)
 
 abbrev μ-loop : tie.MeasureT-loop
 μ-loop plans c w spare first row some last₀ r₀ last r = some - r
@@ -45,36 +47,22 @@ tally-at-requires c κs = search needs
 loop-holds : tie.Need-loop-holds Inv-loop μ-loop
 loop-holds c =
     let a = c .before .before .before .before .before .before .args in
+    let l = c .before .before .before .before .before .before .pre .0 in
     let first = c .before .before .before .before .first-plan in
     let never = sym (c .before .before .before .served .ensures) ∙ c .before .before .if1 .left in
-    (omega arith, untriedFirst (a .plans .now) (a .c) (a .w) (chosen (a .spare)) (first .result) never, λ j low. absurd (omega arith))
+    let row = c .before .place-at in
+    let t = c .tally-at in
+    let (low, fits) = rowFits (a .c) (a .w) (row .result) (t .result) (row .ensures) (t .ensures) (l .here) (l .next) in
+    (omega arith, untriedFirst (a .plans .now) (a .c) (a .w) (chosen (a .spare)) (first .result) never, λ j low. absurd (omega arith), low, fits .1)
 
 add-x : tie.Need-add-x Inv-loop μ-loop
-add-x c =
-    let row = c .before .before .before .place-at in
-    let t = c .before .before .tally-at in
-    let entry = c .before .before .before .before .before .before .before .before in
-    let l = entry .pre .0 in
-    let (low, fits) = rowFits (entry .args .c) (entry .args .w) (row .result) (t .result) (row .ensures) (t .ensures) (l .here) (l .next) in
-    omega arith
+add-x c = omega arith
 
 mul-x : tie.Need-mul-x Inv-loop μ-loop
-mul-x c =
-    let row = c .before .before .before .place-at in
-    let t = c .before .before .tally-at in
-    let entry = c .before .before .before .before .before .before .before .before in
-    let l = entry .pre .0 in
-    let (low, fits) = rowFits (entry .args .c) (entry .args .w) (row .result) (t .result) (row .ensures) (t .ensures) (l .here) (l .next) in
-    omega arith
+mul-x c = omega arith
 
 shared-slice-read-x : tie.Need-shared-slice-read-x Inv-loop μ-loop
-shared-slice-read-x c =
-    let row = c .before .before .before .before .place-at in
-    let t = c .before .before .before .tally-at in
-    let entry = c .before .before .before .before .before .before .before .before .before in
-    let l = entry .pre .0 in
-    let (low, fits) = rowFits (entry .args .c) (entry .args .w) (row .result) (t .result) (row .ensures) (t .ensures) (l .here) (l .next) in
-    omega (arith, l .size)
+shared-slice-read-x c = omega (arith, c .before .before .before .before .before .before .before .before .before .pre .0 .size)
 
 other-claimed-requires : tie.Need-other-claimed-requires Inv-loop μ-loop
 other-claimed-requires c κs = (c .before .before .before .before .before .before .before .before .before .pre .0, c .before .before .loop .inv .1)
@@ -88,13 +76,7 @@ returns-2 c =
     (first .result) (first .ensures) _ (sym (c .before .other-claimed .ensures) ∙ c .if2 .taken)
 
 add-r : tie.Need-add-r Inv-loop μ-loop
-add-r c =
-    let row = c .before .before .before .before .before .before .place-at in
-    let t = c .before .before .before .before .before .tally-at in
-    let entry = c .before .before .before .before .before .before .before .before .before .before .before in
-    let l = entry .pre .0 in
-    let (low, fits) = rowFits (entry .args .c) (entry .args .w) (row .result) (t .result) (row .ensures) (t .ensures) (l .here) (l .next) in
-    omega arith
+add-r c = omega arith
 
 loop-less : tie.Need-loop-less Inv-loop μ-loop
 loop-less c = search needs
@@ -107,7 +89,7 @@ loop-again c =
     let x = getD (a .plans .now) (row .result + at .r) 0 in
     let fails = sym (c .before .other-claimed .ensures) ∙ c .if2 .left in
     let is = ap (λ (o : ℕ). getD (a .plans .now) (o + at .r) 0) (row .ensures) in
-    (omega arith, fails, nonePassMore (a .plans .now) (a .c) (a .w) (chosen (a .spare)) (at .r) x is fails (at .inv .2))
+    (omega arith, fails, nonePassMore (a .plans .now) (a .c) (a .w) (chosen (a .spare)) (at .r) x is fails (at .inv .2), at .inv .3, at .inv .4)
 
 returns-3 : tie.Need-returns-3 Inv-loop μ-loop
 returns-3 c =
@@ -116,7 +98,8 @@ returns-3 c =
     let first = c .before .before .before .before .before .before .first-plan in
     noneFound (a .plans .now) (a .c) (a .w) (chosen (a .spare)) (λ x. servedAt (a .plans .now) (a .c) (a .w) x (pre .0 .below) (pre .1) (pre .2) (pre .3))
     (first .result) (first .ensures) (c .before .loop .r)
-    (omega (arith, ap (λ (t : Tally). t .some) (c .before .before .tally-at .ensures))) (sym (c .before .before .before .before .before .served .ensures) ∙ c .before .before .before .before .if1 .left) (c .before .loop .inv .2)
+    (omega (arith, ap (λ (t : Tally). t .some) (c .before .before .tally-at .ensures)))
+    (sym (c .before .before .before .before .before .served .ensures) ∙ c .before .before .before .before .if1 .left) (c .before .loop .inv .2)
 
 pub find-claimed-spec : {M : Type 1} → statement M
 find-claimed-spec =

@@ -29,12 +29,22 @@ long-requires c κs = search needs
 returns : tie.Need-returns
 returns c =
     let a = c .before .before .before .before .before .before .args in
-    omega (arith, spanIn (a .table .now) (a .r) (sym (c .before .before .before .before .reported .ensures) ∙ c .before .before .before .if1 .taken) (a .v), c .before .long .ensures)
+    omega (
+      arith,
+      spanIn (a .table .now) (a .r) (sym (c .before .before .before .before .reported .ensures) ∙ c .before .before .before .if1 .taken)
+          (a .v),
+      c .before .long .ensures,
+    )
 
 returns-2 : tie.Need-returns-2
 returns-2 c =
     let a = c .before .before .before .before .before .before .before .args in
-    omega (arith, spanIn (a .table .now) (a .r) (sym (c .before .before .before .before .before .reported .ensures) ∙ c .before .before .before .before .if1 .taken) (a .v), c .before .before .long .ensures)
+    omega (
+      arith,
+      spanIn (a .table .now) (a .r) (sym (c .before .before .before .before .before .reported .ensures)
+          ∙ c .before .before .before .before .if1 .taken) (a .v),
+      c .before .before .long .ensures,
+    )
 
 sub-result : tie.Need-sub-result
 sub-result c = omega arith
@@ -45,7 +55,12 @@ cast-result c = omega (arith, c .before .before .long .ensures)
 returns-3 : tie.Need-returns-3
 returns-3 c =
     let a = c .before .before .before .before .before .before .before .args in
-    omega (arith, spanIn (a .table .now) (a .r) (sym (c .before .before .before .before .before .reported .ensures) ∙ c .before .before .before .before .if1 .taken) (a .v), c .before .before .long .ensures)
+    omega (
+      arith,
+      spanIn (a .table .now) (a .r) (sym (c .before .before .before .before .before .reported .ensures)
+          ∙ c .before .before .before .before .if1 .taken) (a .v),
+      c .before .before .long .ensures,
+    )
 
 returns-4 : tie.Need-returns-4
 unfolding reportsIn

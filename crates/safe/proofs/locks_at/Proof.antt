@@ -28,8 +28,13 @@ long-requires c κs = search needs
 
 loop-holds : tie.Need-loop-holds Inv-loop μ-loop
 loop-holds c =
-    let a = c .before .before .before .args in
-    (omega arith, c .before .before .before .pre .2, λ i low. refl, rowNone (reportsIn (a .table .now)) (λ p. allows p (c .long .result)) (a .plans .now) lockRow)
+    let a = c .before .before .before .args in (
+      omega arith,
+      c .before .before .before .pre .2,
+      λ i low. refl,
+      rowNone (reportsIn (a .table .now)) (λ p. allows p (c .long .result))
+          (a .plans .now) lockRow,
+    )
 
 allow-share-requires : tie.Need-allow-share-requires Inv-loop μ-loop
 allow-share-requires c κs = search needs
@@ -60,7 +65,8 @@ add-every c =
     omega (
       arith,
       at .inv .3 .most,
-      shareFits (λ p. reporting (reportsIn (a .table .now)) (allows p (c .before .before .before .before .before .long .result)) (at .r)) (getD (a .table .now) (column * 6 + at .r) 0)
+      shareFits (λ p. reporting (reportsIn (a .table .now)) (allows p (c .before .before .before .before .before .long .result)) (at .r))
+          (getD (a .table .now) (column * 6 + at .r) 0)
           (add .result .every) (add .result .some) (add .ensures),
     )
 
@@ -72,7 +78,8 @@ add-some c =
     omega (
       arith,
       at .inv .3 .most,
-      shareFits (λ p. reporting (reportsIn (a .table .now)) (allows p (c .before .before .before .before .before .before .long .result)) (at .r)) (getD (a .table .now) (column * 6 + at .r) 0)
+      shareFits (λ p. reporting (reportsIn (a .table .now)) (allows p (c .before .before .before .before .before .before .long .result)) (at .r))
+          (getD (a .table .now) (column * 6 + at .r) 0)
           (add .result .every) (add .result .some) (add .ensures),
     )
 
@@ -109,7 +116,8 @@ returns c =
       at .inv .1,
       at .inv .2,
       subst (λ (k : ℕ). Tells (reportsIn (a .table .now)) k (λ p. allows p (a .u)) (at .plans) lockRow t) all
-          (subst (λ (v : ℕ). Tells (reportsIn (a .table .now)) (at .r) (λ p. allows p v) (at .plans) lockRow t) (c .before .before .long .ensures) (at .inv .3)),
+          (subst (λ (v : ℕ). Tells (reportsIn (a .table .now)) (at .r) (λ p. allows p v) (at .plans) lockRow t) (c .before .before .long .ensures)
+          (at .inv .3)),
     )
 
 pub locks-at-spec : {M : Type 1} → statement M

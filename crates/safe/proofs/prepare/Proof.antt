@@ -35,8 +35,14 @@ returns c =
     let pre = c .before .before .before .before .before .before .before .before .before .before .pre in
     let here = c .before .before .before .before .before .before .before .claims-at .ensures in
     let next = c .before .before .before .before .claims-at2 .ensures in
-    let locks = c .before .locks-at .ensures in
-    (prepares (reportsIn (a .table .now)) _ _ _ _ (pre .1) (pre .2) (pre .3) (locks .0) (here .2) (next .1) (next .2) (locks .1) (locks .2), refl, refl, refl, refl)
+    let locks = c .before .locks-at .ensures in (
+      prepares (reportsIn (a .table .now)) _ _ _ _ (pre .1) (pre .2) (pre .3) (locks .0) (here .2) (next .1) (next .2) (locks .1)
+          (locks .2),
+      refl,
+      refl,
+      refl,
+      refl,
+    )
 
 pub prepare-spec : {M : Type 1} → statement M
 prepare-spec =

@@ -35,7 +35,12 @@ safe-three-requires c κs =
     let rs = reportsIn (a .table .now) in
     let u = c .before .before .before .before .before .before .before .lowest-view .result in
     let l : Lowest (equals (a .n) (a .f)) rs (a .v) u
-    = record { locked = sym (c .before .before .before .before .before .before .before .before .before .free .ensures) ∙ c .before .before .before .before .before .before .before .before .if2 .left; below = c .before .before .before .before .before .before .if3 .taken; is = c .before .before .before .before .before .before .before .lowest-view .ensures } in
+    = record {
+      locked = sym (c .before .before .before .before .before .before .before .before .before .free .ensures)
+          ∙ c .before .before .before .before .before .before .before .before .if2 .left;
+      below = c .before .before .before .before .before .before .if3 .taken;
+      is = c .before .before .before .before .before .before .before .lowest-view .ensures;
+    } in
     let s = c .before .before .before .before .before .prepare in
     let (ready, en, ef, eu, ev) = s .ensures in
     let pre = c .before .before .before .before .before .before .before .before .before .before .before .before .pre in
@@ -48,10 +53,16 @@ returns-3 c =
     let rs = reportsIn (a .table .now) in
     let u = c .before .before .before .before .before .before .before .before .lowest-view .result in
     let l : Lowest (equals (a .n) (a .f)) rs (a .v) u
-    = record { locked = sym (c .before .before .before .before .before .before .before .before .before .before .free .ensures) ∙ c .before .before .before .before .before .before .before .before .before .if2 .left; below = c .before .before .before .before .before .before .before .if3 .taken; is = c .before .before .before .before .before .before .before .before .lowest-view .ensures } in
+    = record {
+      locked = sym (c .before .before .before .before .before .before .before .before .before .before .free .ensures)
+          ∙ c .before .before .before .before .before .before .before .before .before .if2 .left;
+      below = c .before .before .before .before .before .before .before .if3 .taken;
+      is = c .before .before .before .before .before .before .before .before .lowest-view .ensures;
+    } in
     let s = c .before .before .before .before .before .before .prepare in
     let (ready, en, ef, eu, ev) = s .ensures in
-    byRule _ _ _ _ _ true _ (c .before .before .before .before .before .if4 .taken) (threeSame rs (s .result .search) (s .result .plans) ready (a .n) (a .f) u (a .v) en ef eu ev l (a .p) _ (c .safe-three .ensures))
+    byRule _ _ _ _ _ true _ (c .before .before .before .before .before .if4 .taken)
+    (threeSame rs (s .result .search) (s .result .plans) ready (a .n) (a .f) u (a .v) en ef eu ev l (a .p) _ (c .safe-three .ensures))
 
 safe-one-requires : tie.Need-safe-one-requires
 safe-one-requires c κs = c .before .before .before .before .before .prepare .ensures .0 .laid
@@ -62,13 +73,20 @@ returns-4 c =
     let rs = reportsIn (a .table .now) in
     let u = c .before .before .before .before .before .before .before .before .lowest-view .result in
     let l : Lowest (equals (a .n) (a .f)) rs (a .v) u
-    = record { locked = sym (c .before .before .before .before .before .before .before .before .before .before .free .ensures) ∙ c .before .before .before .before .before .before .before .before .before .if2 .left; below = c .before .before .before .before .before .before .before .if3 .taken; is = c .before .before .before .before .before .before .before .before .lowest-view .ensures } in
+    = record {
+      locked = sym (c .before .before .before .before .before .before .before .before .before .before .free .ensures)
+          ∙ c .before .before .before .before .before .before .before .before .before .if2 .left;
+      below = c .before .before .before .before .before .before .before .if3 .taken;
+      is = c .before .before .before .before .before .before .before .before .lowest-view .ensures;
+    } in
     let s = c .before .before .before .before .before .before .prepare in
     let (ready, en, ef, eu, ev) = s .ensures in
-    byRule _ _ _ _ _ false _ (c .before .before .before .before .before .if4 .left) (oneSame rs (s .result .search) (s .result .plans) ready (a .n) (a .f) u (a .v) en ef eu ev l (a .p) _ (c .safe-one .ensures))
+    byRule _ _ _ _ _ false _ (c .before .before .before .before .before .if4 .left)
+    (oneSame rs (s .result .search) (s .result .plans) ready (a .n) (a .f) u (a .v) en ef eu ev l (a .p) _ (c .safe-one .ensures))
 
 returns-5 : tie.Need-returns-5
-returns-5 c = sym (neverSafe _ _ _ (sym (c .before .before .before .free .ensures) ∙ c .before .before .if2 .left) (c .before .before .before .before .if1 .left) _ _ _ (c .before .lowest-view .ensures) (c .if3 .left))
+returns-5 c = sym (neverSafe _ _ _ (sym (c .before .before .before .free .ensures) ∙ c .before .before .if2 .left)
+    (c .before .before .before .before .if1 .left) _ _ _ (c .before .lowest-view .ensures) (c .if3 .left))
 
 pub safe-among-spec : {M : Type 1} → statement M
 safe-among-spec =

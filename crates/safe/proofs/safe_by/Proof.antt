@@ -15,7 +15,12 @@ wide-requires-2 : tie.Need-wide-requires-2
 wide-requires-2 c κs = search needs
 
 safe-among-requires : tie.Need-safe-among-requires
-safe-among-requires c κs = let pre = c .before .before .before .pre in (pre .0, omega (arith, c .before .wide .ensures), omega (arith, c .before .wide .ensures, c .wide2 .ensures))
+safe-among-requires c κs = let pre = c .before .before .before .pre in (
+  pre .0,
+  omega (arith, c .before .wide .ensures),
+  omega
+      (arith, c .before .wide .ensures, c .wide2 .ensures),
+)
 
 returns : tie.Need-returns
 returns c = rw (← c .before .before .wide .ensures, ← c .before .wide2 .ensures) (c .safe-among .ensures)

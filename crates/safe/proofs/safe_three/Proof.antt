@@ -36,8 +36,10 @@ returns-2 c =
     let a = c .before .before .before .before .before .before .before .before .before .before .args in
     let rs = reportsIn (a .table .now) in
     let pre = c .before .before .before .before .before .before .before .before .before .before .pre in
-    threeFirst rs (a .c) (a .plans .now) (pre .2) (pre .3) (a .p) (sym (c .before .before .before .before .before .before .before .safe-one .ensures) ∙ c .before .before .before .before .before .before .if1 .left) _
-    (sym (c .before .before .allowed .ensures) ∙ c .before .if3 .taken) (pairTwo rs (a .c) (a .plans .now) (pre .2) _ (c .before .before .before .if2 .taken) (c .two-sets .ensures))
+    threeFirst rs (a .c) (a .plans .now) (pre .2) (pre .3) (a .p) (sym (c .before .before .before .before .before .before .before .safe-one .ensures)
+    ∙ c .before .before .before .before .before .before .if1 .left) _
+    (sym (c .before .before .allowed .ensures) ∙ c .before .if3 .taken)
+    (pairTwo rs (a .c) (a .plans .now) (pre .2) _ (c .before .before .before .if2 .taken) (c .two-sets .ensures))
 
 two-sets-after-requires : tie.Need-two-sets-after-requires
 two-sets-after-requires c κs =
@@ -49,7 +51,8 @@ returns-3 c =
     let a = c .before .before .before .before .before .before .before .before .before .before .args in
     let rs = reportsIn (a .table .now) in
     let pre = c .before .before .before .before .before .before .before .before .before .before .pre in
-    threeNext rs (a .c) (a .plans .now) (pre .2) (pre .3) (a .p) (sym (c .before .before .before .before .before .before .before .safe-one .ensures) ∙ c .before .before .before .before .before .before .if1 .left) _
+    threeNext rs (a .c) (a .plans .now) (pre .2) (pre .3) (a .p) (sym (c .before .before .before .before .before .before .before .safe-one .ensures)
+    ∙ c .before .before .before .before .before .before .if1 .left) _
     (sym (c .before .before .allowed .ensures) ∙ c .before .if3 .left) (c .before .before .before .if2 .taken) (c .two-sets-after .ensures)
 
 returns-4 : tie.Need-returns-4
@@ -57,7 +60,8 @@ returns-4 c =
     let a = c .before .before .before .before .before .before .before .args in
     let rs = reportsIn (a .table .now) in
     let pre = c .before .before .before .before .before .before .before .pre in
-    threeLast rs (a .c) (a .plans .now) (pre .2) (pre .3) (a .p) (sym (c .before .before .before .before .safe-one .ensures) ∙ c .before .before .before .if1 .left) (c .if2 .left)
+    threeLast rs (a .c) (a .plans .now) (pre .2) (pre .3) (a .p) (sym (c .before .before .before .before .safe-one .ensures)
+    ∙ c .before .before .before .if1 .left) (c .if2 .left)
 
 pub safe-three-spec : {M : Type 1} → statement M
 safe-three-spec =

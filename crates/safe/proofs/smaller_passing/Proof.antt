@@ -15,7 +15,8 @@ use Rattle.safe.proofs.smaller_passing.Tie as tie
 returns : tie.Need-returns
 returns c =
     let a = c .before .before .args in
-    subst (λ (x : ℕ). chosen (a .best) ≡ smaller (passesIn (a .plans .now) (a .c) (a .locked) x) x (chosen (a .best))) (sym (c .if1 .taken)) (sym (c .before .before .pre .1))
+    subst (λ (x : ℕ). chosen (a .best) ≡ smaller (passesIn (a .plans .now) (a .c) (a .locked) x) x (chosen (a .best))) (sym (c .if1 .taken))
+    (sym (c .before .before .pre .1))
 
 improves-requires : tie.Need-improves-requires
 improves-requires c κs = search needs
@@ -26,7 +27,8 @@ passes-requires c κs = c .before .before .before .before .pre .0
 returns-2 : tie.Need-returns-2
 returns-2 c =
     let a = c .before .before .before .before .before .before .args in
-    simp (sym (c .before .passes .ensures) ∙ c .if3 .taken) (smallerTaken (a .x) (chosen (a .best)) (sym (c .before .before .before .improves .ensures) ∙ c .before .before .if2 .taken))
+    simp (sym (c .before .passes .ensures) ∙ c .if3 .taken) (smallerTaken (a .x) (chosen (a .best))
+    (sym (c .before .before .before .improves .ensures) ∙ c .before .before .if2 .taken))
 
 returns-3 : tie.Need-returns-3
 returns-3 c = simp (sym (c .before .passes .ensures) ∙ c .if3 .left)

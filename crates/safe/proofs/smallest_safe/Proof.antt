@@ -21,7 +21,8 @@ returns : tie.Need-returns
 returns c =
     let a = c .before .before .before .args in
     c .smallest-in2 .ensures
-    ∙ ap (λ (o : Option ℕ). smallestFrom o (passesIn (a .plans .now) (a .c) false) (λ i. getD (a .plans .now) (column + i) 0) (a .c .next .some)) (c .before .smallest-in .ensures)
+    ∙ ap (λ (o : Option ℕ). smallestFrom o (passesIn (a .plans .now) (a .c) false) (λ i. getD (a .plans .now) (column + i) 0) (a .c .next .some))
+    (c .before .smallest-in .ensures)
 
 pub smallest-safe-spec : {M : Type 1} → statement M
 smallest-safe-spec = tie.close (tie.spec smallest-in-requires smallest-in-requires-2 returns)

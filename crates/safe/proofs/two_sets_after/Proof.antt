@@ -26,7 +26,8 @@ two-sets-requires c κs =
     let s = c .before .before .before .before .prepare in
     let ready = s .ensures .0 in (
       ready .laid,
-      falling (reportsIn (c .before .before .before .before .before .before .before .before .before .args .table .now)) (s .result .search) (s .result .plans) ready,
+      falling (reportsIn (c .before .before .before .before .before .before .before .before .before .args .table .now)) (s .result .search)
+          (s .result .plans) ready,
       omega (arith, s .ensures .3, s .ensures .4, c .before .before .before .before .before .if1 .taken),
     )
 

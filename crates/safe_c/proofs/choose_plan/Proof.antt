@@ -18,7 +18,8 @@ settings-for-requires c κs = search needs
 choose-requires : tie.Need-choose-requires
 choose-requires c κs =
     let a = c .before .before .before .before .before .before .args in
-    laidParts (a .table .now) (a .n) (a .f) _ _ (c .settings-for .ensures .0) (c .settings-for .ensures .1) (sym (c .before .before .before .is-laid .ensures) ∙ c .before .before .if1 .taken)
+    laidParts (a .table .now) (a .n) (a .f) _ _ (c .settings-for .ensures .0) (c .settings-for .ensures .1)
+    (sym (c .before .before .before .is-laid .ensures) ∙ c .before .before .if1 .taken)
 
 enum-known-choice : tie.Need-enum-known-choice
 enum-known-choice c = search needs
@@ -33,7 +34,9 @@ returns : tie.Need-returns
 returns c =
     let a = c .before .before .before .before .before .before .before .before .before .before .args in
     let set = c .before .before .before .before .settings-for .ensures in
-    let e = chooseSaid (a .table .now) (a .n) (a .f) _ _ (set .0) (set .1) (a .v) (a .start) _ (a .out .now) (sym (c .before .before .before .before .before .before .before .is-laid .ensures) ∙ c .before .before .before .before .before .before .if1 .taken) (c .before .before .before .before .before .if2 .taken)
+    let e = chooseSaid (a .table .now) (a .n) (a .f) _ _ (set .0) (set .1) (a .v) (a .start) _ (a .out .now)
+    (sym (c .before .before .before .before .before .before .before .is-laid .ensures) ∙ c .before .before .before .before .before .before .if1 .taken)
+    (c .before .before .before .before .before .if2 .taken)
     (sym (ap chosen (c .before .choice .given .1)) ∙ c .before .before .before .choose .ensures) in
     (ap (λ (x : Answer). x .code) e, ap (λ (x : Answer). x .out) e)
 
@@ -44,7 +47,9 @@ returns-2 : tie.Need-returns-2
 returns-2 c =
     let a = c .before .before .before .before .before .before .before .before .before .args in
     let set = c .before .before .before .settings-for .ensures in
-    let e = chooseSaid (a .table .now) (a .n) (a .f) _ _ (set .0) (set .1) (a .v) (a .start) _ (a .out .now) (sym (c .before .before .before .before .before .before .is-laid .ensures) ∙ c .before .before .before .before .before .if1 .taken) (c .before .before .before .before .if2 .taken)
+    let e = chooseSaid (a .table .now) (a .n) (a .f) _ _ (set .0) (set .1) (a .v) (a .start) _ (a .out .now)
+    (sym (c .before .before .before .before .before .before .is-laid .ensures) ∙ c .before .before .before .before .before .if1 .taken)
+    (c .before .before .before .before .if2 .taken)
     (sym (ap chosen (c .enum-told .given .1)) ∙ c .before .before .choose .ensures) in
     (ap (λ (x : Answer). x .code) e, ap (λ (x : Answer). x .out) e)
 

@@ -17,19 +17,22 @@ settings-for-requires c κs = search needs
 safe-by-requires : tie.Need-safe-by-requires
 safe-by-requires c κs =
     let a = c .before .before .before .before .args in
-    laidParts (a .table .now) (a .n) (a .f) _ _ (c .settings-for .ensures .0) (c .settings-for .ensures .1) (sym (c .before .before .is-laid .ensures) ∙ c .before .if1 .taken)
+    laidParts (a .table .now) (a .n) (a .f) _ _ (c .settings-for .ensures .0) (c .settings-for .ensures .1)
+    (sym (c .before .before .is-laid .ensures) ∙ c .before .if1 .taken)
 
 returns : tie.Need-returns
 returns c =
     let a = c .before .before .before .before .before .before .args in
     let set = c .before .before .settings-for .ensures in
-    safeSaid (a .table .now) (a .n) (a .f) _ _ (set .0) (set .1) (a .v) (a .p) (a .three) true (sym (c .before .before .before .before .is-laid .ensures) ∙ c .before .before .before .if1 .taken) (sym (c .if2 .taken) ∙ c .before .safe-by .ensures)
+    safeSaid (a .table .now) (a .n) (a .f) _ _ (set .0) (set .1) (a .v) (a .p) (a .three) true
+    (sym (c .before .before .before .before .is-laid .ensures) ∙ c .before .before .before .if1 .taken) (sym (c .if2 .taken) ∙ c .before .safe-by .ensures)
 
 returns-2 : tie.Need-returns-2
 returns-2 c =
     let a = c .before .before .before .before .before .before .args in
     let set = c .before .before .settings-for .ensures in
-    safeSaid (a .table .now) (a .n) (a .f) _ _ (set .0) (set .1) (a .v) (a .p) (a .three) false (sym (c .before .before .before .before .is-laid .ensures) ∙ c .before .before .before .if1 .taken) (sym (c .if2 .left) ∙ c .before .safe-by .ensures)
+    safeSaid (a .table .now) (a .n) (a .f) _ _ (set .0) (set .1) (a .v) (a .p) (a .three) false
+    (sym (c .before .before .before .before .is-laid .ensures) ∙ c .before .before .before .if1 .taken) (sym (c .if2 .left) ∙ c .before .safe-by .ensures)
 
 returns-3 : tie.Need-returns-3
 returns-3 c =
