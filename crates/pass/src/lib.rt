@@ -154,16 +154,23 @@ fn act_in(rec: &mut [u8], act: Act) -> Entries
 
 // ---- steps
 
+// The same on an array: a step's own bytes are lent as one, and so they are not copied.
+fn act_here(bytes: &mut [u8; layout::SIZE], act: Act) -> Entries
+    requires { ⌜ Ready (now bytes) × Votes (asAct act) ⌝ }
+    ensures { λ e. ⌜ Did (taken (contentsIn (now (bytes .entry))) (asAct act)) (now (bytes .exit)) e ⌝ }
+{
+    act_in(bytes, act)
+}
+
 impl Record {
     // The act is done on a record by value.
-    fn act_on(self, act: Act) -> Stepped
+    fn act_on(mut self, act: Act) -> Stepped
         requires { ⌜ Ready (self .bytes) × Votes (asAct act) ⌝ }
         ensures { λ s. ⌜ Did (taken (contentsIn (self .bytes)) (asAct act)) (s .left .bytes) (s .entries) ⌝ }
     {
-        let mut bytes = self.bytes;
-        let entries = act_in(&mut bytes, act);
+        let entries = act_here(&mut self.bytes, act);
         Stepped {
-            left: Record { bytes },
+            left: self,
             entries,
         }
     }
