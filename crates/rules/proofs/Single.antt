@@ -66,7 +66,7 @@ allowsUnder r p u h = go (r .lock) h
   where
     go : (o : Option Vote) → (isNone o || holds (fits p u) o) ≡ true → leb (viewOf o) u ≡ true
     go none e = le-leb 0 u (omega arith)
-    go (some x) e = bothSplit (leb (x .view) u) _ e .0
+    go (some x) e = bothSplit (leb (x .view) u) (not (eqb (x .view) u) || eqb (x .plan) p) e .0
 
 -- A lock that is not above a view stands against no plan at a later one.
 pub underAllows : (r : Report) (p u w : ℕ) → u < w → under u r ≡ true → allows p w r ≡ true
