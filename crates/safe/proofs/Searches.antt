@@ -31,7 +31,8 @@ use Rattle.claims.specs.Rows.{rowsSize, countOf, forPlan, Fits, Tells, SameBelo
 use Rattle.claims.specs.Table.{column}
 use Rattle.claims.proofs.Rows.{countWhere, rowKept, servingNone, servingNext}
 use Rattle.safe.specs.Choices.{ruleOf, apart, Found, better}
-use Rattle.safe.specs.Searches.{lockRow, allowedIn, servedFrom, safeIn, passesIn, triedAt, triedCount, smallestFrom, smallestOf, Pair, two, unclaimed, lone, Falling, Laid, Prepared}
+use Rattle.safe.specs.Searches.{lockRow, allowedIn, servedFrom, safeIn, passesIn, triedAt, triedCount, smallestFrom, smallestOf}
+use Rattle.safe.specs.Searches.{Pair, two, unclaimed, lone, Falling, Laid, Prepared}
 use Rattle.safe.proofs.Locks.{someBlocked}
 
 -- ---- the views that serve a plan

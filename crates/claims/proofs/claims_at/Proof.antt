@@ -28,7 +28,8 @@ long-requires c κs = search needs
 loop-holds : tie.Need-loop-holds Inv-loop μ-loop
 loop-holds c =
     let a = c .before .before .before .args in
-    (omega arith, c .before .before .before .pre .2, λ i low. refl, rowNone (reportsIn (a .table .now)) (λ p. claims p (c .long .result)) (a .plans .now) (a .at))
+    let pre = c .before .before .before .pre in
+    (omega arith, pre .2, λ i low. refl, rowNone (reportsIn (a .table .now)) (λ p. claims p (c .long .result)) (a .plans .now) (a .at))
 
 claim-share-requires : tie.Need-claim-share-requires Inv-loop μ-loop
 claim-share-requires c κs = search needs
@@ -57,8 +58,9 @@ add-every c =
     let at = c .before .before .before .before .loop in
     let add = c .before .before .claim-share in
     let x = getD (a .table .now) (column * 2 + at .r) 0 in
-    let most = shareFits (λ p. reporting (reportsIn (a .table .now)) (claims p (c .before .before .before .before .before .long .result)) (at .r)) x (add .result .every)
-    (add .result .some) (add .ensures) in
+    let view = c .before .before .before .before .before .long .result in
+    let s = add .result in
+    let most = shareFits (λ p. reporting (reportsIn (a .table .now)) (claims p view) (at .r)) x (s .every) (s .some) (add .ensures) in
     omega (arith, at .inv .3 .most, most)
 
 add-some : tie.Need-add-some Inv-loop μ-loop
@@ -67,8 +69,9 @@ add-some c =
     let at = c .before .before .before .before .before .loop in
     let add = c .before .before .before .claim-share in
     let x = getD (a .table .now) (column * 2 + at .r) 0 in
-    let most = shareFits (λ p. reporting (reportsIn (a .table .now)) (claims p (c .before .before .before .before .before .before .long .result)) (at .r)) x (add .result .every)
-    (add .result .some) (add .ensures) in
+    let view = c .before .before .before .before .before .before .long .result in
+    let s = add .result in
+    let most = shareFits (λ p. reporting (reportsIn (a .table .now)) (claims p view) (at .r)) x (s .every) (s .some) (add .ensures) in
     omega (arith, at .inv .3 .most, most)
 
 add-r : tie.Need-add-r Inv-loop μ-loop

@@ -72,7 +72,8 @@ smallest-safe-requires c κs =
 
 returns-4 : tie.Need-returns-4
 returns-4 c =
-    let a = c .before .before .before .before .before .before .before .before .before .before .before .before .before .before .before .before .before .before .args in
+    let entry = c .before .before .before .before .before .before .before .before .before in
+    let a = entry .before .before .before .before .before .before .before .before .before .args in
     let rs = reportsIn (a .table .now) in
     let u = c .before .before .before .before .before .before .before .before .before .before .before .before .before .lowest-view .result in
     let l : Lowest (equals (a .n) (a .f)) rs (a .v) u

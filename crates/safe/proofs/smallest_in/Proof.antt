@@ -70,8 +70,8 @@ loop-again c =
     let x = getD (a .plans .now) (row .result + at .r) 0 in
     let is = ap (λ (o : ℕ). getD (a .plans .now) (o + at .r) 0) (row .ensures) in (
       omega arith,
-      smallestStep (chosen (a .best)) (passesIn (a .plans .now) (a .c) (a .locked)) (λ i. getD (a .plans .now) (triedAt (a .locked) + i) 0) (at .r) x (chosen (at .found))
-          (chosen (next .result)) is (next .ensures) (at .inv .1),
+      smallestStep (chosen (a .best)) (passesIn (a .plans .now) (a .c) (a .locked)) (λ i. getD (a .plans .now) (triedAt (a .locked) + i) 0) (at .r) x
+          (chosen (at .found)) (chosen (next .result)) is (next .ensures) (at .inv .1),
       smallerTwice x (passesIn (a .plans .now) (a .c) (a .locked) x) (chosen (at .found)) (chosen (next .result)) (next .ensures),
       at .inv .3,
       at .inv .4,
