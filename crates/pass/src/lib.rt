@@ -309,8 +309,7 @@ fn run_step(rec: &mut [u8], k: u8, act: Act, out: &mut [u8], at: usize) -> usize
     let r = load(rec);
     let s = r.step_at(k, act);
     let entries = s.entries;
-    let left = s.left;
-    store(left, rec);
+    store(s.left, rec);
     write_entries(out, at, entries)
 }
 
