@@ -163,10 +163,10 @@ fn act_here(bytes: &mut [u8; layout::SIZE], act: Act) -> Entries
 }
 
 impl Record {
-    // The act is done on a record by value.
-    fn act_on(mut self, act: Act) -> Stepped
-        requires { ⌜ Ready (self .bytes) × Votes (asAct act) ⌝ }
-        ensures { λ s. ⌜ Did (taken (contentsIn (self .bytes)) (asAct act)) (s .left .bytes) (s .entries) ⌝ }
+    // A: to ask for a view that f + 1 vaults ask for.
+    pub fn step_a(mut self, act: Act) -> Stepped
+        requires { ⌜ Ready (self .bytes) × (asAct act ≡ actA (contentsIn (self .bytes))) ⌝ }
+        ensures { λ s. ⌜ Took (stepA (contentsIn (self .bytes))) s ⌝ }
     {
         let entries = act_here(&mut self.bytes, act);
         Stepped {
@@ -175,68 +175,88 @@ impl Record {
         }
     }
 
-    // A: to ask for a view that f + 1 vaults ask for.
-    pub fn step_a(self, act: Act) -> Stepped
-        requires { ⌜ Ready (self .bytes) × (asAct act ≡ actA (contentsIn (self .bytes))) ⌝ }
-        ensures { λ s. ⌜ Took (stepA (contentsIn (self .bytes))) s ⌝ }
-    {
-        self.act_on(act)
-    }
-
     // B: to enter a view that a quorum asks for.
-    pub fn step_b(self, act: Act) -> Stepped
+    pub fn step_b(mut self, act: Act) -> Stepped
         requires { ⌜ Ready (self .bytes) × (asAct act ≡ actB (contentsIn (self .bytes))) ⌝ }
         ensures { λ s. ⌜ Took (stepB (contentsIn (self .bytes))) s ⌝ }
     {
-        self.act_on(act)
+        let entries = act_here(&mut self.bytes, act);
+        Stepped {
+            left: self,
+            entries,
+        }
     }
 
     // C: to propose, where the vault leads.
-    pub fn step_c(self, act: Act) -> Stepped
+    pub fn step_c(mut self, act: Act) -> Stepped
         requires { ⌜ Ready (self .bytes) × (asAct act ≡ actC (contentsIn (self .bytes))) ⌝ }
         ensures { λ s. ⌜ Took (stepC (contentsIn (self .bytes))) s ⌝ }
     {
-        self.act_on(act)
+        let entries = act_here(&mut self.bytes, act);
+        Stepped {
+            left: self,
+            entries,
+        }
     }
 
     // D: to send vote-1 for the leader's proposal.
-    pub fn step_d(self, act: Act) -> Stepped
+    pub fn step_d(mut self, act: Act) -> Stepped
         requires { ⌜ Ready (self .bytes) × (asAct act ≡ actD (contentsIn (self .bytes))) ⌝ }
         ensures { λ s. ⌜ Took (stepD (contentsIn (self .bytes))) s ⌝ }
     {
-        self.act_on(act)
+        let entries = act_here(&mut self.bytes, act);
+        Stepped {
+            left: self,
+            entries,
+        }
     }
 
     // E: to send vote-2 on a quorum of vote-1.
-    pub fn step_e(self, act: Act) -> Stepped
+    pub fn step_e(mut self, act: Act) -> Stepped
         requires { ⌜ Ready (self .bytes) × (asAct act ≡ actVote (contentsIn (self .bytes)) 1) ⌝ }
         ensures { λ s. ⌜ Took (stepVote 1 (contentsIn (self .bytes))) s ⌝ }
     {
-        self.act_on(act)
+        let entries = act_here(&mut self.bytes, act);
+        Stepped {
+            left: self,
+            entries,
+        }
     }
 
     // F: to send vote-3 on a quorum of vote-2.
-    pub fn step_f(self, act: Act) -> Stepped
+    pub fn step_f(mut self, act: Act) -> Stepped
         requires { ⌜ Ready (self .bytes) × (asAct act ≡ actVote (contentsIn (self .bytes)) 2) ⌝ }
         ensures { λ s. ⌜ Took (stepVote 2 (contentsIn (self .bytes))) s ⌝ }
     {
-        self.act_on(act)
+        let entries = act_here(&mut self.bytes, act);
+        Stepped {
+            left: self,
+            entries,
+        }
     }
 
     // G: to send vote-4 on a quorum of vote-3.
-    pub fn step_g(self, act: Act) -> Stepped
+    pub fn step_g(mut self, act: Act) -> Stepped
         requires { ⌜ Ready (self .bytes) × (asAct act ≡ actVote (contentsIn (self .bytes)) 3) ⌝ }
         ensures { λ s. ⌜ Took (stepVote 3 (contentsIn (self .bytes))) s ⌝ }
     {
-        self.act_on(act)
+        let entries = act_here(&mut self.bytes, act);
+        Stepped {
+            left: self,
+            entries,
+        }
     }
 
     // H: to decide.
-    pub fn step_h(self, act: Act) -> Stepped
+    pub fn step_h(mut self, act: Act) -> Stepped
         requires { ⌜ Ready (self .bytes) × (asAct act ≡ actH (contentsIn (self .bytes))) ⌝ }
         ensures { λ s. ⌜ Took (stepH (contentsIn (self .bytes))) s ⌝ }
     {
-        self.act_on(act)
+        let entries = act_here(&mut self.bytes, act);
+        Stepped {
+            left: self,
+            entries,
+        }
     }
 
     // The step of a number, 0 to 7 for A to H.
