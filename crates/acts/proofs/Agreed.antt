@@ -11,13 +11,13 @@ use mathlib.Core.Option.{Option, none, some}
 use native.Mathlib.Omega.{arith}
 use lib.Dec.{leb, eqb}
 use borrow.Author.Tests.{eq-eqb, ne-eqb}
-use Rattle.quorum.specs.Sets.{equals, weigh, total, isQuorum}
+use Rattle.quorum.specs.Sets.{equals, total, isQuorum}
 use Rattle.quorum.proofs.Bools.{which, clash}
 use Rattle.quorum.proofs.Laws.{weighSame}
 use Rattle.rules.specs.Options.{isNone, holds}
 use Rattle.frame.specs.declared.Report.{Report}
 use Rattle.record.specs.Slots as slots
-use Rattle.record.specs.Slots.{rows, frameSlot, decisionSlot, slotOf}
+use Rattle.record.specs.Slots.{frameSlot, decisionSlot, slotOf}
 use Rattle.layout.specs.Layout.{slotIn}
 use Rattle.protocol.specs.Record.{when, each, reported, planNow, sentNow}
 use Rattle.protocol.specs.Pass.{cast, decide, hasQuorum, agreed, actVote, actH}

@@ -4,16 +4,16 @@
 -- Assumes nothing.
 use Prim.Native.Nat.{ℕ, zero, suc, _+_, _-_, _≤_, _<_, max}
 use mathlib.Core.Path.{_≡_, refl, sym, _∙_, ap, fun-ext}
-use mathlib.Core.Bool.{Bool, true, false, cond, not, _&&_}
+use mathlib.Core.Bool.{Bool, true, false, not, _&&_}
 use mathlib.Core.List.{List}
 use mathlib.Core.Option.{Option, none, some}
 use native.Mathlib.Omega.{arith}
 use native.Mathlib.Decide.{decLt}
 use lib.Dec.{leb, ltb, eqb}
-use borrow.Author.Tests.{eqb-true, leb-true, ltb-true, lt-ltb, le-ltb, le-leb, lt-leb}
+use borrow.Author.Tests.{eqb-true, leb-true, lt-ltb, le-ltb, le-leb, lt-leb}
 use Rattle.quorum.specs.Sets.{Set, weigh, isQuorum, isBlocking}
-use Rattle.quorum.proofs.Bools.{which, bothSplit, bothJoin, clash}
-use Rattle.quorum.proofs.Laws.{weighNone, weighSame, totalEquals}
+use Rattle.quorum.proofs.Bools.{bothSplit}
+use Rattle.quorum.proofs.Laws.{weighSame, totalEquals}
 use Rattle.rules.specs.Options.{holds}
 use Rattle.rules.proofs.Laws.{holdsWhere}
 use Rattle.record.specs.Slots as slots

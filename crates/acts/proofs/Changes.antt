@@ -5,14 +5,13 @@
 use Prim.Native.Nat.{ℕ, zero, suc, _+_, _-_, _≤_, _<_, max}
 use mathlib.Core.Path.{_≡_, refl, sym, _∙_, ap}
 use mathlib.Core.Logic.{_≢_}
-use mathlib.Core.Bool.{Bool, true, false, cond, not, _&&_}
+use mathlib.Core.Bool.{Bool, true, false, cond, _&&_}
 use mathlib.Core.List.{List}
 use mathlib.Core.Option.{Option, none, some}
 use native.Mathlib.Omega.{arith}
-use native.Mathlib.Numerals.{add-one}
 use native.Mathlib.Decide.{decLt, ℕ-discrete}
 use lib.Dec.{leb, ltb, eqb}
-use lib.ListN.{length, getD, take, drop, set, length-take}
+use lib.ListN.{length, getD, take, set, length-take}
 use lib.Seq.{getD-set-same, getD-set-other, getD-take}
 use borrow.Author.Tests.{eq-eqb, ne-eqb, lt-ltb, le-ltb, le-leb, lt-leb, leb-true}
 use Rattle.quorum.specs.Sets.{Set, weigh}
@@ -44,9 +43,6 @@ weighSlack set k (suc d) =
 module _ (views : List ℕ) where
   timesMore : (k w : ℕ) → times views (k + 1) w ≡ times views k w + cond (eqb w (getD views k 0)) 1 0
   timesMore k w = weighMore (λ i. 1) (λ j. eqb w (getD views j 0)) k
-
-  timesSame : (k w : ℕ) → w ≡ getD views k 0 → times views (k + 1) w ≡ times views k w + 1
-  timesSame k w e = timesMore k w ∙ rw (eq-eqb w (getD views k 0) e)
 
   timesOther : (k w : ℕ) → w ≢ getD views k 0 → times views (k + 1) w ≡ times views k w
   timesOther k w e =

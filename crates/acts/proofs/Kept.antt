@@ -2,7 +2,7 @@
 -- contents of a record have the frame of a kind and a sender where that slot is present, for the 64 senders that have one. So the
 -- sets that steps count are the same, below n.
 -- Assumes nothing.
-use Prim.Native.Nat.{ℕ, suc, _+_, _*_, _≤_, _<_}
+use Prim.Native.Nat.{ℕ, suc, _+_, _≤_, _<_}
 use mathlib.Core.Path.{_≡_, refl, sym, _∙_, ap}
 use mathlib.Core.Bool.{Bool, true, false, cond, _&&_}
 use mathlib.Core.List.{List}
@@ -20,7 +20,7 @@ use Rattle.frame.specs.Refusal.{present}
 use Rattle.record.specs.Slots as slots
 use Rattle.record.specs.Slots.{rows, frameSlot, reportSlot, slotOf}
 use Rattle.keeping.specs.Kept.{bodyIn, frameIn, keptIn}
-use Rattle.layout.specs.Layout.{partPlace, slotIn}
+use Rattle.layout.specs.Layout.{slotIn}
 use Rattle.protocol.specs.Record.{when, each, reported, reportBy, kindOf, changeOf, planNow, reportsOf}
 use Rattle.contents.specs.Contents.{contents}
 use Rattle.contents.proofs.Clean.{keptAt}
@@ -28,7 +28,7 @@ use Rattle.contents.proofs.Acts.{voteAt}
 use Rattle.acts.specs.Parts.{sharedPart, blockPart, blockPlace}
 use Rattle.acts.specs.Changes.{asks, changeIn}
 use Rattle.acts.specs.Votes.{voted, voteIn}
-use Rattle.acts.specs.Reports.{toldIn, reportsBy, Filled}
+use Rattle.acts.specs.Reports.{reportsBy, Filled}
 use Rattle.acts.proofs.Parts.{Reads}
 use Rattle.acts.proofs.Reports.{filledSame, filledAll}
 

@@ -12,7 +12,7 @@ use native.Mathlib.Decide.{ℕ-discrete, decLt}
 use lib.Dec.{ltb, eqb}
 use lib.ListN.{length, getD, set, replicate, length-set, length-replicate, getD-replicate}
 use lib.Seq.{getD-set-same, getD-set-other}
-use borrow.Author.Tests.{eq-eqb, ne-eqb, lt-ltb, le-ltb}
+use borrow.Author.Tests.{ne-eqb, lt-ltb, le-ltb}
 use Rattle.rules.specs.Options.{isNone}
 use Rattle.rules.specs.Rules.{Vote, Report, Reports}
 use Rattle.claims.specs.Table.{column, tableSize, voteOf, voteIn, reporter, reportsIn}
@@ -23,7 +23,7 @@ use Rattle.layout.specs.Layout.{slotSize, slotIn}
 use Rattle.protocol.specs.Record.{when, reported}
 use Rattle.acts.specs.Parts.{blockPlace}
 use Rattle.acts.specs.Votes.{voted}
-use Rattle.acts.specs.Reports.{toldIn, reportsBy, aboveOf, withVote, withReport, Filled}
+use Rattle.acts.specs.Reports.{reportsBy, aboveOf, withVote, withReport, Filled}
 
 -- ---- one vote
 

@@ -2,19 +2,29 @@
 -- Assumes nothing.
 use Prim.Native.Nat.{ℕ, _+_, _*_, _≤_, _<_}
 use mathlib.Core.Path.{_≡_}
-use mathlib.Core.Bool.{cond, _&&_}
+use mathlib.Core.Bool.{Bool, cond, _&&_}
 use mathlib.Core.List.{List}
-use mathlib.Core.Option.{some}
+use mathlib.Core.Option.{Option, some}
 use lib.Dec.{eqb}
 use lib.ListN.{length, getD, set}
-use Rattle.rules.specs.Rules.{Report, Reports}
+use Rattle.rules.specs.Rules.{Report, Reports, rule3}
+use Rattle.rules.specs.Counts.{safe}
 use Rattle.claims.specs.Table.{column, tableSize, reportsIn}
 use Rattle.frame.specs.declared.Report as Slot
 use Rattle.frame.specs.Refusal.{present}
 use Rattle.record.specs.Slots.{frameSlot, reportSlot}
 use Rattle.layout.specs.Layout.{slotIn}
-use Rattle.protocol.specs.Record.{when, reported}
+use Rattle.protocol.specs.Record.{Record, when, reported, vaults, reportsOf}
+use Rattle.protocol.specs.Pass as pass
 use Rattle.acts.specs.Parts.{blockPlace}
+
+-- 'its starting plan if that is safe by Rule 1, else the smallest safe plan', of a record's contents.
+abbrev pub proposalOf : Record → Option ℕ
+proposalOf c = pass.chosen c
+
+-- 'safe by Rule 3', of a record's contents.
+abbrev pub approvedBy : Record → ℕ → Bool
+approvedBy c p = safe rule3 (vaults c) (reportsOf c rule3) (c .view) p
 
 -- The three votes that sender j's suggest (kind 7) or proof (kind 8) reports.
 abbrev pub toldIn : List ℕ → ℕ → ℕ → Report

@@ -3,7 +3,7 @@
 use frame::Report;
 use safe::Choice;
 use settings::Settings;
-ghost use Prim.Native.Nat.{ℕ, _+_, _-_, _*_, _≤_, _<_};
+ghost use Prim.Native.Nat.{_+_, _-_, _*_, _≤_, _<_};
 ghost use mathlib.Core.Path.{_≡_};
 ghost use mathlib.Core.Bool.{not, cond};
 ghost use lib.Dec.{leb, ltb, eqb};
@@ -15,13 +15,13 @@ ghost use Rattle.record.specs.Slots.{rows, slotCount, frameSlot};
 ghost use Rattle.claims.specs.Table.{column, tableSize};
 ghost use Rattle.layout.specs.Layout.{slotSize, sharedSize, blockSize, slotIn, decodeRecord};
 ghost use Rattle.safe.specs.Choices.{chosen};
-ghost use Rattle.protocol.specs.Pass.{actA, actB, actC, actD, actVote, actH};
+ghost use Rattle.protocol.specs.Pass.{mayPropose, actA, actB, actC, actD, actVote, actH};
 ghost use Rattle.contents.specs.Contents.{contentsIn, Ready};
 ghost use Rattle.acts.specs.Acts.{asAct, actAt};
 ghost use Rattle.acts.specs.Parts.{blockPlace};
 ghost use Rattle.acts.specs.Changes.{asks, changeIn, newsFrom, enough, times, raisedAt, Gathered, Highest};
 ghost use Rattle.acts.specs.Votes.{voted, voteIn, votes, meet, after, agreedIn, Leads};
-ghost use Rattle.acts.specs.Reports.{reportsBy, aboveOf, withVote, withReport, Filled};
+ghost use Rattle.acts.specs.Reports.{proposalOf, approvedBy, reportsBy, aboveOf, withVote, withReport, Filled};
 
 // What a step does: ask for a view, enter it, send a vote (0: a proposal) for a plan, decide a plan, or nothing.
 pub enum Act {
@@ -271,23 +271,48 @@ fn gather(block: &[u8], kind: u8, n: u8, v: u32) -> [u64; claims::TABLE]
     table
 }
 
+// Whether the vault leads this view, and has not proposed in it.
+fn may_propose(rec: &[u8], set: Settings, view: u32) -> bool
+    requires { ⌜ Ready (now rec) × (set ≡ decodeRecord (now rec) .set) × (view ≡ decodeRecord (now rec) .view) ⌝ }
+    ensures { λ b. ⌜ b ≡ mayPropose (contentsIn (now (rec .entry))) ⌝ }
+{
+    if leader(view, set.n as usize) != set.id as usize {
+        return false;
+    }
+    !sent(&rec[layout::SHARED..layout::SIZE], 0, set.id, view)
+}
+
+// The plan to propose by the kept suggests.
+fn proposal(rec: &[u8], set: Settings, view: u32) -> Choice
+    requires { ⌜ Ready (now rec) × (set ≡ decodeRecord (now rec) .set) × (view ≡ decodeRecord (now rec) .view) ⌝ }
+    ensures { λ c. ⌜ chosen c ≡ proposalOf (contentsIn (now (rec .entry))) ⌝ }
+{
+    let table = gather(&rec[layout::SHARED..layout::SIZE], 7, set.n, view);
+    safe::choose(&table, set, view, layout::plan_of(rec))
+}
+
 // Step C.
 fn act_c(rec: &[u8], set: Settings, view: u32) -> Act
     requires { ⌜ Ready (now rec) × (set ≡ decodeRecord (now rec) .set) × (view ≡ decodeRecord (now rec) .view) ⌝ }
     ensures { λ r. ⌜ asAct r ≡ actC (contentsIn (now (rec .entry))) ⌝ }
 {
-    if leader(view, set.n as usize) != set.id as usize {
-        return Act::Nothing;
+    if may_propose(rec, set, view) {
+        let choice = proposal(rec, set, view);
+        let Choice::Plan(p) = choice else {
+            return Act::Nothing;
+        };
+        return Act::Cast(0, p);
     }
-    let block = &rec[layout::SHARED..layout::SIZE];
-    if sent(block, 0, set.id, view) {
-        return Act::Nothing;
-    }
-    let table = gather(block, 7, set.n, view);
-    match safe::choose(&table, set, view, layout::plan_of(rec)) {
-        Choice::Plan(p) => Act::Cast(0, p),
-        Choice::Nothing => Act::Nothing,
-    }
+    Act::Nothing
+}
+
+// Whether p is safe by the kept proofs.
+fn approved(rec: &[u8], set: Settings, view: u32, p: u64) -> bool
+    requires { ⌜ Ready (now rec) × (set ≡ decodeRecord (now rec) .set) × (view ≡ decodeRecord (now rec) .view) ⌝ }
+    ensures { λ b. ⌜ b ≡ approvedBy (contentsIn (now (rec .entry))) p ⌝ }
+{
+    let table = gather(&rec[layout::SHARED..layout::SIZE], 8, set.n, view);
+    safe::safe_by(&table, set, view, p, true)
 }
 
 // Step D.
@@ -302,8 +327,7 @@ fn act_d(rec: &[u8], set: Settings, view: u32) -> Act
     let at = vote_place(0, leader(view, set.n as usize) as u8);
     if is_of_view(block, at, view) {
         let p = layout::plan_at(block, at);
-        let table = gather(block, 8, set.n, view);
-        if safe::safe_by(&table, set, view, p, true) {
+        if approved(rec, set, view, p) {
             return Act::Cast(1, p);
         }
         return Act::Nothing;

@@ -2,7 +2,9 @@
 -- Assumes nothing.
 use mathlib.Core.Path.{sym, _∙_, ap}
 use mathlib.Core.Bool.{true, false}
+use Rattle.protocol.specs.Record.{Record}
 use Rattle.protocol.specs.Pass.{actD}
+use Rattle.acts.specs.Reports.{approvedBy}
 use Rattle.acts.proofs.Parts.{blockLength, seen, seat, contentsSeen, reads}
 use Rattle.acts.proofs.Proposals.{votedOnce, unproposed, votesOne}
 use borrow.Author.Needs.{needs}
@@ -44,21 +46,18 @@ leader-requires : tie.Need-leader-requires
 leader-requires c κs =
     let e = c .before .before .before .before .before in
     let set = seat (e .args .rec .now) (e .args .set) (e .args .view) (e .pre .0) (e .pre .1) (e .pre .2) in
-    let size = blockLength (e .args .rec .now) (e .pre .0) in
     omega (arith, set .least)
 
 cast-vote-place : tie.Need-cast-vote-place
 cast-vote-place c =
     let e = c .before .before .before .before .before .before in
     let set = seat (e .args .rec .now) (e .args .set) (e .args .view) (e .pre .0) (e .pre .1) (e .pre .2) in
-    let size = blockLength (e .args .rec .now) (e .pre .0) in
     omega (arith, set .most, c .leader .ensures .1)
 
 vote-place-requires : tie.Need-vote-place-requires
 vote-place-requires c κs =
     let e = c .before .before .before .before .before .before in
     let set = seat (e .args .rec .now) (e .args .set) (e .args .view) (e .pre .0) (e .pre .1) (e .pre .2) in
-    let size = blockLength (e .args .rec .now) (e .pre .0) in
     (omega arith, omega (arith, set .most, c .leader .ensures .1))
 
 is-of-view-requires : tie.Need-is-of-view-requires
@@ -75,30 +74,13 @@ plan-at-requires c κs =
     let size = blockLength (e .args .rec .now) (e .pre .0) in
     omega (arith, size, set .most, c .before .before .before .leader .ensures .1, c .before .before .vote-place .ensures .1)
 
-gather-requires : tie.Need-gather-requires
-gather-requires c κs =
-    let e = c .before .before .before .before .before .before .before .before .before .before in
-    let set = seat (e .args .rec .now) (e .args .set) (e .args .view) (e .pre .0) (e .pre .1) (e .pre .2) in
-    let size = blockLength (e .args .rec .now) (e .pre .0) in
-    (size, set .most, omega arith, omega arith)
-
-slice-aggregate-safe-by : tie.Need-slice-aggregate-safe-by
-slice-aggregate-safe-by c = search needs
-
-safe-by-requires : tie.Need-safe-by-requires
-safe-by-requires c κs =
-    let table = c .before in
-    let kept = table .before .before in
-    let unsent = kept .before .before .before .before .before in
-    let e = unsent .before .before .before .before in
-    let set = seat (e .args .rec .now) (e .args .set) (e .args .view) (e .pre .0) (e .pre .1) (e .pre .2) in
-    (table .gather .ensures .size, set .most, omega (arith, set .third))
+approved-requires : tie.Need-approved-requires
+approved-requires c κs = search needs
 
 returns-2 : tie.Need-returns-2
 returns-2 c =
     let test = c .before in
-    let table = test .before .before in
-    let plan = table .before in
+    let plan = test .before in
     let kept = plan .before in
     let there = kept .before in
     let at = there .before in
@@ -111,16 +93,15 @@ returns-2 c =
     let r = seen s (a .set) (a .view) in
     let here = reads s (a .set) (a .view) (e .pre .0) (e .pre .1) (e .pre .2) in
     let is = contentsSeen s (a .set) (a .view) (e .pre .0) (e .pre .1) (e .pre .2) in
+    let safe = sym (c .if3 .taken) ∙ test .approved .ensures ∙ ap (λ (x : Record). approvedBy x (plan .plan-at .result)) (sym is) in
     votesOne s r here (told .sent .result) (told .sent .ensures) (l .leader .result) (at .vote-place .result) (l .leader .ensures .0) (l .leader .ensures .1)
     (at .vote-place .ensures .0) (there .is-of-view .result) (there .is-of-view .ensures) (unsent .if1 .left) (kept .if2 .taken)
-    (table .gather .result) (plan .plan-at .result) true (table .gather .ensures) (plan .plan-at .ensures) (sym (c .if3 .taken) ∙ test .safe-by .ensures)
-    ∙ ap actD is
+    (plan .plan-at .result) true (plan .plan-at .ensures) safe ∙ ap actD is
 
 returns-3 : tie.Need-returns-3
 returns-3 c =
     let test = c .before in
-    let table = test .before .before in
-    let plan = table .before in
+    let plan = test .before in
     let kept = plan .before in
     let there = kept .before in
     let at = there .before in
@@ -133,10 +114,10 @@ returns-3 c =
     let r = seen s (a .set) (a .view) in
     let here = reads s (a .set) (a .view) (e .pre .0) (e .pre .1) (e .pre .2) in
     let is = contentsSeen s (a .set) (a .view) (e .pre .0) (e .pre .1) (e .pre .2) in
+    let safe = sym (c .if3 .left) ∙ test .approved .ensures ∙ ap (λ (x : Record). approvedBy x (plan .plan-at .result)) (sym is) in
     votesOne s r here (told .sent .result) (told .sent .ensures) (l .leader .result) (at .vote-place .result) (l .leader .ensures .0) (l .leader .ensures .1)
     (at .vote-place .ensures .0) (there .is-of-view .result) (there .is-of-view .ensures) (unsent .if1 .left) (kept .if2 .taken)
-    (table .gather .result) (plan .plan-at .result) false (table .gather .ensures) (plan .plan-at .ensures) (sym (c .if3 .left) ∙ test .safe-by .ensures)
-    ∙ ap actD is
+    (plan .plan-at .result) false (plan .plan-at .ensures) safe ∙ ap actD is
 
 returns-4 : tie.Need-returns-4
 returns-4 c =
@@ -168,9 +149,7 @@ act-d-spec =
     vote-place-requires
     is-of-view-requires
     plan-at-requires
-    gather-requires
-    slice-aggregate-safe-by
-    safe-by-requires
+    approved-requires
     returns-2
     returns-3
     returns-4)
