@@ -34,7 +34,7 @@
  *            empty file for it.
  *
  * Version, targets, stack
- *   VAULT_VERSION is that of this header, vault_version() that of the library. The major number changes where frames or stored
+ *   VAULT_VERSION is that of this header. The major number changes where frames or stored
  *   records of an earlier version are no longer understood, the minor one where something is added.
  *   The library is for Linux on x86-64 (the C calling convention of that platform). It needs memcpy and memset, and nothing else.
  *   A call needs less than VAULT_STACK_SIZE bytes of stack; that bound is tested, not proved.
@@ -60,7 +60,6 @@ extern "C" {
 #define VAULT_LONGEST_OUTPUT 205  /* no call writes more bytes */
 #define VAULT_LONGEST_ENTRY 46    /* with the recipient byte */
 #define VAULT_LONGEST_FRAME 45
-#define VAULT_LONGEST_TEXT 120    /* no text of vault_refusal_text is longer */
 #define VAULT_STACK_SIZE 49152    /* no call needs more stack */
 #define VAULT_FEWEST 4            /* n is at least this */
 #define VAULT_MOST 64             /* and at most this */
@@ -112,9 +111,6 @@ enum vault_host_entry {
     VAULT_HOST_TIMER = 0x0b     /* view (4 bytes), milliseconds (4) */
 };
 
-/* VAULT_VERSION, as the library has it. */
-uint32_t vault_version(void);
-
 /* VAULT_RECORD_SIZE, as the library has it. */
 uint32_t vault_record_size(void);
 
@@ -132,22 +128,6 @@ uint32_t vault_frame(uint8_t *record, size_t record_length, uint8_t sender, cons
 /* The timer of a view has run out. It may be called again for the same view: the view-change is then sent once more.
  * Refusals: 1 to 3, 18, 19. */
 uint32_t vault_timer(uint8_t *record, size_t record_length, uint32_t view, uint8_t *output, size_t output_length);
-
-/* For a host that comes back: out[0] is the record's current view, out[1] the milliseconds of its timer, and the answer is
- * VAULT_ACCEPTED. Refusals, with `out` unchanged: 1 where out_count is below 2, 2 and 3 as for a frame. */
-uint32_t vault_current(const uint8_t *record, size_t record_length, uint32_t *out, size_t out_count);
-
-/* Likewise the decision: out[0] is its view, out[1] its plan, and the answer is VAULT_ACCEPTED + 1. Where nothing is decided the answer is
- * VAULT_ACCEPTED, and `out` is unchanged. Refusals as for vault_current. */
-uint32_t vault_decision(const uint8_t *record, size_t record_length, uint64_t *out, size_t out_count);
-
-/* Walks the entries of an output of which output_length bytes were written (the answer less VAULT_ACCEPTED): the length of the entry
- * that begins at `at`, its recipient byte included. 0 at the end, and where no entry begins. */
-uint32_t vault_entry(const uint8_t *output, size_t output_length, size_t at);
-
-/* Writes a sentence for a refusal's number, in ASCII and without a closing 0, and answers with its length. 0, and nothing written, where
- * there is no such refusal or the sentence is longer than the output. VAULT_LONGEST_TEXT bytes are enough for each. */
-uint32_t vault_refusal_text(uint32_t number, uint8_t *output, size_t output_length);
 
 #ifdef __cplusplus
 }
