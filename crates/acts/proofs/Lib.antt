@@ -7,3 +7,4 @@ pub mod Asked
 pub mod Agreed
 pub mod Proposals
 pub mod Numbers
+pub mod First

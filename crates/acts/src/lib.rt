@@ -283,12 +283,23 @@ fn may_propose(rec: &[u8], set: Settings, view: u32) -> bool
 }
 
 // The plan to propose by the kept suggests.
-fn proposal(rec: &[u8], set: Settings, view: u32) -> Choice
+fn plan_by_reports(rec: &[u8], set: Settings, view: u32) -> Choice
     requires { ⌜ Ready (now rec) × (set ≡ decodeRecord (now rec) .set) × (view ≡ decodeRecord (now rec) .view) ⌝ }
     ensures { λ c. ⌜ chosen c ≡ proposalOf (contentsIn (now (rec .entry))) ⌝ }
 {
     let table = gather(&rec[layout::SHARED..layout::SIZE], 7, set.n, view);
     safe::choose(&table, set, view, layout::plan_of(rec))
+}
+
+// The plan to propose: in view 0 every plan is safe, and no report is read.
+fn proposal(rec: &[u8], set: Settings, view: u32) -> Choice
+    requires { ⌜ Ready (now rec) × (set ≡ decodeRecord (now rec) .set) × (view ≡ decodeRecord (now rec) .view) ⌝ }
+    ensures { λ c. ⌜ chosen c ≡ proposalOf (contentsIn (now (rec .entry))) ⌝ }
+{
+    if view == 0 {
+        return Choice::Plan(layout::plan_of(rec));
+    }
+    plan_by_reports(rec, set, view)
 }
 
 // Step C.
@@ -307,12 +318,23 @@ fn act_c(rec: &[u8], set: Settings, view: u32) -> Act
 }
 
 // Whether p is safe by the kept proofs.
-fn approved(rec: &[u8], set: Settings, view: u32, p: u64) -> bool
+fn approved_by_reports(rec: &[u8], set: Settings, view: u32, p: u64) -> bool
     requires { ⌜ Ready (now rec) × (set ≡ decodeRecord (now rec) .set) × (view ≡ decodeRecord (now rec) .view) ⌝ }
     ensures { λ b. ⌜ b ≡ approvedBy (contentsIn (now (rec .entry))) p ⌝ }
 {
     let table = gather(&rec[layout::SHARED..layout::SIZE], 8, set.n, view);
     safe::safe_by(&table, set, view, p, true)
+}
+
+// Whether a plan is safe by Rule 3: in view 0 every plan is, and no report is read.
+fn approved(rec: &[u8], set: Settings, view: u32, p: u64) -> bool
+    requires { ⌜ Ready (now rec) × (set ≡ decodeRecord (now rec) .set) × (view ≡ decodeRecord (now rec) .view) ⌝ }
+    ensures { λ b. ⌜ b ≡ approvedBy (contentsIn (now (rec .entry))) p ⌝ }
+{
+    if view == 0 {
+        return true;
+    }
+    approved_by_reports(rec, set, view, p)
 }
 
 // Step D.

@@ -1,0 +1,60 @@
+-- `acts::approved_by_reports` meets its contract: the table has the proofs kept.
+-- Assumes nothing.
+use mathlib.Core.Path.{_∙_, ap}
+use Rattle.protocol.specs.Record.{Record}
+use Rattle.acts.proofs.Parts.{blockLength, seen, seat, contentsSeen, reads}
+use Rattle.acts.specs.Reports.{approvedBy}
+use Rattle.acts.proofs.Proposals.{approvedIs}
+use borrow.Author.Needs.{needs}
+use native.Mathlib.Omega.{arith}
+use Rattle.acts.proofs.approved_by_reports.Statement.{statement}
+use Rattle.acts.proofs.approved_by_reports.Tie as tie
+
+sub-gather : tie.Need-sub-gather
+sub-gather c = search needs
+
+part-gather-start : tie.Need-part-gather-start
+part-gather-start c = search needs
+
+part-gather-end : tie.Need-part-gather-end
+part-gather-end c = search needs
+
+gather-requires : tie.Need-gather-requires
+gather-requires c κs =
+    let e = c .before .before in
+    let set = seat (e .args .rec .now) (e .args .set) (e .args .view) (e .pre .0) (e .pre .1) (e .pre .2) in
+    let size = blockLength (e .args .rec .now) (e .pre .0) in
+    (size, set .most, omega arith, omega arith)
+
+slice-aggregate-safe-by : tie.Need-slice-aggregate-safe-by
+slice-aggregate-safe-by c = search needs
+
+safe-by-requires : tie.Need-safe-by-requires
+safe-by-requires c κs =
+    let table = c .before in
+    let e = table .before .before .before in
+    let set = seat (e .args .rec .now) (e .args .set) (e .args .view) (e .pre .0) (e .pre .1) (e .pre .2) in
+    (table .gather .ensures .size, set .most, omega (arith, set .third))
+
+returns : tie.Need-returns
+returns c =
+    let table = c .before .before in
+    let e = table .before .before .before in
+    let a = e .args in
+    let s = a .rec .now in
+    let r = seen s (a .set) (a .view) in
+    let here = reads s (a .set) (a .view) (e .pre .0) (e .pre .1) (e .pre .2) in
+    let is = contentsSeen s (a .set) (a .view) (e .pre .0) (e .pre .1) (e .pre .2) in
+    c .safe-by .ensures ∙ approvedIs s r here (table .gather .result) (a .p) (table .gather .ensures) ∙ ap (λ (x : Record). approvedBy x (a .p)) is
+
+pub approved-by-reports-spec : {M : Type 1} → statement M
+approved-by-reports-spec =
+    tie.close
+    (tie.spec
+    sub-gather
+    part-gather-start
+    part-gather-end
+    gather-requires
+    slice-aggregate-safe-by
+    safe-by-requires
+    returns)
