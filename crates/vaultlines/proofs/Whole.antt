@@ -56,8 +56,12 @@ module _ (rec₀ line₀ piece rec text page : List ℕ) (kept at i : ℕ) (so :
     -- No more of it than there is.
     toShort : to ≤ kept + length (firstLine (drop i piece))
     toShort =
-        omega (arith, keptShort (take kept text ++ firstLine (drop i piece)) text′ to keeps, length-append (take kept text) (firstLine (drop i piece)),
-        length-take-le kept text (omega arith))
+        omega (
+          arith,
+          keptShort (take kept text ++ firstLine (drop i piece)) text′ to keeps,
+          length-append (take kept text) (firstLine (drop i piece)),
+          length-take-le kept text (omega arith),
+        )
 
     pub endWithin : end ≤ length piece
     endWithin = omega (arith, so .within, firstShort (drop i piece), length-drop i piece)

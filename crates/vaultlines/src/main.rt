@@ -173,7 +173,14 @@ struct Place {
 }
 
 // A piece of input. The first len bytes of text are what is kept of the line that has begun; the page starts empty.
-fn feed(rec: &mut [u8], text: &mut [u8], len: usize, out: &mut [u8], page: &mut [u8], piece: &[u8]) -> Place
+fn feed(
+    rec: &mut [u8],
+    text: &mut [u8],
+    len: usize,
+    out: &mut [u8],
+    page: &mut [u8],
+    piece: &[u8],
+) -> Place
     requires { ⌜ (length (now text) ≡ keptSize) × (len ≤ keptSize) × (length (now out) ≡ outputSize) × (length (now page) ≡ pageSize) × (length (now piece) ≤ pieceSize) ⌝ }
     ensures { λ r. ⌜ Fed vaultLines keptSize (now (rec .entry)) (take len (now (text .entry))) (now (piece .entry)) (now (rec .exit)) (take (r .len) (now (text .exit))) (take (r .at) (now (page .exit))) ⌝ }
     ensures { λ r. ⌜ (r .len ≤ keptSize) × (r .at ≤ pageSize) ⌝ }
@@ -224,7 +231,13 @@ enum Ended {
 
 // Reads the input, piece by piece; what a piece prints is written out before more is awaited.
 // A proved loop has to end, and nothing says that the input does: the loop counts its turns down, from a number that no run uses up.
-fn read_all(rec: &mut [u8], text: &mut [u8], out: &mut [u8], page: &mut [u8], piece: &mut [u8]) -> Ended
+fn read_all(
+    rec: &mut [u8],
+    text: &mut [u8],
+    out: &mut [u8],
+    page: &mut [u8],
+    piece: &mut [u8],
+) -> Ended
     requires { ⌜ (length (now text) ≡ keptSize) × (length (now out) ≡ outputSize) × (length (now page) ≡ pageSize) × (length (now piece) ≡ pieceSize) ⌝ }
     ensures { λ e. ⌜ EndedWell (now (rec .entry)) e (now (rec .exit)) (now (text .exit)) ⌝ }
 {

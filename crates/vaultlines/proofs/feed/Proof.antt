@@ -63,9 +63,11 @@ answer-line-requires c κs =
     let t = c .before .before .before .before .before .before .before .before .take-line in
     let h = c .before .before .before .before .before .before .before .before .before .before .before in
     let l = h .loop in
-    let a = h .before .before .before .before .before .before .args in
-    (roomThere (now (a .rec)) (take (a .len) (now (a .text))) (now (a .piece)) (l .rec) (l .text) (l .page) (l .kept) (l .at) (l .i) (l .inv .4) (l .inv .1) (l .inv .3)
-    (t .last .0) (t .result .len) (t .result .next) (t .kept .0) (t .ensures .0) (t .ensures .1), l .inv .2)
+    let a = h .before .before .before .before .before .before .args in (
+      roomThere (now (a .rec)) (take (a .len) (now (a .text))) (now (a .piece)) (l .rec) (l .text) (l .page) (l .kept) (l .at) (l .i) (l .inv .4) (l .inv .1) (l .inv .3)
+          (t .last .0) (t .result .len) (t .result .next) (t .kept .0) (t .ensures .0) (t .ensures .1),
+      l .inv .2,
+    )
 
 add-i : tie.Need-add-i Inv-loop μ-loop
 add-i c =
