@@ -3,35 +3,39 @@
 -- Assumes nothing.
 use Prim.Native.Nat.{ℕ, suc, _+_, _*_, _-_, _≤_, _<_}
 use mathlib.Core.Path.{_≡_, refl, sym, ap, subst, _∙_}
-use mathlib.Core.List.{List, [], _∷_, _++_}
-use mathlib.Core.Option.{Option}
+use mathlib.Core.List.{List, [], _∷_}
+use mathlib.Core.Option.{Option, some}
 use native.Mathlib.Decide.{decLe}
 use native.Mathlib.Omega.{arith}
-use borrow.Author.Tests.{le-leb, lt-leb}
-use lib.ListN.{length, take, set, length-append, length-replicate}
-use lib.Seq.{length-take-le, take-suc-set, take-all, take-at}
+use lib.ListN.{length, take, length-replicate}
+use lib.Seq.{length-take-le}
 use Rattle.wire.specs.Fields.{Bytes}
 use Rattle.entry.specs.Layout.{entriesOf}
-use Rattle.contents.specs.Calls.{Left}
+use Rattle.contents.specs.Calls.{Left, gave}
+use Rattle.runs.specs.Runs.{recordIn}
 use Rattle.runs.specs.Left.{Kept, LeavesWell}
 use Rattle.vault.specs.declared.Answer.{Answer}
 use Rattle.vault.specs.declared.Answer.the-variants.{Written, Refused}
 use Rattle.vault.specs.Answers.{leftBy}
-use Rattle.vaultlines.specs.declared.Spelling.{Spelling}
-use Rattle.vaultlines.specs.declared.Spelling.the-variants.{Count, Bad}
-use Rattle.vaultlines.specs.Digits.{lineOf, bytesOf}
-use Rattle.vaultlines.specs.Lines.{entryLines, callOf, callLeft, zeroed, spelledLeft, lineLeft, printed, Shown, Answered}
-use Rattle.vaultlines.specs.Steps.{spells, countOf, Laid, Printable, roomAt, Fed}
+use Rattle.lines.specs.declared.Spelling.{Spelling}
+use Rattle.lines.specs.declared.Spelling.the-variants.{Count, Bad}
+use Rattle.lines.specs.Digits.{lineOf, refusalLine, bytesOf}
+use Rattle.lines.specs.Steps.{spells, countOf, Shown, Enough, Answered}
+use Rattle.lines.proofs.Digits.{lengthLine}
+use Rattle.lines.proofs.Spelled.{keptSpells, spelledShort}
+use Rattle.vaultlines.specs.Lines.{entryLines, callOf, callLeft, zeroed, spelledLeft, digitLimit, lineLeft, printed, vaultLines}
+use Rattle.vaultlines.specs.Steps.{outputSize, keptSize, answerSize, lineShare, Laid, Printable, Put}
 use Rattle.vaultlines.proofs.Entries.{laidShort}
-use Rattle.vaultlines.proofs.Calls.{callWell}
-use Rattle.vaultlines.proofs.Spelled.{keptSpells}
+use Rattle.vaultlines.proofs.Calls.{callWell, Alike, outputUnread, shortRefused}
 
-pub zeroedSize : length zeroed ≡ 256
+pub zeroedSize : length zeroed ≡ outputSize
 unfolding zeroed
-zeroedSize = length-replicate {A = ℕ} 256 0
+zeroedSize = length-replicate {A = ℕ} outputSize 0
+
+-- ---- a call's answer
 
 -- An answer that leaves what the call leaves has entries to print.
-pub callPrintable : (rec out s : List ℕ) → Bytes rec → Bytes s → length out ≡ 256 → (a : Answer) (rec′ out′ : List ℕ)
+pub callPrintable : (rec out s : List ℕ) → Bytes rec → Bytes s → length out ≡ outputSize → (a : Answer) (rec′ out′ : List ℕ)
     → leftBy a rec′ out′ ≡ callLeft rec out (callOf s) → Printable a out′
 callPrintable rec out s br bs size (Written n) rec′ out′ is =
     let well : Kept out n rec′ out′ = subst (LeavesWell rec out) (sym is) (callWell rec out s br bs) in
@@ -39,18 +43,30 @@ callPrintable rec out s br bs size (Written n) rec′ out′ is =
 callPrintable rec out s br bs size (Refused k) rec′ out′ is = tt
 
 -- What is printed of an answer has room.
-printedShort : (a : Answer) (out : List ℕ) → Printable a out → length (printed (leftBy a [] out)) ≤ 768
-unfolding lineOf
+printedShort : (a : Answer) (out : List ℕ) → Printable a out → length (printed (leftBy a [] out)) ≤ answerSize
 printedShort (Written n) out (few, size, laid) = omega (arith, laidShort (take n out) laid, length-take-le n out (omega arith))
-printedShort (Refused k) out p = omega arith
+printedShort (Refused k) out p = omega (arith, lengthLine (253 ∷ k ∷ []))
 
-pub answeredBy : (left : Left) (page : List ℕ) (at : ℕ) (a : Answer) (rec′ out′ page′ : List ℕ) (next : ℕ) → leftBy a rec′ out′ ≡ left → Printable a out′
-    → Shown (printed (leftBy a [] out′)) page at page′ next → Answered left page at rec′ page′ next
-answeredBy left page at a rec′ out′ page′ next is p put = subst (λ (l : Left). Answered l page at rec′ page′ next) is (go a p put)
-  where
-    go : (a : Answer) → Printable a out′ → Shown (printed (leftBy a [] out′)) page at page′ next → Answered (leftBy a rec′ out′) page at rec′ page′ next
-    go (Written n) p put = record { kept = refl; lines = put; short = omega (arith, put .ends, printedShort (Written n) out′ p) }
-    go (Refused k) p put = record { kept = refl; lines = put; short = omega (arith, put .ends, printedShort (Refused k) out′ p) }
+recordBy : (a : Answer) (rec′ out′ : List ℕ) → rec′ ≡ recordIn (leftBy a rec′ out′)
+recordBy (Written n) rec′ out′ = refl
+recordBy (Refused k) rec′ out′ = refl
+
+printedBy : (a : Answer) (rec′ out′ : List ℕ) → printed (leftBy a [] out′) ≡ printed (leftBy a rec′ out′)
+printedBy (Written n) rec′ out′ = refl
+printedBy (Refused k) rec′ out′ = refl
+
+-- The call's answer is put; what the output array held before does not matter.
+pub putBy : (rec out s page : List ℕ) (at : ℕ) (a : Answer) (rec′ out′ page′ : List ℕ) (next : ℕ) → length out ≡ outputSize
+    → leftBy a rec′ out′ ≡ callLeft rec out (callOf s) → Printable a out′ → Shown (printed (leftBy a [] out′)) page at page′ next
+    → Put (callLeft rec zeroed (callOf s)) page at rec′ page′ next
+putBy rec out s page at a rec′ out′ page′ next size is p put =
+    let alike : Alike (callLeft rec out (callOf s)) (callLeft rec zeroed (callOf s)) = outputUnread rec out zeroed (callOf s) (size ∙ sym zeroedSize) in
+    let same : printed (leftBy a [] out′) ≡ printed (callLeft rec zeroed (callOf s)) = printedBy a rec′ out′ ∙ ap printed is ∙ alike .says in
+    record {
+      kept = recordBy a rec′ out′ ∙ ap recordIn is ∙ alike .kept;
+      lines = subst (λ (l : List ℕ). Shown l page at page′ next) same put;
+      short = omega (arith, put .ends, printedShort a out′ p);
+    }
 
 -- ---- each kind of answer is put
 
@@ -64,7 +80,7 @@ module _ (a : Answer) (out : List ℕ) (p : Printable a out) (n : ℕ) (is : a �
   pub countFits : n ≤ length out
   countFits = let (few, size, laid) = written in omega arith
 
-  pub writtenMay : (page : List ℕ) (at : ℕ) → at + 768 ≤ length page → (at + 3 * length (take (n - 0) out) ≤ length page) × Laid (take (n - 0) out)
+  pub writtenMay : (page : List ℕ) (at : ℕ) → at + answerSize ≤ length page → (at + 3 * length (take (n - 0) out) ≤ length page) × Laid (take (n - 0) out)
   writtenMay page at room =
       let (few, size, laid) = written in
       rw whole (omega (arith, length-take-le n out (omega arith)), laid)
@@ -74,79 +90,58 @@ module _ (a : Answer) (out : List ℕ) (p : Printable a out) (n : ℕ) (is : a �
   writtenShown page at page′ next put = rw is (rw whole at put)
 
 pub refusedShown : (a : Answer) (out : List ℕ) (k : ℕ) → a ≡ Refused k → (page : List ℕ) (at : ℕ) (page′ : List ℕ) (next : ℕ)
-    → Shown (lineOf (253 ∷ k ∷ [])) page at page′ next → Shown (printed (leftBy a [] out)) page at page′ next
+    → Shown (refusalLine k) page at page′ next → Shown (printed (leftBy a [] out)) page at page′ next
 refusedShown a out k is page at page′ next put = rw is put
 
 -- ---- a line, by what its text spells
 
-module _ (rec text page : List ℕ) (at : ℕ) (g : Spelling) (bytes : List ℕ) (is : spells g bytes ≡ bytesOf text) where
-  -- "20 is tested before all else".
-  pub badAnswered : g ≡ Bad → (page′ : List ℕ) (next : ℕ) → Shown (lineOf (253 ∷ 20 ∷ [])) page at page′ next
-      → Answered (lineLeft rec text) page at rec page′ next
-  unfolding lineLeft lineOf
-  badAnswered bad page′ next put =
-      subst (λ (o : Option (List ℕ)). Answered (spelledLeft rec o) page at rec page′ next) (ap (λ (x : Spelling). spells x bytes) (sym bad) ∙ is)
-      (record { kept = refl; lines = put; short = omega (arith, put .ends) })
+-- What is promised of a line.
+abbrev Line : (rec text page : List ℕ) (at : ℕ) (rec′ page′ : List ℕ) (next : ℕ) → Type 0
+Line rec text page at rec′ page′ next = Answered vaultLines rec text page at rec′ page′ next × (next ≤ at + lineShare * (length text + 1))
 
-  pub countAnswered : (n : ℕ) → g ≡ Count n → (rec′ page′ : List ℕ) (next : ℕ) → Answered (callLeft rec zeroed (callOf (take (n - 0) bytes))) page at rec′ page′ next
-      → Answered (lineLeft rec text) page at rec′ page′ next
+-- A line of fewer than five bytes is refused, and so takes little room; any other has ten digits or more.
+shareEnough : (rec s page : List ℕ) (at digits : ℕ) (rec′ page′ : List ℕ) (next : ℕ) → 2 * length s ≤ digits
+    → Put (callLeft rec zeroed (callOf s)) page at rec′ page′ next → next ≤ at + lineShare * (digits + 1)
+shareEnough rec s page at digits rec′ page′ next long put = go (decLe 5 (length s))
+  where
+    go : Dec (5 ≤ length s) → next ≤ at + lineShare * (digits + 1)
+    go (yes some-digits) = omega (arith, put .short)
+    go (no few) =
+        let (k, is) = shortRefused rec zeroed s (omega arith) in
+        omega (arith, put .lines .ends, ap (λ (l : Left). length (printed l)) is, lengthLine (253 ∷ k ∷ []))
+
+module _ (rec text page : List ℕ) (at : ℕ) (g : Spelling) (bytes : List ℕ) (is : spells g bytes ≡ bytesOf digitLimit text) where
+  -- '20 is tested before all else'.
+  pub badAnswered : g ≡ Bad → (page′ : List ℕ) (next : ℕ) → Shown (refusalLine 20) page at page′ next → Line rec text page at rec page′ next
   unfolding lineLeft
-  countAnswered n good rec′ page′ next done =
+  badAnswered bad page′ next put =
+      let left : gave 20 rec zeroed ≡ lineLeft rec text = ap (spelledLeft rec) (ap (λ (x : Spelling). spells x bytes) (sym bad) ∙ is) in (
+        record { left = ap recordIn left; lines = subst (λ (l : Left). Shown (printed l) page at page′ next) left put },
+        omega (arith, put .ends, lengthLine (253 ∷ 20 ∷ [])),
+      )
+
+  pub countAnswered : (n : ℕ) → g ≡ Count n → (rec′ page′ : List ℕ) (next : ℕ) → Put (callLeft rec zeroed (callOf (take (n - 0) bytes))) page at rec′ page′ next
+      → Line rec text page at rec′ page′ next
+  unfolding lineLeft
+  countAnswered n good rec′ page′ next put =
       let all : n - 0 ≡ n = omega arith in
-      subst (λ (o : Option (List ℕ)). Answered (spelledLeft rec o) page at rec′ page′ next) (ap (λ (x : Spelling). spells x bytes) (sym good) ∙ is)
-      (subst (λ (k : ℕ). Answered (callLeft rec zeroed (callOf (take k bytes))) page at rec′ page′ next) all done)
+      let spelt : some (take (n - 0) bytes) ≡ bytesOf digitLimit text =
+      ap (λ (k : ℕ). some (take k bytes)) all ∙ ap (λ (x : Spelling). spells x bytes) (sym good) ∙ is in
+      let left : callLeft rec zeroed (callOf (take (n - 0) bytes)) ≡ lineLeft rec text = ap (spelledLeft rec) spelt in (
+        record { left = put .kept ∙ ap recordIn left; lines = subst (λ (l : Left). Shown (printed l) page at page′ next) left (put .lines) },
+        shareEnough rec (take (n - 0) bytes) page at (length text) rec′ page′ next (spelledShort digitLimit text (take (n - 0) bytes) (sym spelt)) put,
+      )
 
 -- The bytes of a line are among those that `bytes_in` was lent.
-pub countWithin : (g : Spelling) (n : ℕ) → g ≡ Count n → countOf g ≤ 45 → n ≤ 45
-countWithin g n is few = subst (λ (x : Spelling). countOf x ≤ 45) is few
+pub countWithin : (g : Spelling) (n size : ℕ) → g ≡ Count n → countOf g ≤ size → n ≤ size
+countWithin g n size is few = subst (λ (x : Spelling). countOf x ≤ size) is few
 
--- ---- what is kept of a line, and where its answer goes
+-- ---- what is kept of a line
 
 -- The first 91 bytes of a line leave what the line leaves.
-pub keptEnough : (rec line : List ℕ) → lineLeft rec (take 91 line) ≡ lineLeft rec line
+keptLeft : (rec line : List ℕ) → lineLeft rec (take keptSize line) ≡ lineLeft rec line
 unfolding lineLeft
-keptEnough rec line = ap (spelledLeft rec) (keptSpells line)
+keptLeft rec line = ap (spelledLeft rec) (keptSpells digitLimit line)
 
-pub roomKept : (at : ℕ) → at ≤ 64768 → at ≡ roomAt at
-unfolding roomAt
-roomKept at h = simp (le-leb at 64768 h)
-
-pub roomMade : (at : ℕ) → 64768 < at → 0 ≡ roomAt at
-unfolding roomAt
-roomMade at h = simp (lt-leb at 64768 h)
-
-roomLow : (at : ℕ) → roomAt at ≤ 64768
-roomLow at = elim (decLe at 64768) [ yes h ↦ omega (arith, roomKept at h) | no h ↦ omega (arith, roomMade at (omega arith)) ]
-
-pub roomThere : (at from size : ℕ) → from ≡ roomAt at → size ≡ 65536 → from + 768 ≤ size
-roomThere at from size is e = omega (arith, roomLow at)
-
-pub endedLine : (rec text page : List ℕ) (at from len : ℕ) (rec′ page′ : List ℕ) (next : ℕ) → from ≡ roomAt at
-    → Answered (lineLeft rec (take (len - 0) text)) page from rec′ page′ next
-    → Answered (lineLeft rec (take len text)) page (roomAt at) rec′ page′ next × (next ≤ 65536)
-endedLine rec text page at from len rec′ page′ next is a =
-    let all : len - 0 ≡ len = omega arith in (
-      subst (λ (k : ℕ). Answered (lineLeft rec (take len text)) page k rec′ page′ next) is
-          (subst (λ (k : ℕ). Answered (lineLeft rec (take k text)) page from rec′ page′ next) all a),
-      omega (arith, a .short, roomLow at),
-    )
-
--- ---- a byte of input
-
-module _ (rec text page : List ℕ) (len at b : ℕ) where
-  pub fedEnd : b ≡ 10 → (text′ rec′ page′ : List ℕ) (next : ℕ) → Answered (lineLeft rec (take len text)) page (roomAt at) rec′ page′ next
-      → Fed rec (take len text) page at b rec′ (take 0 text′) page′ next
-  fedEnd is text′ rec′ page′ next a = record { ends = λ e. (refl, a); goes = λ other. absurd (other is) }
-
-  pub fedMore : (b ≡ 10 → ⊥) → len < 91 → length text ≡ 91 → Fed rec (take len text) page at b rec (take (len + 1) (set text len b)) page at
-  fedMore other low size =
-      let next : len + 1 ≡ suc len = omega arith in
-      let kept : take (len + 1) (set text len b) ≡ take len text ++ (b ∷ []) = rw next (take-suc-set text len b (omega arith)) in
-      let few : length (take len text ++ (b ∷ [])) ≤ 91 = omega (arith, length-append (take len text) (b ∷ []), length-take-le len text (omega arith)) in
-      record { ends = λ is. absurd (other is); goes = λ e. (refl, kept ∙ sym (take-all 91 (take len text ++ (b ∷ [])) few), refl, refl) }
-
-  pub fedFull : (b ≡ 10 → ⊥) → 91 ≤ len → len ≤ 91 → length text ≡ 91 → Fed rec (take len text) page at b rec (take len text) page at
-  fedFull other high low size =
-      let long : length (take len text) ≡ 91 = length-take-le len text (omega arith) ∙ (omega arith) in
-      let same : take 91 (take len text ++ (b ∷ [])) ≡ take len text = take-at (take len text) (b ∷ []) 91 long in
-      record { ends = λ is. absurd (other is); goes = λ e. (refl, sym same, refl, refl) }
+pub keptEnough : Enough vaultLines keptSize
+keptEnough = record { next = λ rec line. ap recordIn (keptLeft rec line); says = λ rec line. ap printed (keptLeft rec line) }

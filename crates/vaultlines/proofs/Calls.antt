@@ -1,34 +1,44 @@
 -- Laws of the call that a line's bytes make: what each way through the code calls is what `callOf` says; whatever it is, the bytes that it
--- writes are entries end to end (`callLeavesWell` of crate runs); and a frame without a byte 1 is refused before its sender is looked at.
+-- writes are entries end to end (`callLeavesWell` of crate runs). A frame without a byte 1 is refused before its sender is looked at, and
+-- a line of fewer than five bytes is refused (`shortRefused`). What the output array held does not matter (`outputUnread`).
 -- Assumes nothing.
-use Prim.Native.Nat.{ℕ, _<_}
-use mathlib.Core.Path.{_≡_, refl, sym, ap, _∙_}
+use Prim.Native.Nat.{ℕ, _+_, _<_}
+use mathlib.Core.Path.{_≡_, refl, sym, ap, subst, _∙_}
 use mathlib.Core.Bool.{Bool, true, false, cond}
 use mathlib.Core.List.{List}
 use mathlib.Core.Option.{Option, none, some}
 use native.Mathlib.Omega.{arith}
 use borrow.Author.Tests.{eq-eqb, ne-eqb}
-use lib.Dec.{eqb}
-use lib.ListN.{length, getD, List·getD-eq-default}
+use lib.Dec.{ltb, eqb}
+use lib.ListN.{length, getD, take, drop, List·getD-eq-default}
+use lib.Seq.{take-at}
 use Rattle.wire.specs.Digits.{numberAt}
 use Rattle.wire.specs.Fields.{Bytes}
+use Rattle.wire.specs.Placed.{placed}
 use Rattle.wire.proofs.Laws.{number-below}
 use Rattle.frame.specs.declared.Reading.{Reading}
+use Rattle.frame.specs.declared.Reading.the-variants.{Refused}
 use Rattle.frame.specs.Refusal.{first, formRows, readFrame}
 use Rattle.frame.proofs.Laws.{formed, head-there}
 use Rattle.frame.proofs.Steps.{by-form}
+use Rattle.entry.specs.Layout.{layout, entriesOf}
 use Rattle.layout.specs.Layout.{decodeRecord}
+use Rattle.sound.specs.declared.Lent.{Lent}
+use Rattle.sound.specs.declared.Lent.the-variants.{Blank, Unsound, Sound}
+use Rattle.sound.specs.Sound.{lentIs}
 use Rattle.protocol.specs.Calls as by
-use Rattle.contents.specs.Calls.{Left, gave, called, startLeft, frameLeft, timerLeft}
-use Rattle.runs.specs.Runs.{Call, start, frame, timer, InWidth}
+use Rattle.protocol.specs.Calls.{answer}
+use Rattle.contents.specs.Contents.{contents}
+use Rattle.contents.specs.Calls.{Left, gave, after, onLent, called, startLeft, frameLeft, timerLeft}
+use Rattle.runs.specs.Runs.{Call, start, frame, timer, InWidth, recordIn}
 use Rattle.runs.specs.Left.{LeavesWell}
 use Rattle.runs.proofs.Left.{callLeavesWell}
-use Rattle.vaultlines.specs.Lines.{isKind, settingsAt, startOf, timerOf, frameOf, callOf, callLeft}
+use Rattle.vaultlines.specs.Lines.{isKind, settingsIn, startOf, timerOf, frameOf, callOf, callLeft, entryLines, printed}
 
 -- ---- each kind's call
 
 module _ (rec out s : List ℕ) where
-  -- "A wrong length for 00 or 09 gives 10, before the call".
+  -- 'A wrong length for 00 or 09 gives 10, before the call'.
   pub startWrong : (length s ≡ 13 → ⊥) → gave 10 rec out ≡ callLeft rec out (startOf s)
   unfolding startOf
   startWrong wrong = simp (ne-eqb (length s) 13 wrong)
@@ -38,7 +48,7 @@ module _ (rec out s : List ℕ) where
   timerWrong wrong = simp (ne-eqb (length s) 5 wrong)
 
   pub startMade : length s ≡ 13 → (plan : ℕ) → plan ≡ numberAt 8 s 5 → (left : Left)
-      → left ≡ startLeft rec (settingsAt s) plan out → left ≡ callLeft rec out (startOf s)
+      → left ≡ startLeft rec (settingsIn s) plan out → left ≡ callLeft rec out (startOf s)
   unfolding startOf
   startMade right plan is left e = e ∙ rw (is, eq-eqb (length s) 13 right)
 
@@ -46,7 +56,7 @@ module _ (rec out s : List ℕ) where
   unfolding timerOf
   timerMade right view is left e = e ∙ rw (is, eq-eqb (length s) 5 right)
 
-  -- "other lines are frames whose byte 1 is also the link's sender"
+  -- 'other lines are frames whose byte 1 is also the link's sender'
   pub frameMade : (left : Left) → left ≡ frameLeft rec (getD s 1 0) s out → left ≡ callLeft rec out (frameOf s)
   unfolding frameOf
   frameMade left e = e
@@ -107,7 +117,7 @@ callInWidth s bytes =
     (either (isKind 9 s) (timerOf s) (frameOf s) (either (eqb (length s) 5) (some (timer (numberAt 4 s 1))) none tt tt) bytes)
   where
     starts : Call
-    starts = start (settingsAt s) (numberAt 8 s 5)
+    starts = start (settingsIn s) (numberAt 8 s 5)
 
 pub callWell : (rec out s : List ℕ) → Bytes rec → Bytes s → LeavesWell rec out (callLeft rec out (callOf s))
 callWell rec out s br bs = go (callOf s) (callInWidth s bs)
@@ -115,3 +125,71 @@ callWell rec out s br bs = go (callOf s) (callInWidth s bs)
     go : (o : Option Call) → InWidthIf o → LeavesWell rec out (callLeft rec out o)
     go none low = (refl, refl)
     go (some a) low = callLeavesWell rec out a br low
+
+-- ---- what the output array held before
+
+-- Two outcomes that leave one record and print one thing.
+pub record Alike (a b : Left) : Type 0 where
+  pub kept : recordIn a ≡ recordIn b
+  pub says : printed a ≡ printed b
+
+takePlaced : (out es : List ℕ) → take (length es) (placed out 0 es) ≡ es
+unfolding placed
+takePlaced out es = take-at es (drop (0 + length es) out) (length es) refl
+
+afterUnread : (rec out out₂ : List ℕ) (a : by.Answer) → Alike (after rec out a) (after rec out₂ a)
+afterUnread rec out out₂ (by.refused k) = record { kept = refl; says = refl }
+afterUnread rec out out₂ (by.accepted o) =
+    let es = layout (o .wrote) in
+    record { kept = refl; says = ap (λ (l : List ℕ). entryLines (entriesOf l)) (takePlaced out es ∙ sym (takePlaced out₂ es)) }
+
+calledUnread : (k : ℕ) (rec out out₂ : List ℕ) (a : by.Call) → length out ≡ length out₂ → Alike (called k rec out a) (called k rec out₂ a)
+unfolding called
+calledUnread k rec out out₂ a same =
+    subst (λ (n : ℕ). Alike (cond (ltb (length out) 256) (gave 1 rec out) (after rec out made)) (cond (ltb n 256) (gave 1 rec out₂) (after rec out₂ made))) same
+    (go (ltb (length out) 256))
+  where
+    made : by.Answer
+    made = onLent (lentIs rec) k (contents (decodeRecord rec)) a
+
+    go : (t : Bool) → Alike (cond t (gave 1 rec out) (after rec out made)) (cond t (gave 1 rec out₂) (after rec out₂ made))
+    go true = record { kept = refl; says = refl }
+    go false = afterUnread rec out out₂ made
+
+pub outputUnread : (rec out out₂ : List ℕ) (o : Option Call) → length out ≡ length out₂ → Alike (callLeft rec out o) (callLeft rec out₂ o)
+unfolding startLeft frameLeft timerLeft
+outputUnread rec out out₂ none same = record { kept = refl; says = refl }
+outputUnread rec out out₂ (some (start set plan)) same = calledUnread 4 rec out out₂ (by.start set plan) same
+outputUnread rec out out₂ (some (frame link s)) same =
+    calledUnread 3 rec out out₂ (by.frame (readFrame s link (decodeRecord rec .set .n) (decodeRecord rec .set .id))) same
+outputUnread rec out out₂ (some (timer view)) same = calledUnread 3 rec out out₂ (by.timer view) same
+
+-- ---- a line of fewer than five bytes is refused
+
+calledRefused : (k : ℕ) (rec out : List ℕ) (x : Reading) (j : ℕ) → Refused j ≡ x → (i : ℕ) × (called k rec out (by.frame x) ≡ gave i rec out)
+unfolding called answer
+calledRefused k rec out x j is = subst (λ (y : Reading). (i : ℕ) × (called k rec out (by.frame y) ≡ gave i rec out)) is (go (ltb (length out) 256) (lentIs rec))
+  where
+    go : (t : Bool) (l : Lent) → (i : ℕ)
+        × (cond t (gave 1 rec out) (after rec out (onLent l k (contents (decodeRecord rec)) (by.frame (Refused j)))) ≡ gave i rec out)
+    go true l = (1, refl)
+    go false Blank = (2, refl)
+    go false Unsound = (k, refl)
+    go false Sound = (j, refl)
+
+frameShort : (rec out s : List ℕ) (link : ℕ) → length s < 5 → (i : ℕ) × (frameLeft rec link s out ≡ gave i rec out)
+unfolding frameLeft
+frameShort rec out s link short =
+    let given : first (formRows s) ≡ 0 → ⊥ = λ (e : first (formRows s) ≡ 0). omega (arith, head-there s (formed s e)) in
+    let n = decodeRecord rec .set .n in
+    let own = decodeRecord rec .set .id in
+    calledRefused 3 rec out (readFrame s link n own) (first (formRows s)) (by-form s link n own (first (formRows s)) given refl)
+
+pub shortRefused : (rec out s : List ℕ) → length s < 5 → (i : ℕ) × (callLeft rec out (callOf s) ≡ gave i rec out)
+unfolding callOf frameOf
+shortRefused rec out s short = go (isKind 0 s) (isKind 9 s)
+  where
+    go : (t u : Bool) → (i : ℕ) × (callLeft rec out (cond t (startOf s) (cond u (timerOf s) (frameOf s))) ≡ gave i rec out)
+    go true u = (10, sym (startWrong rec out s (λ (e : length s ≡ 13). omega arith)))
+    go false true = (10, sym (timerWrong rec out s (λ (e : length s ≡ 5). omega arith)))
+    go false false = frameShort rec out s (getD s 1 0) short

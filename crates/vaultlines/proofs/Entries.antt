@@ -1,4 +1,4 @@
--- Laws of entries on the page: "Entries lie end to end", "one output entry a line". The first two bytes of an entry tell its size, so
+-- Laws of entries on the page: 'Entries lie end to end', 'one output entry a line'. The first two bytes of an entry tell its size, so
 -- entries laid end to end are found again, one after the other (`entry-says`, `entriesReadBack` of crate entry). The loop that prints
 -- them keeps that what is on the page, with the lines of the rest put behind it, is the page with all the lines.
 -- Assumes nothing.
@@ -20,30 +20,31 @@ use Rattle.entry.specs.declared.Entry.{Entry}
 use Rattle.entry.specs.declared.Entry.the-variants.{ForAll, ForOne, Timer, Decision}
 use Rattle.entry.specs.Layout.{hostFields, entryBytes, layout, AllValid, sizeAt, entriesWithin, entriesOf}
 use Rattle.entry.proofs.Theorems.{entry-says, entriesReadBack}
-use Rattle.vaultlines.specs.Digits.{lineOf}
-use Rattle.vaultlines.specs.Lines.{entryLines, Shown}
+use Rattle.lines.specs.Digits.{lineOf}
+use Rattle.lines.specs.Steps.{Shown}
+use Rattle.lines.proofs.Digits.{lengthLine}
+use Rattle.vaultlines.specs.Lines.{entryLines}
 use Rattle.vaultlines.specs.Steps.{Laid}
-use Rattle.vaultlines.proofs.Digits.{length-line}
 
 -- ---- the size of an entry
 
--- "Host entries: 0b, view (4), milliseconds (4) for a timer; 0a, view (4), plan (8) for a decision"
-pub size-timer : (s : List ℕ) → getD s 0 0 ≡ 254 → getD s 1 0 ≡ 11 → sizeAt s ≡ 10
+-- 'Host entries: 0b, view (4), milliseconds (4) for a timer; 0a, view (4), plan (8) for a decision'
+pub sizeTimer : (s : List ℕ) → getD s 0 0 ≡ 254 → getD s 1 0 ≡ 11 → sizeAt s ≡ 10
 unfolding sizeAt
-size-timer s a b = simp (eq-eqb (getD s 0 0) 254 a, eq-eqb (getD s 1 0) 11 b)
+sizeTimer s a b = simp (eq-eqb (getD s 0 0) 254 a, eq-eqb (getD s 1 0) 11 b)
 
-pub size-decision : (s : List ℕ) → getD s 0 0 ≡ 254 → (getD s 1 0 ≡ 11 → ⊥) → sizeAt s ≡ 14
+pub sizeDecision : (s : List ℕ) → getD s 0 0 ≡ 254 → (getD s 1 0 ≡ 11 → ⊥) → sizeAt s ≡ 14
 unfolding sizeAt
-size-decision s a b = simp (eq-eqb (getD s 0 0) 254 a, ne-eqb (getD s 1 0) 11 b)
+sizeDecision s a b = simp (eq-eqb (getD s 0 0) 254 a, ne-eqb (getD s 1 0) 11 b)
 
--- "a recipient byte .., then the frame"
-pub size-frame : (s : List ℕ) → (getD s 0 0 ≡ 254 → ⊥) → sizeAt s ≡ 1 + lengthOf (getD s 1 0)
+-- 'a recipient byte .., then the frame'
+pub sizeFrame : (s : List ℕ) → (getD s 0 0 ≡ 254 → ⊥) → sizeAt s ≡ 1 + lengthOf (getD s 1 0)
 unfolding sizeAt
-size-frame s a = simp (ne-eqb (getD s 0 0) 254 a) (omega arith)
+sizeFrame s a = simp (ne-eqb (getD s 0 0) 254 a) (omega arith)
 
 -- no frame is longer than 45 bytes
-pub length-short : (k : ℕ) → lengthOf k ≤ 45
-length-short k =
+pub lengthShort : (k : ℕ) → lengthOf k ≤ 45
+lengthShort k =
     elim (decLe k 0) [
       | yes h ↦ subst (λ (m : ℕ). m ≤ 45) (sym (length-low k (omega arith))) (omega arith)
       | no g ↦ elim (decLe k 5) [
@@ -158,7 +159,7 @@ module _ (page₀ : List ℕ) (at : ℕ) (s page : List ℕ) (i end : ℕ) (so :
       let others = entryLines (entriesOf (drop (i + size) s)) in
       let lines : entryLines (entriesOf (drop i s)) ≡ lineOf (entryBytes e) ++ others =
       ap entryLines (f .entries) ∙ ap (λ (l : List ℕ). lineOf (entryBytes e) ++ entryLines (entriesOf l)) rest in
-      let long = length-line (entryBytes e) in
+      let long = lengthLine (entryBytes e) in
       let all : length (entryLines (entriesOf (drop i s))) ≡ length (lineOf (entryBytes e)) + length others = ap length lines ∙ length-append (lineOf (entryBytes e)) others in
       let here : length (take (i + size - i) (drop i s)) ≡ length (entryBytes e) = ap length line in
       let after : end′ ≡ end + length (lineOf (entryBytes e)) = put .ends ∙ ap (λ (l : List ℕ). end + length (lineOf l)) line in
@@ -193,7 +194,7 @@ putAll page₀ at s page i end so done =
 linesShort : (es : List Entry) → length (entryLines es) ≤ 3 * length (layout es)
 linesShort [] = omega arith
 linesShort (e ∷ es) =
-    omega (arith, linesShort es, entryLeast e, length-line (entryBytes e), length-append (lineOf (entryBytes e)) (entryLines es), length-append (entryBytes e) (layout es))
+    omega (arith, linesShort es, entryLeast e, lengthLine (entryBytes e), length-append (lineOf (entryBytes e)) (entryLines es), length-append (entryBytes e) (layout es))
 
 pub laidShort : (s : List ℕ) → Laid s → length (entryLines (entriesOf s)) ≤ 3 * length s
 laidShort s laid = subst (λ (l : List ℕ). length (entryLines (entriesOf s)) ≤ 3 * length l) (laid .entries) (linesShort (entriesOf s))

@@ -33,9 +33,10 @@ use Rattle.runs.specs.Runs.{Call, start, frame, timer, InWidth, leaves, recordI
 use Rattle.contents.specs.Spelling.{Spells}
 use Rattle.contents.proofs.Spelling.{Fine}
 use Rattle.runs.proofs.Carry.{said, leavesRoom, saidFrame, fedSaid, LeftWell, leftWell}
-use Rattle.vaultlines.specs.Digits.{valueOf, digitOf, lineOf, allDigits, badLine, spelled, bytesOf}
-use Rattle.vaultlines.specs.Lines.{startOf, timerOf, frameOf, callOf, zeroed, lineLeft, entryLines, printed}
-use Rattle.vaultlines.specs.Example.{text, blank, Document}
+use Rattle.lines.specs.Digits.{between, valueOf, digitOf, lineOf, allDigits, badLine, spelled, bytesOf}
+use Rattle.lines.specs.Lines.{ended, begun, linesOf, prints}
+use Rattle.vaultlines.specs.Lines.{startOf, timerOf, frameOf, callOf, zeroed, lineLeft, entryLines, printed, vaultLines, blank}
+use Rattle.vaultlines.specs.Example.{text, input, Document}
 use Rattle.vaultlines.proofs.Answers.{zeroedSize}
 
 -- ---- a line by contents
@@ -114,32 +115,39 @@ unfolding lentIs decodeRecord
 blankAt = record { held = refl; fine = λ r e. absurd (none≢some e) }
 
 starts : Goes (lineLeft blank (text "00040100020000000000000007")) first
-unfolding valueOf within allDigits badLine spelled bytesOf startOf timerOf frameOf callOf numberAt lineLeft
+unfolding between valueOf allDigits badLine spelled bytesOf startOf timerOf frameOf callOf numberAt lineLeft
 starts = goes blank none (start settings 7) blankAt (omega arith) first firstAccepted
 
 -- A vote-1 heard by a vault of 4 with number 0.
 module _ (rec : List ℕ) (r : Record) (at : At rec (some r)) where
   hears1 : (o : Out) → answer (some r) (by.frame (readFrame (voted 1) 1 (r .set .n) (r .set .id))) ≡ accepted o
       → Goes (lineLeft rec (text "0201000000000000000000000007")) o
-  unfolding valueOf within allDigits badLine spelled bytesOf startOf timerOf frameOf callOf numberAt lineLeft
+  unfolding between valueOf allDigits badLine spelled bytesOf startOf timerOf frameOf callOf numberAt lineLeft
   hears1 o is =
       goes rec (some r) (frame 1 (voted 1)) at (votedBytes 1 refl) o (ap (λ (a : by.Call). answer (some r) a) (saidFrame rec r 1 (voted 1) (at .held)) ∙ is)
 
   hears2 : (o : Out) → answer (some r) (by.frame (readFrame (voted 2) 2 (r .set .n) (r .set .id))) ≡ accepted o
       → Goes (lineLeft rec (text "0202000000000000000000000007")) o
-  unfolding valueOf within allDigits badLine spelled bytesOf startOf timerOf frameOf callOf numberAt lineLeft
+  unfolding between valueOf allDigits badLine spelled bytesOf startOf timerOf frameOf callOf numberAt lineLeft
   hears2 o is =
       goes rec (some r) (frame 2 (voted 2)) at (votedBytes 2 refl) o (ap (λ (a : by.Call). answer (some r) a) (saidFrame rec r 2 (voted 2) (at .held)) ∙ is)
 
   refuses1 : (k : ℕ) → answer (some r) (by.frame (readFrame (voted 1) 1 (r .set .n) (r .set .id))) ≡ refused k
       → printed (lineLeft rec (text "0201000000000000000000000007")) ≡ lineOf (253 ∷ k ∷ [])
-  unfolding valueOf within allDigits badLine spelled bytesOf startOf timerOf frameOf callOf numberAt lineLeft
+  unfolding between valueOf allDigits badLine spelled bytesOf startOf timerOf frameOf callOf numberAt lineLeft
   refuses1 k is =
       ap printed (leavesRoom rec zeroed (some r) (frame 1 (voted 1)) (at .held) (omega (arith, zeroedSize))
       ∙ ap (after rec zeroed) (ap (λ (a : by.Call). answer (some r) a) (saidFrame rec r 1 (voted 1) (at .held)) ∙ is))
 
+-- The input's lines.
+inputLines : linesOf (text input)
+    ≡ text "00040100020000000000000007" ∷ text "0201000000000000000000000007" ∷ text "0202000000000000000000000007" ∷ text "0201000000000000000000000007" ∷ []
+unfolding ended begun
+inputLines = refl
+
 -- Document 01's example, whole.
 pub document : Document
+unfolding prints
 document =
     let rec1 = recordIn (lineLeft blank (text "00040100020000000000000007")) in
     let two : Goes (lineLeft rec1 (text "0201000000000000000000000007")) second = hears1 rec1 (first .left) (starts .next) second secondAccepted in
@@ -147,4 +155,4 @@ document =
     let three : Goes (lineLeft rec2 (text "0202000000000000000000000007")) third = hears2 rec2 (second .left) (two .next) third thirdAccepted in
     let rec3 = recordIn (lineLeft rec2 (text "0202000000000000000000000007")) in
     let four = refuses1 rec3 (third .left) (three .next) 17 lastRefused in
-    (λ i. starts .prints i ++ (two .prints i ++ (three .prints i ++ (four i ++ [])))) ∙ printsAll
+    ap (prints vaultLines blank) inputLines ∙ ((λ i. starts .prints i ++ (two .prints i ++ (three .prints i ++ (four i ++ [])))) ∙ printsAll)

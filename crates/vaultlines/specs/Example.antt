@@ -13,13 +13,13 @@ use Rattle.frame.specs.Format.{within, lengthOf, encode, decode, bodyAs}
 use Rattle.entry.specs.declared.Entry.{Entry}
 use Rattle.entry.specs.declared.Entry.the-variants.{ForAll, Timer}
 use Rattle.entry.specs.Layout.{entryBytes, layout, entryAt, sizeAt, entriesWithin}
-use Rattle.layout.specs.Layout.{recordSize, decodeRecord}
+use Rattle.layout.specs.Layout.{decodeRecord}
 use Rattle.sound.specs.Sound.{lentIs}
 use Rattle.protocol.specs.Calls.{answer}
 use Rattle.contents.specs.Calls.{wrote, gave, called, frameLeft, timerLeft}
-use Rattle.runs.specs.Runs.{Call, start, frame, timer, recordIn}
-use Rattle.vaultlines.specs.Digits.{valueOf, digitOf, lineOf, allDigits, badLine, spelled, bytesOf}
-use Rattle.vaultlines.specs.Lines.{startOf, timerOf, frameOf, callOf, zeroed, lineLeft, printed}
+use Rattle.runs.specs.Runs.{Call, start, frame, timer}
+use Rattle.lines.specs.Digits.{between, valueOf, digitOf, lineOf, allDigits, badLine, spelled, bytesOf}
+use Rattle.vaultlines.specs.Lines.{startOf, timerOf, frameOf, callOf, zeroed, digitLimit, lineLeft, printed, blank, programPrints}
 
 -- The bytes of a text.
 abbrev pub text : String → List ℕ
@@ -32,13 +32,13 @@ callOfBytes none = none
 callOfBytes (some s) = callOf s
 
 abbrev says : String → Option Call
-says line = callOfBytes (bytesOf (text line))
+says line = callOfBytes (bytesOf digitLimit (text line))
 
 -- The example's calls; and a timer, an empty line, a start and a timer of wrong length.
 calls : (says "00040100020000000000000007" ≡ some (start (record { n = 4; f = 1; id = 0; class = 2 }) 7))
     × (says "0201000000000000000000000007" ≡ some (frame 1 (2 ∷ 1 ∷ 0 ∷ 0 ∷ 0 ∷ 0 ∷ 0 ∷ 0 ∷ 0 ∷ 0 ∷ 0 ∷ 0 ∷ 0 ∷ 7 ∷ [])))
     × (says "09000001ff" ≡ some (timer 511)) × (says "" ≡ some (frame 0 [])) × (says "000401000200000000000007" ≡ none) × (says "09000001" ≡ none)
-unfolding valueOf within allDigits badLine spelled bytesOf startOf timerOf frameOf callOf numberAt
+unfolding between valueOf allDigits badLine spelled bytesOf startOf timerOf frameOf callOf numberAt
 calls = (refl, refl, refl, refl, refl, refl)
 
 -- What vault 0 sends to all in view 0 for plan 7: kind 1 is its proposal, kind 2 its vote-1.
@@ -52,28 +52,23 @@ lines : (rec : List ℕ) → (printed (wrote 40 rec (layout (Timer 0 900 ∷ sen
 unfolding digitOf lineOf zeroed entryBytes encode digits decode bodyAs within lengthOf numberAt entryAt sizeAt entriesWithin
 lines rec = (refl, refl, refl)
 
--- "not an even count of lower-case hex digits, or over 90 digits": whatever the record, before all else.
+-- 'not an even count of lower-case hex digits, or over 90 digits': whatever the record, before all else.
 refusals : (rec : List ℕ) → (lineLeft rec (text "0") ≡ gave 20 rec zeroed) × (lineLeft rec (text "0A") ≡ gave 20 rec zeroed)
     × (lineLeft rec (text "0g") ≡ gave 20 rec zeroed) × (lineLeft rec (replicate 91 48) ≡ gave 20 rec zeroed)
     × (lineLeft rec (replicate 92 48) ≡ gave 20 rec zeroed) × (lineLeft rec (replicate 90 48) ≡ gave 10 rec zeroed)
-unfolding valueOf within allDigits badLine spelled bytesOf startOf timerOf frameOf callOf numberAt lineLeft
+unfolding between valueOf allDigits badLine spelled bytesOf startOf timerOf frameOf callOf numberAt lineLeft
 refusals rec = (refl, refl, refl, refl, refl, refl)
 
--- A record of zeros is blank: "`vaultlines` begins with a blank record".
-abbrev pub blank : List ℕ
-blank = replicate recordSize 0
-
--- A frame or a timer on it gives 2.
+-- A frame or a timer on a blank record gives 2.
 unstarted : (printed (lineLeft blank (text "")) ≡ text "fd02\n") × (printed (lineLeft blank (text "0900000000")) ≡ text "fd02\n")
-unfolding valueOf within allDigits badLine spelled bytesOf startOf timerOf frameOf callOf numberAt lineLeft zeroed digitOf lineOf frameLeft timerLeft called lentIs decodeRecord answer
+unfolding between valueOf allDigits badLine spelled bytesOf startOf timerOf frameOf callOf numberAt lineLeft zeroed digitOf lineOf frameLeft timerLeft called lentIs decodeRecord answer
 unstarted = (refl, refl)
 
--- Lines one after the other, from a record on: what they print.
-abbrev pub session : List ℕ → List String → List ℕ
-session rec [] = []
-session rec (t ∷ ts) = printed (lineLeft rec (text t)) ++ session (recordIn (lineLeft rec (text t))) ts
+-- Document 01's example, as a whole input.
+abbrev pub input : String
+input = "00040100020000000000000007\n0201000000000000000000000007\n0202000000000000000000000007\n0201000000000000000000000007\n"
 
--- Document 01's example, whole. Proved as `document` in proofs/Example.
+-- It 'prints timer, proposal, vote-1, vote-2, refusal 17'. Proved as `document` in proofs/Example.
 abbrev pub Document : Type 0
-Document = session blank ("00040100020000000000000007" ∷ "0201000000000000000000000007" ∷ "0202000000000000000000000007" ∷ "0201000000000000000000000007" ∷ [])
+Document = programPrints (text input)
     ≡ text "fe0b0000000000000384\nff0100000000000000000000000007\nff0200000000000000000000000007\nff0300000000000000000000000007\nfd11\n"

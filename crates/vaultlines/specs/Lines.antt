@@ -1,81 +1,87 @@
--- One line of document 01's line program ('The line program'): the call that its bytes make, what that leaves, and what is printed.
+-- Document 01's line program ('The line program'): the call that a line's bytes make, what that leaves, what is printed, and what is printed
+-- for a whole input.
 -- Assumes nothing.
-use Prim.Native.Nat.{ℕ, _+_, _≤_}
-use mathlib.Core.Path.{_≡_}
+use Prim.Native.Nat.{ℕ}
 use mathlib.Core.Bool.{Bool, not, _&&_, cond}
 use mathlib.Core.List.{List, [], _∷_, _++_}
 use mathlib.Core.Option.{Option, none, some}
 use lib.ListN.{length, getD, take, replicate}
 use lib.Dec.{eqb}
 use Rattle.wire.specs.Digits.{numberAt}
-use Rattle.wire.specs.Placed.{placed}
 use Rattle.entry.specs.declared.Entry.{Entry}
 use Rattle.entry.specs.Layout.{entryBytes, entriesOf}
 use Rattle.settings.specs.declared.Settings.{Settings}
+use Rattle.layout.specs.Layout.{recordSize}
 use Rattle.contents.specs.Calls.{Left, wrote, gave}
 use Rattle.runs.specs.Runs.{Call, start, frame, timer, leaves, recordIn}
-use Rattle.vaultlines.specs.Digits.{bytesOf, lineOf}
+use Rattle.lines.specs.Digits.{bytesOf, lineOf, refusalLine}
+use Rattle.lines.specs.Lines.{Program, answers}
 
 -- A line of a given kind, which an empty line has not.
 abbrev pub isKind : ℕ → List ℕ → Bool
 isKind kind s = not (eqb (length s) 0) && eqb (getD s 0 0) kind
 
--- "n, f, id, class, one byte each": the settings of a start's bytes.
-abbrev pub settingsAt : List ℕ → Settings
-settingsAt s = record { n = getD s 1 0; f = getD s 2 0; id = getD s 3 0; class = getD s 4 0 }
+-- 'n, f, id, class, one byte each'.
+abbrev pub settingsIn : List ℕ → Settings
+settingsIn s = record { n = getD s 1 0; f = getD s 2 0; id = getD s 3 0; class = getD s 4 0 }
 
--- "Kind 00 starts (n, f, id, class, one byte each, then plan; 13 bytes)"; with another length it is no call.
+-- 'Kind 00 starts (n, f, id, class, one byte each, then plan; 13 bytes)'; with another length it is no call.
 unfoldable pub startOf : List ℕ → Option Call
-startOf s = cond (eqb (length s) 13) (some (start (settingsAt s) (numberAt 8 s 5))) none
+startOf s = cond (eqb (length s) 13) (some (start (settingsIn s) (numberAt 8 s 5))) none
 
--- "kind 09 is a timer (view; 5 bytes)"; with another length it is no call.
+-- 'kind 09 is a timer (view; 5 bytes)'; with another length it is no call.
 unfoldable pub timerOf : List ℕ → Option Call
 timerOf s = cond (eqb (length s) 5) (some (timer (numberAt 4 s 1))) none
 
--- "other lines are frames whose byte 1 is also the link's sender". Where there is no byte 1, no sender is looked at (`senderUnread`,
+-- 'other lines are frames whose byte 1 is also the link's sender'. Where there is no byte 1, no sender is looked at (`senderUnread`,
 -- proofs/Calls).
 unfoldable pub frameOf : List ℕ → Option Call
 frameOf s = some (frame (getD s 1 0) s)
 
--- The call that a line's bytes make; "an empty line is an empty frame".
+-- The call that a line's bytes make; 'an empty line is an empty frame'.
 unfoldable pub callOf : List ℕ → Option Call
 callOf s = cond (isKind 0 s) (startOf s) (cond (isKind 9 s) (timerOf s) (frameOf s))
 
--- "A wrong length for 00 or 09 gives 10, before the call". Else what the call leaves: `leaves` is startLeft, frameLeft or timerLeft.
+-- 'A wrong length for 00 or 09 gives 10, before the call'. Else what the call leaves: `leaves` is startLeft, frameLeft or timerLeft.
 abbrev pub callLeft : List ℕ → List ℕ → Option Call → Left
 callLeft rec out none = gave 10 rec out
 callLeft rec out (some a) = leaves rec a out
 
--- The output space of a line's call: "a zeroed 256-byte output array".
+-- The output space of a line's call: 'a zeroed 256-byte output array'. What else it holds does not matter (`outputUnread`, proofs/Calls).
 unfoldable pub zeroed : List ℕ
 zeroed = replicate 256 0
 
--- "20 is tested before all else".
+-- '20 is tested before all else'.
 abbrev pub spelledLeft : List ℕ → Option (List ℕ) → Left
 spelledLeft rec none = gave 20 rec zeroed
 spelledLeft rec (some s) = callLeft rec zeroed (callOf s)
 
+-- 'over 90 digits'.
+abbrev pub digitLimit : ℕ
+digitLimit = 90
+
 -- What a line's text leaves, at a record.
 unfoldable pub lineLeft : List ℕ → List ℕ → Left
-lineLeft rec text = spelledLeft rec (bytesOf text)
+lineLeft rec text = spelledLeft rec (bytesOf digitLimit text)
 
--- "one output entry a line"; "a call without entries prints nothing".
+-- 'one output entry a line'; 'a call without entries prints nothing'.
 abbrev pub entryLines : List Entry → List ℕ
 entryLines [] = []
 entryLines (e ∷ es) = lineOf (entryBytes e) ++ entryLines es
 
--- "It prints one output entry a line, or fd and the refusal number as one byte".
+-- 'It prints one output entry a line, or fd and the refusal number as one byte'.
 abbrev pub printed : Left → List ℕ
 printed (wrote count rec out) = entryLines (entriesOf (take count out))
-printed (gave number rec out) = lineOf (253 ∷ number ∷ [])
+printed (gave number rec out) = refusalLine number
 
--- Lines put on the page: it holds them from a place on and is otherwise as it was; where they end.
-pub record Shown (lines page : List ℕ) (at : ℕ) (page′ : List ℕ) (next : ℕ) : Type 0 where
-  pub shown : page′ ≡ placed page at lines
-  pub ends : next ≡ at + length lines
+-- The program over lines: its state is the record's bytes.
+abbrev pub vaultLines : Program (List ℕ)
+vaultLines = record { next = λ rec text. recordIn (lineLeft rec text); says = λ rec text. printed (lineLeft rec text) }
 
--- What is promised of a line that leaves something: the record's bytes afterwards, and what is printed, at most 768 bytes.
-pub record Answered (left : Left) (page : List ℕ) (at : ℕ) (rec′ page′ : List ℕ) (next : ℕ) : Type 0 where
-  pub kept : rec′ ≡ recordIn left
-  pub lines : Shown (printed left) page at page′ next
-  pub short : next ≤ at + 768
+-- '`vaultlines` begins with a blank record': a record of zeros is blank.
+abbrev pub blank : List ℕ
+blank = replicate recordSize 0
+
+-- What it prints for a whole input: `linesOf` (crate lines) are the input's lines, and each is answered at the record that the last one left.
+abbrev pub programPrints : List ℕ → List ℕ
+programPrints input = answers vaultLines blank input

@@ -1,38 +1,34 @@
 // The line program of document 01: a vault driven by lines of hexadecimal digits.
 //
-// `answer_line` goes from a line's text and the record to the record and the lines printed; its contract is the definition `lineLeft`
-// (specs/Lines). `feed` takes one byte of input, and is exact too. There the proof stops, at the input and output calls: no contract can
-// say what `libc::read` reads and `io::write_all` writes. `feed_all`, `read_some`, `read_all` and `run` hand the input to `feed` in its
-// order, in pieces, so that lines may be of any length and number, and write the page out when it is nearly full and before more input is
-// awaited; of these it is proved that they end and stay within their bounds.
+// What it prints for a whole input is a definition, `programPrints` (specs/Lines). `feed` takes a piece of input, and `finish` answers the last
+// line; both are exact, and so the pages written are what `programPrints` says however the input is split (`wholeInput`, specs/Steps).
+// There the proof stops, at the input and output calls: no contract can say what `libc::read` reads and `io::write_all` writes.
 ghost use mathlib.Core.Path.{_≡_};
-ghost use mathlib.Core.List.{[], _∷_};
+ghost use mathlib.Core.List.{[]};
 ghost use Prim.Native.Nat.{_+_, _*_, _≤_, _<_};
 ghost use lib.ListN.{length, take};
 ghost use Rattle.entry.specs.Layout.{sizeAt, entriesOf};
 ghost use Rattle.vault.specs.Answers.{leftBy};
-ghost use Rattle.vaultlines.specs.Digits.{valueOf, digitOf, lineOf, bytesOf};
-ghost use Rattle.vaultlines.specs.Lines.{startOf, timerOf, frameOf, callOf, callLeft, zeroed, lineLeft, entryLines, printed, Shown, Answered};
-ghost use Rattle.vaultlines.specs.Steps.{spells, countOf, Laid, Printable, roomAt, Fed};
+ghost use Rattle.lines.specs.Steps.{Shown, Answered, Fed, Finished};
+ghost use Rattle.vaultlines.specs.Lines.{startOf, timerOf, frameOf, callOf, callLeft, zeroed, entryLines, printed, vaultLines};
+ghost use Rattle.vaultlines.specs.Steps.{outputSize, keptSize, answerSize, lineShare, pieceSize, pageSize, Laid, Printable, Put, EndedWell};
+use lines::Spelling;
 use settings::Settings;
 use vault::Answer;
 
-// A line has at most 90 digits, so 45 bytes.
+// A line has at most 90 digits, so 45 bytes. Of its text one byte more is kept: enough to give 20 where the line does.
 const DIGITS: usize = 90;
 
 const BYTES: usize = 45;
 
-// Of a line's text one byte more than 90 digits is kept: enough to give 20 where the line does (`keptEnough`, proofs/Answers).
 const KEPT: usize = 91;
 
-const OUTPUT_LENGTH: usize = 256;
+const OUTPUT: usize = 256;
 
-const PAGE_LENGTH: usize = 65536;
+// A piece of input, and a page that has room for all that its lines print: at most 70 bytes for each of theirs, and one answer more.
+const PIECE: usize = 4096;
 
-// The page is written out before a line's answer where more than this is on it: an answer takes at most 768 bytes of it.
-const PAGE_FULL: usize = 64768;
-
-const LINE_END: u8 = 10;
+const PAGE: usize = 293858;
 
 const START: u8 = 0;
 
@@ -42,8 +38,6 @@ const START_LENGTH: usize = 13;
 
 const TIMER_LENGTH: usize = 5;
 
-const REFUSED: u8 = 253;
-
 const BAD_LENGTH: u8 = 10;
 
 const BAD_LINE: u8 = 20;
@@ -52,65 +46,7 @@ const HOST: u8 = 254;
 
 const TIMER_ENTRY: u8 = 11;
 
-// What a line's text spells: how many bytes, or none.
-enum Spelling {
-    Count(usize),
-    Bad,
-}
-
-// Where reading and printing stand: bytes of the line kept so far, bytes on the page, and whether more input may come.
-struct Place {
-    len: usize,
-    at: usize,
-    more: bool,
-}
-
-// The value of a lower-case hexadecimal digit; 16 where the byte is none.
-fn value_of(b: u8) -> u8
-    ensures { λ r. ⌜ r ≡ valueOf b ⌝ }
-{
-    match b {
-        48..=57 => b - 48,
-        97..=102 => b - 87,
-        _ => 16,
-    }
-}
-
-// The lower-case digit of a number below 16.
-fn digit_of(x: u8) -> u8
-    requires { ⌜ x < 16 ⌝ }
-    ensures { λ r. ⌜ r ≡ digitOf x ⌝ }
-{
-    if x < 10 { 48 + x } else { 87 + x }
-}
-
-// The bytes that a line's text spells go to the start of bytes.
-fn bytes_in(text: &[u8], bytes: &mut [u8]) -> Spelling
-    requires { ⌜ length (now bytes) ≡ 45 ⌝ }
-    ensures { λ r. ⌜ (spells r (now (bytes .exit)) ≡ bytesOf (now (text .entry))) × (countOf r ≤ 45) ⌝ }
-{
-    if DIGITS < text.len() {
-        return Spelling::Bad;
-    }
-    if text.len() % 2 != 0 {
-        return Spelling::Bad;
-    }
-    let count = text.len() / 2;
-    let mut i = 0;
-    while i < count {
-        let high = value_of(text[2 * i]);
-        let low = value_of(text[2 * i + 1]);
-        if 15 < high {
-            return Spelling::Bad;
-        }
-        if 15 < low {
-            return Spelling::Bad;
-        }
-        bytes[i] = high * 16 + low;
-        i += 1;
-    }
-    Spelling::Count(count)
-}
+// ---- the call that a line makes
 
 // "Kind 00 starts (n, f, id, class, one byte each, then plan; 13 bytes)"; "A wrong length .. gives 10, before the call".
 fn start(rec: &mut [u8], bytes: &[u8], out: &mut [u8]) -> Answer
@@ -119,13 +55,13 @@ fn start(rec: &mut [u8], bytes: &[u8], out: &mut [u8]) -> Answer
     if bytes.len() != START_LENGTH {
         return Answer::Refused(BAD_LENGTH);
     }
-    let plan = wire::number(bytes, 5, 8);
     let set = Settings {
         n: bytes[1],
         f: bytes[2],
         id: bytes[3],
         class: bytes[4],
     };
+    let plan = wire::number64(bytes, 5);
     vault::start(rec, set, plan, out)
 }
 
@@ -163,6 +99,8 @@ fn call(rec: &mut [u8], bytes: &[u8], out: &mut [u8]) -> Answer
     }
 }
 
+// ---- what it prints
+
 // How many bytes the entry at the start of some takes.
 fn size_at(s: &[u8]) -> usize
     requires { ⌜ 2 ≤ length (now s) ⌝ }
@@ -177,24 +115,6 @@ fn size_at(s: &[u8]) -> usize
     1 + frame::length_of(s[1])
 }
 
-// Puts bytes on the page as digits, and a line's end. Answers where the page then stands.
-fn put_line(page: &mut [u8], at: usize, s: &[u8]) -> usize
-    requires { ⌜ (at + 2 * length (now s)) + 1 ≤ length (now page) ⌝ }
-    ensures { λ r. ⌜ Shown (lineOf (now (s .entry))) (now (page .entry)) at (now (page .exit)) r ⌝ }
-{
-    let mut to = at;
-    let mut i = 0;
-    while i < s.len() {
-        let b = s[i];
-        page[to] = digit_of(b / 16);
-        page[to + 1] = digit_of(b % 16);
-        to += 2;
-        i += 1;
-    }
-    page[to] = LINE_END;
-    to + 1
-}
-
 // Puts entries that lie end to end on the page, each on a line of its own.
 fn put_entries(page: &mut [u8], at: usize, s: &[u8]) -> usize
     requires { ⌜ (at + 3 * length (now s) ≤ length (now page)) × Laid (now s) ⌝ }
@@ -204,53 +124,97 @@ fn put_entries(page: &mut [u8], at: usize, s: &[u8]) -> usize
     let mut end = at;
     while i < s.len() {
         let next = i + size_at(&s[i..]);
-        end = put_line(page, end, &s[i..next]);
+        end = lines::put_line(page, end, &s[i..next]);
         i = next;
     }
     end
 }
 
-// "fd and the refusal number as one byte"
-fn put_refusal(page: &mut [u8], at: usize, number: u8) -> usize
-    requires { ⌜ at + 5 ≤ length (now page) ⌝ }
-    ensures { λ r. ⌜ Shown (lineOf (253 ∷ number ∷ [])) (now (page .entry)) at (now (page .exit)) r ⌝ }
-{
-    put_line(page, at, &[REFUSED, number])
-}
-
 // Puts what a call answered on the page: "one output entry a line, or fd and the refusal number as one byte".
 fn put_answer(page: &mut [u8], at: usize, answer: Answer, out: &[u8]) -> usize
-    requires { ⌜ (at + 768 ≤ length (now page)) × Printable answer (now out) ⌝ }
+    requires { ⌜ (at + answerSize ≤ length (now page)) × Printable answer (now out) ⌝ }
     ensures { λ r. ⌜ Shown (printed (leftBy answer [] (now (out .entry)))) (now (page .entry)) at (now (page .exit)) r ⌝ }
 {
     match answer {
         Answer::Written(count) => put_entries(page, at, &out[0..count]),
-        Answer::Refused(number) => put_refusal(page, at, number),
+        Answer::Refused(number) => lines::put_refusal(page, at, number),
     }
 }
 
-// A line's bytes are called, and the answer is put on the page.
-fn answer(rec: &mut [u8], bytes: &[u8], page: &mut [u8], at: usize) -> usize
-    requires { ⌜ at + 768 ≤ length (now page) ⌝ }
-    ensures { λ r. ⌜ Answered (callLeft (now (rec .entry)) zeroed (callOf (now (bytes .entry)))) (now (page .entry)) at (now (rec .exit)) (now (page .exit)) r ⌝ }
+// A line's bytes are called, and the answer is put on the page. What an earlier call left in the output array does not matter.
+fn answer(rec: &mut [u8], bytes: &[u8], out: &mut [u8], page: &mut [u8], at: usize) -> usize
+    requires { ⌜ (at + answerSize ≤ length (now page)) × (length (now out) ≡ outputSize) ⌝ }
+    ensures { λ r. ⌜ Put (callLeft (now (rec .entry)) zeroed (callOf (now (bytes .entry)))) (now (page .entry)) at (now (rec .exit)) (now (page .exit)) r ⌝ }
 {
-    let mut out = [0u8; OUTPUT_LENGTH];
-    let a = call(rec, bytes, &mut out);
-    put_answer(page, at, a, &out)
+    let a = call(rec, bytes, out);
+    put_answer(page, at, a, out)
 }
 
 // One line: from its text, and the record, to the record and the lines printed. "20 is tested before all else".
-fn answer_line(rec: &mut [u8], text: &[u8], page: &mut [u8], at: usize) -> usize
-    requires { ⌜ at + 768 ≤ length (now page) ⌝ }
-    ensures { λ r. ⌜ Answered (lineLeft (now (rec .entry)) (now (text .entry))) (now (page .entry)) at (now (rec .exit)) (now (page .exit)) r ⌝ }
+fn answer_line(rec: &mut [u8], text: &[u8], out: &mut [u8], page: &mut [u8], at: usize) -> usize
+    requires { ⌜ (at + answerSize ≤ length (now page)) × (length (now out) ≡ outputSize) ⌝ }
+    ensures { λ r. ⌜ Answered vaultLines (now (rec .entry)) (now (text .entry)) (now (page .entry)) at (now (rec .exit)) (now (page .exit)) r ⌝ }
+    ensures { λ r. ⌜ r ≤ at + lineShare * (length (now (text .entry)) + 1) ⌝ }
 {
     let mut bytes = [0u8; BYTES];
-    let spelling = bytes_in(text, &mut bytes);
+    let spelling = lines::bytes_in(text, DIGITS, &mut bytes);
     let Spelling::Count(count) = spelling else {
-        return put_refusal(page, at, BAD_LINE);
+        return lines::put_refusal(page, at, BAD_LINE);
     };
-    answer(rec, &bytes[0..count], page, at)
+    answer(rec, &bytes[0..count], out, page, at)
 }
+
+// ---- the input, in pieces
+
+// How much is kept of the line that has begun, and how much is on the page.
+struct Place {
+    len: usize,
+    at: usize,
+}
+
+// A piece of input. The first len bytes of text are what is kept of the line that has begun; the page starts empty.
+fn feed(
+    rec: &mut [u8],
+    text: &mut [u8],
+    len: usize,
+    out: &mut [u8],
+    page: &mut [u8],
+    piece: &[u8],
+) -> Place
+    requires { ⌜ (length (now text) ≡ keptSize) × (len ≤ keptSize) × (length (now out) ≡ outputSize) × (length (now page) ≡ pageSize) × (length (now piece) ≤ pieceSize) ⌝ }
+    ensures { λ r. ⌜ Fed vaultLines keptSize (now (rec .entry)) (take len (now (text .entry))) (now (piece .entry)) (now (rec .exit)) (take (r .len) (now (text .exit))) (take (r .at) (now (page .exit))) ⌝ }
+    ensures { λ r. ⌜ (r .len ≤ keptSize) × (r .at ≤ pageSize) ⌝ }
+{
+    let mut kept = len;
+    let mut at = 0;
+    let mut i = 0;
+    while i < piece.len() {
+        let taken = lines::take_line(text, kept, piece, i);
+        let to = taken.len;
+        let end = taken.next;
+        if end == piece.len() {
+            return Place { len: to, at };
+        }
+        at = answer_line(rec, &text[0..to], out, page, at);
+        kept = 0;
+        i = end + 1;
+    }
+    Place { len: kept, at }
+}
+
+// The input's end: "A line ends at byte 0a or at the input's end; after a final 0a there is no further line".
+fn finish(rec: &mut [u8], text: &[u8], len: usize, out: &mut [u8], page: &mut [u8]) -> usize
+    requires { ⌜ (length (now text) ≡ keptSize) × (len ≤ keptSize) × (length (now out) ≡ outputSize) × (length (now page) ≡ pageSize) ⌝ }
+    ensures { λ r. ⌜ Finished vaultLines (now (rec .entry)) (take len (now (text .entry))) (now (rec .exit)) (take r (now (page .exit))) ⌝ }
+    ensures { λ r. ⌜ r ≤ pageSize ⌝ }
+{
+    if len == 0 {
+        return 0;
+    }
+    answer_line(rec, &text[0..len], out, page, 0)
+}
+
+// ---- reading and writing
 
 // Writes out what is on the page.
 fn flush(page: &[u8], at: usize)
@@ -259,142 +223,59 @@ fn flush(page: &[u8], at: usize)
     io::write_all(libc::STDOUT_FILENO, &page[0..at]);
 }
 
-// Makes room for a line's answer.
-fn room(page: &[u8], at: usize) -> usize
-    requires { ⌜ at ≤ length (now page) ⌝ }
-    ensures { λ r. ⌜ r ≡ roomAt at ⌝ }
-{
-    if at <= PAGE_FULL {
-        return at;
-    }
-    flush(page, at);
-    0
+// How reading ended: the input ran dry, with so much kept of a line that has not ended; or it failed, and that line is dropped.
+enum Ended {
+    Dry(usize),
+    Failed,
 }
 
-// A line has ended: the first len bytes of text are what is kept of it.
-fn end_line(rec: &mut [u8], text: &[u8], len: usize, page: &mut [u8], at: usize) -> usize
-    requires { ⌜ (len ≤ 91) × (length (now text) ≡ 91) × (length (now page) ≡ 65536) × (at ≤ 65536) ⌝ }
-    ensures { λ r. ⌜ Answered (lineLeft (now (rec .entry)) (take len (now (text .entry)))) (now (page .entry)) (roomAt at) (now (rec .exit)) (now (page .exit)) r × (r ≤ 65536) ⌝ }
-{
-    let from = room(page, at);
-    answer_line(rec, &text[0..len], page, from)
-}
-
-// One byte of input.
-fn feed(rec: &mut [u8], text: &mut [u8], page: &mut [u8], place: Place, b: u8) -> Place
-    requires { ⌜ (length (now text) ≡ 91) × (length (now page) ≡ 65536) × (place .len ≤ 91) × (place .at ≤ 65536) ⌝ }
-    ensures { λ r. ⌜ (r .len ≤ 91) × (r .at ≤ 65536) × Fed (now (rec .entry)) (take (place .len) (now (text .entry))) (now (page .entry)) (place .at) b (now (rec .exit)) (take (r .len) (now (text .exit))) (now (page .exit)) (r .at) ⌝ }
-{
-    let len = place.len;
-    if b == LINE_END {
-        let at = end_line(rec, text, len, page, place.at);
-        return Place {
-            len: 0,
-            at,
-            more: true,
-        };
-    }
-    if len < KEPT {
-        text[len] = b;
-        return Place {
-            len: len + 1,
-            at: place.at,
-            more: true,
-        };
-    }
-    Place {
-        len,
-        at: place.at,
-        more: true,
-    }
-}
-
-// A piece of input.
-fn feed_all(rec: &mut [u8], text: &mut [u8], page: &mut [u8], place: Place, piece: &[u8]) -> Place
-    requires { ⌜ (length (now text) ≡ 91) × (length (now page) ≡ 65536) × (place .len ≤ 91) × (place .at ≤ 65536) ⌝ }
-    ensures { λ r. ⌜ (r .len ≤ 91) × (r .at ≤ 65536) ⌝ }
-{
-    let mut now_at = place;
-    let mut i = 0;
-    while i < piece.len() {
-        now_at = feed(rec, text, page, now_at, piece[i]);
-        i += 1;
-    }
-    now_at
-}
-
-// The page is written out, then a piece of input awaited. Where reading fails, the line that has not ended is dropped.
-fn read_some(rec: &mut [u8], text: &mut [u8], page: &mut [u8], place: Place) -> Place
-    requires { ⌜ (length (now text) ≡ 91) × (length (now page) ≡ 65536) × (place .len ≤ 91) × (place .at ≤ 65536) ⌝ }
-    ensures { λ r. ⌜ (r .len ≤ 91) × (r .at ≤ 65536) ⌝ }
-{
-    flush(page, place.at);
-    let mut piece = io::large_buffer();
-    let got = libc::read(libc::STDIN_FILENO, &mut piece);
-    if got < 0 {
-        return Place {
-            len: 0,
-            at: 0,
-            more: false,
-        };
-    }
-    if got == 0 {
-        return Place {
-            len: place.len,
-            at: 0,
-            more: false,
-        };
-    }
-    let count = io::count(got, &piece);
-    feed_all(
-        rec,
-        text,
-        page,
-        Place {
-            len: place.len,
-            at: 0,
-            more: true,
-        },
-        &piece[..count],
-    )
-}
-
+// Reads the input, piece by piece; what a piece prints is written out before more is awaited.
 // A proved loop has to end, and nothing says that the input does: the loop counts its turns down, from a number that no run uses up.
-// Answers how much of a line that has not ended is kept.
-fn read_all(rec: &mut [u8], text: &mut [u8], page: &mut [u8]) -> usize
-    requires { ⌜ (length (now text) ≡ 91) × (length (now page) ≡ 65536) ⌝ }
-    ensures { λ r. ⌜ r ≤ 91 ⌝ }
+fn read_all(
+    rec: &mut [u8],
+    text: &mut [u8],
+    out: &mut [u8],
+    page: &mut [u8],
+    piece: &mut [u8],
+) -> Ended
+    requires { ⌜ (length (now text) ≡ keptSize) × (length (now out) ≡ outputSize) × (length (now page) ≡ pageSize) × (length (now piece) ≡ pieceSize) ⌝ }
+    ensures { λ e. ⌜ EndedWell (now (rec .entry)) e (now (rec .exit)) (now (text .exit)) ⌝ }
 {
-    let mut place = Place {
-        len: 0,
-        at: 0,
-        more: true,
-    };
+    let mut len = 0;
     let mut turns = u64::MAX;
     while turns > 0 {
-        place = read_some(rec, text, page, place);
-        if !place.more {
-            return place.len;
+        let got = libc::read(libc::STDIN_FILENO, piece);
+        if got < 0 {
+            return Ended::Failed;
         }
+        if got == 0 {
+            return Ended::Dry(len);
+        }
+        let count = io::count(got, piece);
+        let place = feed(rec, text, len, out, page, &piece[..count]);
+        flush(page, place.at);
+        len = place.len;
         turns -= 1;
     }
-    0
+    Ended::Failed
 }
 
-// "A line ends at byte 0a or at the input's end; after a final 0a there is no further line".
-fn run(rec: &mut [u8], text: &mut [u8], page: &mut [u8])
-    requires { ⌜ (length (now text) ≡ 91) × (length (now page) ≡ 65536) ⌝ }
+fn run(rec: &mut [u8], text: &mut [u8], out: &mut [u8], page: &mut [u8], piece: &mut [u8])
+    requires { ⌜ (length (now text) ≡ keptSize) × (length (now out) ≡ outputSize) × (length (now page) ≡ pageSize) × (length (now piece) ≡ pieceSize) ⌝ }
 {
-    let len = read_all(rec, text, page);
-    if 0 < len {
-        let at = end_line(rec, text, len, page, 0);
-        flush(page, at);
-    }
+    let ended = read_all(rec, text, out, page, piece);
+    let Ended::Dry(len) = ended else {
+        return;
+    };
+    let at = finish(rec, text, len, out, page);
+    flush(page, at);
 }
 
 fn main() {
     let mut rec = [0u8; layout::SIZE];
     let mut text = [0u8; KEPT];
-    let mut page = [0u8; PAGE_LENGTH];
-    run(&mut rec, &mut text, &mut page);
+    let mut out = [0u8; OUTPUT];
+    let mut page = [0u8; PAGE];
+    let mut piece = [0u8; PIECE];
+    run(&mut rec, &mut text, &mut out, &mut page, &mut piece);
 }

@@ -1,4 +1,4 @@
--- `vaultlines::answer_line` meets its contract: "20 is tested before all else", then the call that the bytes make.
+-- `vaultlines::answer_line` meets its contract: '20 is tested before all else', then the call that the bytes make.
 -- Assumes nothing.
 use denote.Ref.{now}
 use borrow.Author.Needs.{needs}
@@ -26,11 +26,12 @@ same-length c = search needs
 
 returns : tie.Need-returns
 returns c =
-    let b = c .before .before .before .before .before .before .before in
-    let s = b .before .before .before .before .before in
     let p = c .before .before .put-refusal in
-    badAnswered (now (s .args .rec)) (now (s .args .text)) (now (s .args .page)) (s .args .at) (b .bytes-in .result) (b .bytes-in .last .1 .0) (b .bytes-in .ensures .0)
-    (c .before .before .before .before .enum-told .given .1) (p .last .0) (p .result) (p .ensures)
+    let told = c .before .before .before .before .enum-told .given .1 in
+    let b = c .before .before .before .before .before .before .before in
+    let s = b .before .before .before .before .before .before in
+    badAnswered (now (s .args .rec)) (now (s .args .text)) (now (s .args .page)) (s .args .at) (b .bytes-in .result) (b .bytes-in .last .1 .1 .0) (b .bytes-in .ensures .0)
+    told (p .last .0) (p .result) (p .ensures)
 
 sub-answer : tie.Need-sub-answer
 sub-answer c = search needs
@@ -40,9 +41,9 @@ part-answer-start c = search needs
 
 part-answer-end : tie.Need-part-answer-end
 part-answer-end c =
-    let b = c .before .before .before .before .before .before in
+    let b = c .before .before .before .before .before .before .bytes-in in
     let g = c .before .before .before .spelling .given in
-    let few = countWithin (b .bytes-in .result) (g .0 .0) (g .1) (b .bytes-in .ensures .1) in
+    let few = countWithin (b .result) (g .0 .0) _ (g .1) (b .ensures .1) in
     search needs
 
 answer-requires : tie.Need-answer-requires
@@ -54,14 +55,18 @@ same-length-2 c = search needs
 same-length-3 : tie.Need-same-length-3
 same-length-3 c = search needs
 
+same-length-4 : tie.Need-same-length-4
+same-length-4 c = search needs
+
 returns-2 : tie.Need-returns-2
 returns-2 c =
-    let b = c .before .before .before .before .before .before .before .before .before .before .before .before .before in
-    let g = c .before .before .before .before .before .before .before .before .before .before .spelling .given in
-    let s = b .before .before .before .before .before in
-    let a = c .before .before .before .before .answer in
-    countAnswered (now (s .args .rec)) (now (s .args .text)) (now (s .args .page)) (s .args .at) (b .bytes-in .result) (b .bytes-in .last .1 .0) (b .bytes-in .ensures .0)
-    (g .0 .0) (g .1) (a .last .0) (a .last .1 .1 .0) (a .result) (a .ensures)
+    let a = c .before .before .before .before .before .before .answer in
+    let h = c .before .before .before .before .before .before .before .before .before .before .before .before .before in
+    let g = h .spelling .given in
+    let b = h .before .before .before in
+    let s = b .before .before .before .before .before .before in
+    countAnswered (now (s .args .rec)) (now (s .args .text)) (now (s .args .page)) (s .args .at) (b .bytes-in .result) (b .bytes-in .last .1 .1 .0) (b .bytes-in .ensures .0)
+    (g .0 .0) (g .1) (a .last .0) (a .last .1 .1 .1 .0) (a .result) (a .ensures)
 
 pub answer-line-spec : {M : Type 1} → statement M
 answer-line-spec =
@@ -80,4 +85,5 @@ answer-line-spec =
     answer-requires
     same-length-2
     same-length-3
+    same-length-4
     returns-2)

@@ -1,73 +1,147 @@
--- `vaultlines::feed` meets its contract: "A line ends at byte 0a"; any other byte is kept, as far as it counts.
+-- `vaultlines::feed` meets its contract: a piece of input, line by line. The invariant is `FeedTo`; the measure is what is left of the piece.
 -- Assumes nothing.
+use Prim.Native.Nat.{_-_}
+use mathlib.Core.Path.{_≡_, refl, _∙_}
 use native.Mathlib.Omega.{arith}
 use denote.Ref.{now}
-use borrow.Author.Needs.{needs}
-use Rattle.vaultlines.proofs.Answers.{fedEnd, fedMore, fedFull}
+use lib.ListN.{length, take}
+use Rattle.vaultlines.specs.Steps.{outputSize, keptSize, pageSize}
+use Rattle.vaultlines.proofs.Whole.{FeedTo, feedNone, feedEnd, feedLine, feedDone, roomThere, endWithin}
 use Rattle.vaultlines.proofs.feed.Statement.{statement}
 use Rattle.vaultlines.proofs.feed.Tie as tie
 
-end-line-requires : tie.Need-end-line-requires
-end-line-requires c κs = search needs
+abbrev Inv-loop : tie.InvT-loop
+Inv-loop rec₀ text₀ len out₀ page₀ piece kept₀ at₀ i₀ rec text out page kept at i =
+    (length rec ≡ length rec₀) × (length text ≡ keptSize) × (length out ≡ outputSize) × (length page ≡ pageSize)
+    × FeedTo rec₀ (take len text₀) piece rec text page kept at i
 
-same-length : tie.Need-same-length
-same-length c = search needs
+abbrev μ-loop : tie.MeasureT-loop
+μ-loop rec₀ text₀ len out₀ page₀ piece kept₀ at₀ i₀ rec text out page kept at i = length piece - i
 
-same-length-2 : tie.Need-same-length-2
-same-length-2 c = search needs
+loop-holds : tie.Need-loop-holds Inv-loop μ-loop
+loop-holds c =
+    let s = c .before .before .before .before .before in
+    (refl, s .pre .0, s .pre .2, s .pre .3, feedNone (now (s .args .rec)) (now (s .args .text)) (now (s .args .page)) (now (s .args .piece)) (s .args .len) (s .pre .1) (s .pre .4))
 
-same-length-3 : tie.Need-same-length-3
-same-length-3 c = search needs
+take-line-requires : tie.Need-take-line-requires Inv-loop μ-loop
+take-line-requires c κs =
+    let l = c .before .before .loop in
+    (omega (arith, l .inv .1, l .inv .4 .few), l .inv .4 .within)
 
-returns : tie.Need-returns
+same-length : tie.Need-same-length Inv-loop μ-loop
+same-length c = omega arith
+
+same-length-2 : tie.Need-same-length-2 Inv-loop μ-loop
+same-length-2 c = omega arith
+
+same-length-3 : tie.Need-same-length-3 Inv-loop μ-loop
+same-length-3 c = omega arith
+
+same-length-4 : tie.Need-same-length-4 Inv-loop μ-loop
+same-length-4 c = omega arith
+
+returns : tie.Need-returns Inv-loop μ-loop
 returns c =
-    let i = c .before .before .before .before .before .before .before .before in
-    let s = i .before .before .before .before in
-    let e = c .before .before .before .before .end-line in (
-      omega arith,
-      omega (arith, e .ensures .1),
-      fedEnd (now (s .args .rec)) (now (s .args .text)) (now (s .args .page)) (s .args .place .len) (s .args .place .at) (s .args .b) (i .if1 .taken) (now (s .args .text))
-          (e .last .0) (e .last .1 .1 .1 .0) (e .result) (e .ensures .0),
+    let t = c .before .before .before .take-line in
+    let h = c .before .before .before .before .before .before in
+    let l = h .loop in
+    let a = h .before .before .before .before .before .before .args in
+    feedEnd (now (a .rec)) (take (a .len) (now (a .text))) (now (a .piece)) (l .rec) (l .text) (l .page) (l .kept) (l .at) (l .i) (l .inv .4) (l .inv .1) (l .inv .3)
+    (t .last .0) (t .result .len) (t .result .next) (t .kept .0) (t .ensures .0) (t .ensures .1) (c .if1 .taken)
+
+sub-answer-line : tie.Need-sub-answer-line Inv-loop μ-loop
+sub-answer-line c = omega arith
+
+part-answer-line-start : tie.Need-part-answer-line-start Inv-loop μ-loop
+part-answer-line-start c = omega arith
+
+part-answer-line-end : tie.Need-part-answer-line-end Inv-loop μ-loop
+part-answer-line-end c = c .before .before .before .before .before .take-line .ensures .0 .few
+
+answer-line-requires : tie.Need-answer-line-requires Inv-loop μ-loop
+answer-line-requires c κs =
+    let t = c .before .before .before .before .before .before .before .before .take-line in
+    let h = c .before .before .before .before .before .before .before .before .before .before .before in
+    let l = h .loop in
+    let a = h .before .before .before .before .before .before .args in (
+      roomThere (now (a .rec)) (take (a .len) (now (a .text))) (now (a .piece)) (l .rec) (l .text) (l .page) (l .kept) (l .at) (l .i) (l .inv .4) (l .inv .1) (l .inv .3)
+          (t .last .0) (t .result .len) (t .result .next) (t .kept .0) (t .ensures .0) (t .ensures .1),
+      l .inv .2,
     )
 
-slice-write-text : tie.Need-slice-write-text
-slice-write-text c = search needs
+add-i : tie.Need-add-i Inv-loop μ-loop
+add-i c =
+    let t = c .before .before .before .before .before .before .before .before .before .before .before .before .before .before .before .take-line in
+    let h = c .before .before .before .before .before .before .before .before .before .before .before .before .before .before .before .before .before .before in
+    let l = h .loop in
+    let a = h .before .before .before .before .before .before .args in
+    let low = endWithin (now (a .rec)) (take (a .len) (now (a .text))) (now (a .piece)) (l .rec) (l .text) (l .page) (l .kept) (l .at) (l .i) (l .inv .4) (l .inv .1) (l .inv .3)
+    (t .last .0) (t .result .len) (t .result .next) (t .kept .0) (t .ensures .0) (t .ensures .1) in
+    omega (arith, low, c .before .before .before .before .before .before .before .before .before .before .before .before .if1 .left)
 
-add-t16 : tie.Need-add-t16
-add-t16 c = search needs
+loop-less : tie.Need-loop-less Inv-loop μ-loop
+loop-less c =
+    let t = c .before .before .before .before .before .before .before .before .before .before .before .before .before .before .before .take-line in
+    omega (arith, t .ensures .1, c .before .before .before .before .before .before .before .before .before .before .before .before .before .before .before .before .before .loop-test .taken)
 
-same-length-4 : tie.Need-same-length-4
-same-length-4 c = search needs
+loop-again : tie.Need-loop-again Inv-loop μ-loop
+loop-again c =
+    let r = c .before .before .before .before .before .before .answer-line in
+    let e = c .before .before .before .before .before .before .before .before .before .before .before .before .if1 .left in
+    let t = c .before .before .before .before .before .before .before .before .before .before .before .before .before .before .before .take-line in
+    let h = c .before .before .before .before .before .before .before .before .before .before .before .before .before .before .before .before .before .before in
+    let l = h .loop in
+    let a = h .before .before .before .before .before .before .args in (
+      r .kept .0 ∙ l .inv .0,
+      t .kept .0 ∙ l .inv .1,
+      r .kept .1 .1 .0 ∙ l .inv .2,
+      r .kept .1 .1 .1 .0 ∙ l .inv .3,
+      feedLine (now (a .rec)) (take (a .len) (now (a .text))) (now (a .piece)) (l .rec) (l .text) (l .page) (l .kept) (l .at) (l .i) (l .inv .4) (l .inv .1) (l .inv .3)
+          (t .last .0) (t .result .len) (t .result .next) (t .kept .0) (t .ensures .0) (t .ensures .1) e
+          (r .last .0) (r .last .1 .1 .1 .0) (r .result) (r .ensures .0) (r .ensures .1),
+    )
 
-returns-2 : tie.Need-returns-2
+same-length-5 : tie.Need-same-length-5 Inv-loop μ-loop
+same-length-5 c = omega arith
+
+same-length-6 : tie.Need-same-length-6 Inv-loop μ-loop
+same-length-6 c = omega arith
+
+same-length-7 : tie.Need-same-length-7 Inv-loop μ-loop
+same-length-7 c = omega arith
+
+same-length-8 : tie.Need-same-length-8 Inv-loop μ-loop
+same-length-8 c = omega arith
+
+returns-2 : tie.Need-returns-2 Inv-loop μ-loop
 returns-2 c =
-    let s = c .before .before .before .before .before in (
-      omega (arith, c .if2 .taken),
-      omega arith,
-      fedMore (now (s .args .rec)) (now (s .args .text)) (now (s .args .page)) (s .args .place .len) (s .args .place .at) (s .args .b) (c .before .if1 .left) (c .if2 .taken)
-          (s .pre .0),
-    )
-
-returns-3 : tie.Need-returns-3
-returns-3 c =
-    let s = c .before .before .before .before .before in (
-      omega arith,
-      omega arith,
-      fedFull (now (s .args .rec)) (now (s .args .text)) (now (s .args .page)) (s .args .place .len) (s .args .place .at) (s .args .b) (c .before .if1 .left) (c .if2 .left)
-          (s .pre .2) (s .pre .0),
-    )
+    let l = c .before .loop in
+    let a = c .before .before .before .before .before .before .before .args in
+    feedDone (now (a .rec)) (take (a .len) (now (a .text))) (now (a .piece)) (l .rec) (l .text) (l .page) (l .kept) (l .at) (l .i) (l .inv .4) (l .inv .1) (l .inv .3)
+    (c .loop-test .left)
 
 pub feed-spec : {M : Type 1} → statement M
 feed-spec =
     tie.close
     (tie.spec
-    end-line-requires
+    Inv-loop
+    μ-loop
+    loop-holds
+    take-line-requires
     same-length
     same-length-2
     same-length-3
-    returns
-    slice-write-text
-    add-t16
     same-length-4
-    returns-2
-    returns-3)
+    returns
+    sub-answer-line
+    part-answer-line-start
+    part-answer-line-end
+    answer-line-requires
+    add-i
+    loop-less
+    loop-again
+    same-length-5
+    same-length-6
+    same-length-7
+    same-length-8
+    returns-2)

@@ -1,30 +1,31 @@
--- `vaultlines::bytes_in` meets its contract: "not an even count of lower-case hex digits, or over 90 digits", else the bytes that the
+-- `lines::bytes_in` meets its contract: 'not an even count of lower-case hex digits', or more than the limit; else the bytes that the
 -- digits spell. The invariant is `SpelledTo`; the measure is what is left of the count.
 -- Assumes nothing.
-use Prim.Native.Nat.{_-_}
+use Prim.Native.Nat.{_*_, _-_, _≤_}
+use lib.ListN.{length}
 use mathlib.Core.Path.{refl}
 use native.Mathlib.Omega.{arith}
 use denote.Ref.{now}
-use Rattle.vaultlines.proofs.Spelled.{SpelledTo, longSpellsNone, oddSpellsNone, highSpellsNone, lowSpellsNone, spelledMore, spelledAll, spelledFirst}
-use Rattle.vaultlines.proofs.bytes_in.Statement.{statement}
-use Rattle.vaultlines.proofs.bytes_in.Tie as tie
+use Rattle.lines.proofs.Spelled.{SpelledTo, longSpellsNone, oddSpellsNone, highSpellsNone, lowSpellsNone, spelledMore, spelledAll, spelledFirst}
+use Rattle.lines.proofs.bytes_in.Statement.{statement}
+use Rattle.lines.proofs.bytes_in.Tie as tie
 
 abbrev Inv-loop : tie.InvT-loop
-Inv-loop text bytes₀ count i₀ bytes i = SpelledTo text bytes count i
+Inv-loop text limit bytes₀ count i₀ bytes i = (limit ≤ 2 * length bytes₀) × SpelledTo limit text bytes (length bytes₀) count i
 
 abbrev μ-loop : tie.MeasureT-loop
-μ-loop text bytes₀ count i₀ bytes i = count - i
+μ-loop text limit bytes₀ count i₀ bytes i = count - i
 
 returns : tie.Need-returns Inv-loop μ-loop
-returns c = (longSpellsNone (now (c .before .before .before .args .text)) (omega arith), omega arith)
+returns c = (let a = c .before .before .before .args in longSpellsNone (a .limit) (now (a .text)) (omega arith), omega arith)
 
 returns-2 : tie.Need-returns-2 Inv-loop μ-loop
-returns-2 c = (oddSpellsNone (now (c .before .before .before .before .args .text)) (omega arith), omega arith)
+returns-2 c = (let a = c .before .before .before .before .args in oddSpellsNone (a .limit) (now (a .text)) (omega arith), omega arith)
 
 loop-holds : tie.Need-loop-holds Inv-loop μ-loop
 loop-holds c =
     let s = c .before .before .before .before in
-    spelledFirst (now (s .args .text)) (now (s .args .bytes)) _ refl (omega arith) (omega arith) (s .pre)
+    (s .pre, spelledFirst (s .args .limit) (now (s .args .text)) (now (s .args .bytes)) _ refl (omega arith) (omega arith) (s .pre))
 
 mul-value-of : tie.Need-mul-value-of Inv-loop μ-loop
 mul-value-of c = omega arith
@@ -53,7 +54,7 @@ same-length c = omega arith
 returns-3 : tie.Need-returns-3 Inv-loop μ-loop
 returns-3 c =
     let l = c .before .before .before .before .before .before .loop in (
-      highSpellsNone _ (l .bytes) _ (l .i) (l .inv) (c .before .before .before .before .before .loop-test .taken) _ _ (c .before .before .before .value-of .ensures)
+      highSpellsNone _ _ (l .bytes) _ _ (l .i) (l .inv .1) (c .before .before .before .before .before .loop-test .taken) _ _ (c .before .before .before .value-of .ensures)
           (c .before .value-of2 .ensures) (c .if3 .taken),
       omega arith,
     )
@@ -64,7 +65,7 @@ same-length-2 c = omega arith
 returns-4 : tie.Need-returns-4 Inv-loop μ-loop
 returns-4 c =
     let l = c .before .before .before .before .before .before .before .loop in (
-      lowSpellsNone _ (l .bytes) _ (l .i) (l .inv) (c .before .before .before .before .before .before .loop-test .taken) _ _
+      lowSpellsNone _ _ (l .bytes) _ _ (l .i) (l .inv .1) (c .before .before .before .before .before .before .loop-test .taken) _ _
           (c .before .before .before .before .value-of .ensures) (c .before .before .value-of2 .ensures) (c .before .if3 .left) (c .if4 .taken),
       omega arith,
     )
@@ -86,9 +87,11 @@ loop-less c = omega arith
 
 loop-again : tie.Need-loop-again Inv-loop μ-loop
 loop-again c =
-    let l = c .before .before .before .before .before .before .before .loop in
-    spelledMore _ (l .bytes) _ (l .i) (l .inv) (c .before .before .before .before .before .before .loop-test .taken) _ _
-    (c .before .before .before .before .value-of .ensures) (c .before .before .value-of2 .ensures) (c .before .if3 .left) (c .if4 .left)
+    let l = c .before .before .before .before .before .before .before .loop in (
+      l .inv .0,
+      spelledMore _ _ (l .bytes) _ _ (l .i) (l .inv .1) (c .before .before .before .before .before .before .loop-test .taken) _ _
+          (c .before .before .before .before .value-of .ensures) (c .before .before .value-of2 .ensures) (c .before .if3 .left) (c .if4 .left),
+    )
 
 same-length-3 : tie.Need-same-length-3 Inv-loop μ-loop
 same-length-3 c = omega arith
@@ -96,7 +99,7 @@ same-length-3 c = omega arith
 returns-5 : tie.Need-returns-5 Inv-loop μ-loop
 returns-5 c =
     let l = c .before .loop in
-    (spelledAll _ (l .bytes) _ (l .i) (l .inv) (c .loop-test .left), l .inv .few)
+    (spelledAll _ _ (l .bytes) _ _ (l .i) (l .inv .1) (c .loop-test .left), l .inv .1 .few)
 
 pub bytes-in-spec : {M : Type 1} → statement M
 bytes-in-spec =

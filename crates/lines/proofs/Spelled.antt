@@ -1,9 +1,9 @@
--- Laws of the bytes that a line's text spells: "not an even count of lower-case hex digits, or over 90 digits". The loop that reads a text
+-- Laws of the bytes that a text spells: 'not an even count of lower-case hex digits', or more than the limit. The loop that reads a text
 -- keeps that the bytes read so far, with what the rest spells, are what the whole spells, and that the rest is all digits where the whole
 -- is. So the first byte that is no digit decides, or the text's end.
 -- Assumes nothing.
 use Prim.Native.Nat.{ℕ, suc, _+_, _*_, _/_, _%_, _≤_, _<_}
-use mathlib.Core.Path.{_≡_, refl, sym, ap, _∙_}
+use mathlib.Core.Path.{_≡_, refl, sym, ap, subst, _∙_}
 use mathlib.Core.Bool.{Bool, true, false, not, _&&_, cond, or-true, or-false}
 use mathlib.Core.List.{List, [], _∷_, _++_, append-assoc, append-nil}
 use mathlib.Core.Option.{none, some}
@@ -13,31 +13,33 @@ use borrow.Author.Tests.{eq-eqb, ne-eqb, lt-ltb, le-ltb}
 use lib.Dec.{ltb}
 use lib.ListN.{length, getD, take, drop, set, length-set, drop-of-length-le}
 use lib.Seq.{drop-cons, take-suc-set, take-all, length-take-le}
-use Rattle.vaultlines.specs.Digits.{valueOf, allDigits, badLine, spelled, bytesOf}
+use Rattle.lines.specs.Digits.{valueOf, allDigits, badLine, spelled, bytesOf}
 
-pub longSpellsNone : (text : List ℕ) → 90 < length text → none ≡ bytesOf text
-unfolding bytesOf badLine
-longSpellsNone text long = simp (lt-ltb 90 (length text) long, or-true)
+module _ (limit : ℕ) (text : List ℕ) where
+  pub longSpellsNone : limit < length text → none ≡ bytesOf limit text
+  unfolding bytesOf badLine
+  longSpellsNone long = simp (lt-ltb limit (length text) long, or-true)
 
-pub oddSpellsNone : (text : List ℕ) → (length text % 2 ≡ 0 → ⊥) → none ≡ bytesOf text
-unfolding bytesOf badLine
-oddSpellsNone text odd = simp (ne-eqb (length text % 2) 0 odd)
+  pub oddSpellsNone : (length text % 2 ≡ 0 → ⊥) → none ≡ bytesOf limit text
+  unfolding bytesOf badLine
+  oddSpellsNone odd = simp (ne-eqb (length text % 2) 0 odd)
 
--- An even count of at most 90: the digits decide.
-evenSpells : (text : List ℕ) → length text % 2 ≡ 0 → length text ≤ 90 → bytesOf text ≡ cond (allDigits text) (some (spelled text)) none
-unfolding bytesOf badLine
-evenSpells text even short = simp (eq-eqb (length text % 2) 0 even, le-ltb 90 (length text) short, or-false) (go (allDigits text))
-  where
-    go : (b : Bool) → cond (not b) none (some (spelled text)) ≡ cond b (some (spelled text)) none
-    go true = refl
-    go false = refl
+  -- An even count within the limit: the digits decide.
+  evenSpells : length text % 2 ≡ 0 → length text ≤ limit → bytesOf limit text ≡ cond (allDigits text) (some (spelled text)) none
+  unfolding bytesOf badLine
+  evenSpells even short = simp (eq-eqb (length text % 2) 0 even, le-ltb limit (length text) short, or-false) (go (allDigits text))
+    where
+      go : (b : Bool) → cond (not b) none (some (spelled text)) ≡ cond b (some (spelled text)) none
+      go true = refl
+      go false = refl
 
 -- What holds after i of count bytes.
-pub record SpelledTo (text bytes : List ℕ) (count i : ℕ) : Type 0 where
+pub record SpelledTo (limit : ℕ) (text bytes : List ℕ) (size count i : ℕ) : Type 0 where
   pub even : count * 2 ≡ length text
-  pub few : count ≤ 45
+  pub short : length text ≤ limit
+  pub few : count ≤ size
   pub at : i ≤ count
-  pub size : length bytes ≡ 45
+  pub same : length bytes ≡ size
   pub digits : allDigits (drop (2 * i) text) ≡ allDigits text
   pub spells : take i bytes ++ spelled (drop (2 * i) text) ≡ spelled text
 
@@ -52,11 +54,11 @@ twoMore text i room =
     ∙ ap (λ (l : List ℕ). getD text (2 * i) 0 ∷ l) (drop-cons text (2 * i + 1) 0 room)
     ∙ ap (λ (k : ℕ). getD text (2 * i) 0 ∷ getD text (2 * i + 1) 0 ∷ drop k text) third
 
-module _ (text bytes : List ℕ) (count i : ℕ) (so : SpelledTo text bytes count i) where
-  evenHere : bytesOf text ≡ cond (allDigits text) (some (spelled text)) none
-  evenHere = evenSpells text (omega arith) (omega arith)
+module _ (limit : ℕ) (text bytes : List ℕ) (size count i : ℕ) (so : SpelledTo limit text bytes size count i) where
+  evenHere : bytesOf limit text ≡ cond (allDigits text) (some (spelled text)) none
+  evenHere = evenSpells limit text (omega arith) (so .short)
 
-  notDigits : allDigits (drop (2 * i) text) ≡ false → none ≡ bytesOf text
+  notDigits : allDigits (drop (2 * i) text) ≡ false → none ≡ bytesOf limit text
   notDigits bad = sym (evenHere ∙ ap (λ (b : Bool). cond b (some (spelled text)) none) (sym (so .digits) ∙ bad))
 
   -- The next two digits' values.
@@ -66,14 +68,14 @@ module _ (text bytes : List ℕ) (count i : ℕ) (so : SpelledTo text bytes coun
     allTwo = ap allDigits (twoMore text i (omega arith)) ∙ rw (← eh, ← el)
 
     -- A byte that is no digit.
-    pub highSpellsNone : 15 < high → none ≡ bytesOf text
+    pub highSpellsNone : 15 < high → none ≡ bytesOf limit text
     highSpellsNone bad = notDigits (allTwo ∙ simp (le-ltb high 16 (omega arith)))
 
-    pub lowSpellsNone : high ≤ 15 → 15 < low → none ≡ bytesOf text
+    pub lowSpellsNone : high ≤ 15 → 15 < low → none ≡ bytesOf limit text
     lowSpellsNone good bad = notDigits (allTwo ∙ simp (lt-ltb high 16 (omega arith), le-ltb low 16 (omega arith)))
 
     -- One byte more.
-    pub spelledMore : high ≤ 15 → low ≤ 15 → SpelledTo text (set bytes i (high * 16 + low)) count (i + 1)
+    pub spelledMore : high ≤ 15 → low ≤ 15 → SpelledTo limit text (set bytes i (high * 16 + low)) size count (i + 1)
     unfolding spelled
     spelledMore gh gl =
         let b = high * 16 + low in
@@ -83,9 +85,10 @@ module _ (text bytes : List ℕ) (count i : ℕ) (so : SpelledTo text bytes coun
         let all : allDigits (drop (2 * i) text) ≡ allDigits rest = allTwo ∙ simp (lt-ltb high 16 (omega arith), lt-ltb low 16 (omega arith)) in
         record {
           even = so .even;
+          short = so .short;
           few = so .few;
           at = omega arith;
-          size = length-set bytes i b ∙ so .size;
+          same = length-set bytes i b ∙ so .same;
           digits = sym all ∙ so .digits;
           spells = ap (λ (k : ℕ). take k (set bytes i b) ++ spelled rest) next
               ∙ ap (λ (l : List ℕ). l ++ spelled rest) (take-suc-set bytes i b (omega arith))
@@ -95,7 +98,7 @@ module _ (text bytes : List ℕ) (count i : ℕ) (so : SpelledTo text bytes coun
         }
 
   -- All are read.
-  pub spelledAll : count ≤ i → some (take count bytes) ≡ bytesOf text
+  pub spelledAll : count ≤ i → some (take count bytes) ≡ bytesOf limit text
   unfolding allDigits spelled
   spelledAll done =
       let same : i ≡ count = omega arith in
@@ -106,21 +109,39 @@ module _ (text bytes : List ℕ) (count i : ℕ) (so : SpelledTo text bytes coun
       ap (λ (l : List ℕ). some l) here ∙ ap (λ (b : Bool). cond b (some (spelled text)) none) (sym all) ∙ sym evenHere
 
 -- None is read yet.
-pub spelledFirst : (text bytes : List ℕ) (count : ℕ) → count ≡ length text / 2 → length text % 2 ≡ 0 → length text ≤ 90 → length bytes ≡ 45
-    → SpelledTo text bytes count 0
-spelledFirst text bytes count half even short size = record {
+pub spelledFirst : (limit : ℕ) (text bytes : List ℕ) (count : ℕ) → count ≡ length text / 2 → length text % 2 ≡ 0 → length text ≤ limit
+    → limit ≤ 2 * length bytes → SpelledTo limit text bytes (length bytes) count 0
+spelledFirst limit text bytes count half even short size = record {
   even = omega arith;
+  short = short;
   few = omega arith;
   at = omega arith;
-  size = size;
+  same = refl;
   digits = refl;
   spells = refl;
 }
 
--- What is kept of a line spells what the line spells: of one that is longer, one byte beyond the digits is enough to give 20.
-pub keptSpells : (line : List ℕ) → bytesOf (take 91 line) ≡ bytesOf line
-keptSpells line = go (decLe (length line) 91)
+-- What is kept of a line spells what the line spells: of one that is longer, one byte beyond the limit is enough to give 20.
+pub keptSpells : (limit : ℕ) (line : List ℕ) → bytesOf limit (take (suc limit) line) ≡ bytesOf limit line
+keptSpells limit line = go (decLe (length line) (suc limit))
   where
-    go : Dec (length line ≤ 91) → bytesOf (take 91 line) ≡ bytesOf line
-    go (yes short) = ap bytesOf (take-all 91 line short)
-    go (no long) = sym (longSpellsNone (take 91 line) (omega (arith, length-take-le 91 line (omega arith)))) ∙ longSpellsNone line (omega arith)
+    go : Dec (length line ≤ suc limit) → bytesOf limit (take (suc limit) line) ≡ bytesOf limit line
+    go (yes short) = ap (bytesOf limit) (take-all (suc limit) line short)
+    go (no long) =
+        sym (longSpellsNone limit (take (suc limit) line) (omega (arith, length-take-le (suc limit) line (omega arith))))
+        ∙ longSpellsNone limit line (omega arith)
+
+-- Two digits for each byte.
+spelledLength : (text : List ℕ) → 2 * length (spelled text) ≤ length text
+unfolding spelled
+spelledLength [] = omega arith
+spelledLength (high ∷ []) = omega arith
+spelledLength (high ∷ low ∷ text) = omega (arith, spelledLength text)
+
+pub spelledShort : (limit : ℕ) (text s : List ℕ) → bytesOf limit text ≡ some s → 2 * length s ≤ length text
+unfolding bytesOf
+spelledShort limit text s is = go (badLine limit text) is
+  where
+    go : (b : Bool) → cond b none (some (spelled text)) ≡ some s → 2 * length s ≤ length text
+    go true e = let z : _≡_ {A = ℕ} 0 1 = cc in absurd (omega arith)
+    go false e = let same : spelled text ≡ s = cc in subst (λ (l : List ℕ). 2 * length l ≤ length text) same (spelledLength text)

@@ -1,4 +1,4 @@
--- `vaultlines::put_line` meets its contract. "It prints one output entry a line"; "Output digits are lower-case".
+-- `lines::put_line` meets its contract. "It prints one output entry a line"; "Output digits are lower-case".
 -- The invariant: the rest of the line, put on what is there, gives what is to come out.
 -- Assumes nothing.
 use Prim.Native.Nat.{_+_, _*_, _-_, _≤_}
@@ -7,10 +7,10 @@ use native.Mathlib.Omega.{arith}
 use borrow.Author.Needs.{needs}
 use lib.ListN.{length, drop, length-set}
 use Rattle.wire.specs.Placed.{placed}
-use Rattle.vaultlines.specs.Digits.{lineOf}
-use Rattle.vaultlines.proofs.Digits.{line-step, line-done, length-line}
-use Rattle.vaultlines.proofs.put_line.Statement.{statement}
-use Rattle.vaultlines.proofs.put_line.Tie as tie
+use Rattle.lines.specs.Digits.{lineOf}
+use Rattle.lines.proofs.Digits.{lineStep, lineDone, lengthLine}
+use Rattle.lines.proofs.put_line.Statement.{statement}
+use Rattle.lines.proofs.put_line.Tie as tie
 
 abbrev Inv-loop : tie.InvT-loop
 Inv-loop page₀ at s to₀ i₀ page to i =
@@ -56,7 +56,7 @@ loop-again c =
       omega arith,
       omega arith,
       simp length-set (l .inv .2),
-      rw (c .before .digit-of .ensures, c .digit-of2 .ensures) (line-step (l .page) s (l .to) (l .i) (omega arith) (omega arith) ∙ l .inv .3),
+      rw (c .before .digit-of .ensures, c .digit-of2 .ensures) (lineStep (l .page) s (l .to) (l .i) (omega arith) (omega arith) ∙ l .inv .3),
     )
 
 slice-write-page-3 : tie.Need-slice-write-page-3 Inv-loop μ-loop
@@ -73,8 +73,8 @@ returns c =
     let l = c .before .loop in
     let s = c .before .before .before .before .args .s .now in
     record {
-      shown = line-done (l .page) s (l .to) (l .i) (omega arith) (omega arith) ∙ l .inv .3;
-      ends = omega (arith, length-line s);
+      shown = lineDone (l .page) s (l .to) (l .i) (omega arith) (omega arith) ∙ l .inv .3;
+      ends = omega (arith, lengthLine s);
     }
 
 pub put-line-spec : {M : Type 1} → statement M

@@ -1,0 +1,6 @@
+pub mod Digits
+pub mod Feeding
+pub mod Lines
+pub mod Spelled
+pub mod Taking
+pub mod Whole
