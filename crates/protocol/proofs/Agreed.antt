@@ -26,9 +26,10 @@ everyone s third = mostlyEquals (s .n) (s .f) (λ i. true) third (omega (arith, 
 module _ (r : Record) (third : 3 * r .set .f < r .set .n) where
   -- A quorum has a member.
   pub quorumMember : {P : ℕ → Type 0} → Quorum (vaults r) P → (j : ℕ) × (j < r .set .n) × P j
-  quorumMember q =
+  quorumMember {P} q =
       let most = everyone (r .set) third in
-      let (j, low, all, here) = blockingKeeper most (groupMap (λ i low h keeps. h) (quorumBlocks most q)) in
+      let enough : Quorum (vaultsOf (r .set)) P = q in
+      let (j, low, all, here) = blockingKeeper most (groupMap (λ i low h keeps. h) (quorumBlocks most enough)) in
       (j, low, here)
 
   voters : (k p : ℕ) → hasQuorum r k p ≡ true → Quorum (vaults r) (λ j. planNow r k j ≡ some p)

@@ -30,7 +30,7 @@ use Rattle.entry.specs.declared.Entry.the-variants.{ForAll, ForOne}
 use Rattle.protocol.specs.Record.{Record, put}
 use Rattle.settings.specs.declared.Settings.{Settings}
 use Rattle.protocol.specs.Pass.{Out}
-use Rattle.protocol.specs.Calls.{recordRows, timerRows, started, heard, rung, Readable, Call, start, frame, timer, short, Answer, refused, accepted, answer}
+use Rattle.protocol.specs.Calls.{recordRows, timerRows, started, heard, rung, Readable, Call, start, frame, timer, short, Answer, refused, accepted, unless, answer}
 use Rattle.settings.specs.Settings.{settingRows}
 use Rattle.protocol.specs.Runs.{_∈_, Setting, Item, leftBy, wroteBy, recordAt, written, Sent, Fair, Run, nothingYet, andThen, Decides, Started, here, earlier}
 use Rattle.protocol.specs.Claim.{Demand3}
@@ -144,7 +144,8 @@ module _ (c : Setting) (Began : ℕ → Type 0) where
       go (frame (Refused k)) (some r) e began fair is = never is
       go (start s p) none e began fair is =
           let (same-vaults, id) = fair o (ap (λ (b : Option Record). answer b (start s p)) e ∙ is) in
-          let (given, same) = unlessAccepted (first (settingRows s)) (started s p) is in
+          let tested : unless (first (settingRows s)) (started s p) ≡ accepted o = is in
+          let (given, same) = unlessAccepted (first (settingRows s)) (started s p) tested in
           let third : Third = subst (λ (vs : Vaults). 3 * vs .f < total vs) same-vaults (thirdWeight s given) in
           let blank : written l (s .id) ≡ [] = ap (written l) id ∙ v .blank i e in
           let zero-view : viewIn (recordAt l (s .id)) ≡ 0 = ap (λ (j : ℕ). viewIn (recordAt l j)) id ∙ ap viewIn e in (

@@ -330,16 +330,18 @@ module _ (c : Setting) (Began : ℕ → Type 0) where
 
         known : (x : Report) → reportBy (Told (tells r rule)) ≡ some x → ExactNow h′ rule w i x
         known x body =
-            let reads : record {
+            let read : Report = record {
               highest = reported (spelt (voteOf r (claimVote rule) i));
               previous = reported (spelt (r .previous (claimVote rule)));
               lock = reported (spelt (voteOf r (lockVote rule) i));
-            } ≡ x = cc in
+            } in
+            let reads : reportBy (Told (tells r rule)) ≡ some read = refl in
+            let is-x : read ≡ x = cc in
             let same : said ≡ x = (λ z. record {
               highest = sym (reportedSpelt (voteOf r (claimVote rule) i)) z;
               previous = sym (reportedSpelt (r .previous (claimVote rule))) z;
               lock = sym (reportedSpelt (voteOf r (lockVote rule) i)) z;
-            }) ∙ reads in
+            }) ∙ is-x in
             (omega (arith, putSame i ((does r a) .view) (h .at), ap (λ (b : Act). (does r b) .view) is), subst (λ (y : Report). Exact (Voted h′ i) rule w y) same exact)
 
     fineVote : (k p : ℕ) → a ≡ cast k p → Fine h′ i (voteFrame r k p)

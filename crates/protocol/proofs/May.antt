@@ -10,10 +10,11 @@ use mathlib.Core.Option.{Option, none, some}
 use native.Mathlib.Omega.{arith}
 use lib.Dec.{ltb, eqb}
 use borrow.Author.Tests.{ltb-true, eqb-true, not-true}
-use Rattle.quorum.specs.Sets.{isBlocking, Quorum}
+use Rattle.quorum.specs.Sets.{isQuorum, isBlocking, Quorum}
 use Rattle.quorum.proofs.Bools.{bothSplit}
 use Rattle.quorum.proofs.Laws.{groupMap, countQuorum}
 use Rattle.rules.specs.Options.{isNone, holds}
+use Rattle.rules.specs.Counts.{safe}
 use Rattle.rules.specs.Rules.{rule1, rule3, Safe, Chosen}
 use Rattle.rules.proofs.Laws.{holdsWhere, safeIff, choiceIs}
 use Rattle.agreement.proofs.Reports.{isNoneNone}
@@ -53,14 +54,16 @@ module _ (r : Record) where
       let same : ask w ≡ a = cc in
       rw (← same) (ltb-true (r .view) w above, inl (j, at))
 
+  enteredAbove : (w : ℕ) → canEnter r w ≡ true → r .view < w
+  enteredAbove w can = ltb-true (r .view) w (bothSplit (ltb (r .view) w) (asked r isQuorum w) can .0)
+
   mayB : (a : Act) → actB r ≡ some a → May a
   mayB a e =
       let (w, is, g) = eachSome (highest (canEnter r) (changeOf r) (r .set .n)) _ e in
       let (can, found) = highestHas (canEnter r) (changeOf r) (r .set .n) is in
       let (j, low, at) = found in
-      let (above, enough) = bothSplit (ltb (r .view) w) _ can in
       let same : enter w ≡ a = cc in
-      rw (← same) (ltb-true (r .view) w above, (j, at))
+      rw (← same) (enteredAbove w can, (j, at))
 
   mayC : (a : Act) → actC r ≡ some a → May a
   mayC a e =
@@ -91,9 +94,9 @@ module _ (r : Record) where
   mayD a e =
       let (p, is, g) = eachSome (planNow r 0 (leader r (r .view))) _ e in
       let (ok, q) = whenSome (approves r p) (some (cast 1 p)) g in
-      let (new, safe) = bothSplit (not (sentNow r 1)) _ ok in
+      let (new, good) = bothSplit (not (sentNow r 1)) (safe rule3 (vaults r) (reportsOf r rule3) (r .view) p) ok in
       let same : cast 1 p ≡ a = cc in
-      rw (← same) (omega arith, not-true (sentNow r 1) new, (safeIff (vaults r) (reportsOf r rule3) rule3 (r .view) p .1 safe, nowHeld 0 (leader r (r .view)) is))
+      rw (← same) (omega arith, not-true (sentNow r 1) new, (safeIff (vaults r) (reportsOf r rule3) rule3 (r .view) p .1 good, nowHeld 0 (leader r (r .view)) is))
 
   -- Those whose vote-k is for p, as the count of them sees it.
   quorumHeld : (k p : ℕ) → hasQuorum r k p ≡ true → Quorum (vaults r) (Held k p)
