@@ -33,6 +33,16 @@
  *            stored and not yet acted on. A record of zeros is a blank one: once the vault was started, never take a missing or an
  *            empty file for it.
  *
+ * The record's bytes, for a desk that looks at one (only the calls write it). A slot is 13 bytes: mark (1 present, 0 absent), view (4),
+ * plan (8), big-endian; 64 slots of a kind are those of vaults 0 to 63.
+ *      0 to    7  n, f, id, link class (1 each), current view (4)
+ *      8 to  839  view-changes, 64 slots
+ *    840 to  847  starting plan
+ *    848 to 6671  suggests, proofs, proposals, vote-1, vote-2, vote-3, vote-4, 64 slots each
+ *   6672 to 11663 reports of the suggests (highest vote-2, previous vote-2, highest vote-3) and of the proofs (highest vote-1, previous
+ *                 vote-1, highest vote-4), 64 slots each
+ *  11664 to 11702 own previous vote-1, own previous vote-2, decision
+ *
  * Version, targets, stack
  *   VAULT_VERSION is that of this header. The major number changes where frames or stored
  *   records of an earlier version are no longer understood, the minor one where something is added.
