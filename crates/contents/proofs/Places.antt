@@ -2,7 +2,7 @@
 -- (document 01, 'What a vault keeps'). Place numbers are sums of multiples of 64 and 192, so each is found again by division.
 -- Assumes nothing.
 use Prim.Native.Nat.{ℕ, suc, _+_, _-_, _/_, _%_, _≤_, _<_}
-use mathlib.Core.Path.{_≡_, refl, subst}
+use mathlib.Core.Path.{_≡_, refl, _∙_, ap, subst}
 use mathlib.Core.Bool.{true}
 use native.Mathlib.Omega.{arith}
 use native.Mathlib.Decide.{decLt}
@@ -21,7 +21,9 @@ module _ (c : Record) where
   slotHead k j low high row =
       let kind : suc ((frameSlot k j / rows + 5) % kinds) ≡ k = omega arith in
       let sender : frameSlot k j % rows ≡ j = omega arith in
-      rw (lt-ltb (frameSlot k j) firstReport (omega arith), kind, sender)
+      let there : slotAt c (frameSlot k j) ≡ headOf (c .kept (suc ((frameSlot k j / rows + 5) % kinds)) (frameSlot k j % rows)) =
+      rw (lt-ltb (frameSlot k j) firstReport (omega arith)) refl in
+      there ∙ (λ i. headOf (c .kept (kind i) (sender i)))
 
   pub slotTold : (k w j : ℕ) → 7 ≤ k → k ≤ kinds → w < 3 → j < rows → slotAt c (reportSlot k w j) ≡ toldOf w (c .kept k j)
   unfolding slotAt
@@ -36,12 +38,13 @@ module _ (c : Record) where
   slotPrevious k has =
       let (low, high) = previousBounds k has in
       let vote : suc (previousSlot (suc k) - firstPrevious) ≡ k = omega arith in
+      let there : slotAt c (previousSlot (suc k)) ≡ spelt (c .previous (suc (previousSlot (suc k) - firstPrevious))) =
       rw (
         le-ltb (previousSlot (suc k)) firstReport (omega arith),
         le-ltb (previousSlot (suc k)) firstPrevious (omega arith),
         lt-ltb (previousSlot (suc k)) decisionSlot (omega arith),
-        vote,
-      )
+      ) refl in
+      there ∙ ap (λ (v : ℕ). spelt (c .previous v)) vote
 
   pub slotDecision : slotAt c decisionSlot ≡ spelt (c .decision)
   unfolding slotAt

@@ -41,7 +41,7 @@ body-fields k s (reports a b) = rw (body-reports k s a) (rw (number-one s 6, num
 
 decode-fields : (s : List ℕ) (f : Form (getD s 0 0)) → fieldsOf (decode s) ≡ fieldsAt (whole f) s 0
 unfolding decode
-decode-fields s f = rw (number-one s 0, number-one s 1, body-fields (getD s 0 0) s f .0)
+decode-fields s f = rw (number-one s 0, number-one s 1, body-fields (getD s 0 0) s f .0) refl
 
 pub respell : (s : List ℕ) → Bytes s → Formed s → encode (decode s) ≡ s
 unfolding encode

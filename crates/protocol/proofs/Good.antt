@@ -24,7 +24,7 @@ use Rattle.frame.specs.declared.Body.the-variants.{Plan, Empty, Told}
 use Rattle.frame.specs.declared.Frame.{Frame}
 use Rattle.frame.specs.Refusal.{leaderOf}
 use Rattle.entry.specs.declared.Entry.{Entry}
-use Rattle.entry.specs.declared.Entry.the-variants.{ForAll}
+use Rattle.entry.specs.declared.Entry.the-variants.{ForAll, ForOne}
 use Rattle.protocol.specs.Record.{Record, put, each, reported, spelt, voteBy, reportBy, kindOf, keeping, vaults, leader, leads, voteOf, reportsOf, sentNow, tells, changeFrame, voteFrame, reportFrame}
 use Rattle.settings.specs.declared.Settings.{Settings}
 use Rattle.settings.specs.Settings.{vaultsOf}
@@ -70,7 +70,10 @@ newVote r (enter w) j k u p at = ⊎-elim (λ e. never (cc)) (λ rest. ⊎-elim 
 
     suggest : (b : Bool) → ForAll (record { kind = suc k; sender = j; view = u; body = Plan p }) ∈ suggestEntry r w b → (enter w ≡ cast k p) × (u ≡ r .view)
     suggest true rest = elim rest [ ]
-    suggest false rest = let e = List·Memᴰ·eq-of-singleton rest in never (cc)
+    suggest false rest =
+        let vote : Entry = ForAll (record { kind = suc k; sender = j; view = u; body = Plan p }) in
+        let e : vote ≡ ForOne (leader r w) (reportFrame r rule1 w) = List·Memᴰ·eq-of-singleton rest in
+        never (cc)
 newVote r (cast k′ p′) j k u p at =
     let e = frameIs (List·Memᴰ·eq-of-singleton at) in
     let kind : suc k ≡ suc k′ = ap (λ (x : Frame). x .kind) e in

@@ -133,15 +133,32 @@ pub data Sure : List Step → Type 0 where
   done : Sure []
   and : {s : Step} {l : List Step} → Lawful s → Sure l → Sure (s ∷ l)
 
+lawA : Lawful stepA
+unfolding stepA
+lawA = record { act = actA; does = λ r. refl; may = mayA }
+
+lawB : Lawful stepB
+unfolding stepB
+lawB = record { act = actB; does = λ r. refl; may = mayB }
+
+lawC : Lawful stepC
+unfolding stepC
+lawC = record { act = actC; does = λ r. refl; may = mayC }
+
+lawD : Lawful stepD
+unfolding stepD
+lawD = record { act = actD; does = λ r. refl; may = mayD }
+
+lawVote : (k : ℕ) → k < 3 → Lawful (stepVote (suc k))
+unfolding stepVote
+lawVote k low = record { act = λ r. actVote r (suc k); does = λ r. refl; may = λ r. mayVote r k low }
+
+lawH : Lawful stepH
+unfolding stepH
+lawH = record { act = actH; does = λ r. refl; may = mayH }
+
 pub sureC : Sure fromC
-unfolding stepC stepD stepVote stepH
-sureC =
-    and (record { act = actC; does = λ r. refl; may = mayC }) (and (record { act = actD; does = λ r. refl; may = mayD })
-    (and (record { act = λ r. actVote r 1; does = λ r. refl; may = λ r. mayVote r 0 (omega arith) })
-    (and (record { act = λ r. actVote r 2; does = λ r. refl; may = λ r. mayVote r 1 (omega arith) })
-    (and (record { act = λ r. actVote r 3; does = λ r. refl; may = λ r. mayVote r 2 (omega arith) })
-    (and (record { act = actH; does = λ r. refl; may = mayH }) done)))))
+sureC = and lawC (and lawD (and (lawVote 0 (omega arith)) (and (lawVote 1 (omega arith)) (and (lawVote 2 (omega arith)) (and lawH done)))))
 
 pub sureA : Sure fromA
-unfolding stepA stepB
-sureA = and (record { act = actA; does = λ r. refl; may = mayA }) (and (record { act = actB; does = λ r. refl; may = mayB }) sureC)
+sureA = and lawA (and lawB sureC)

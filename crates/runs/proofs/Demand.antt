@@ -260,7 +260,7 @@ module _ (c : Setting) where
       }
 
       begun : (p : ℕ) (s : Settings) (k : Call) → x .call ≡ k → said (recordAt c l i) k ≡ by.start s p → Started p (x ∷ l)
-      begun p s (start set plan) call e = let its : plan ≡ p = cc in here (call ∙ ap (start set) its) went
+      begun p s (start set plan) call e = let its : plan ≡ p = cc in here {x = x} (call ∙ ap (start set) its) went
       begun p s (frame link bytes) call e = let z : _≡_ {A = ℕ} 0 1 = cc in absurd (omega arith)
       begun p s (timer view) call e = let z : _≡_ {A = ℕ} 0 1 = cc in absurd (omega arith)
 

@@ -21,7 +21,11 @@ report-at-requires-3 : tie.Need-report-at-requires-3
 report-at-requires-3 c κs = search needs
 
 returns : tie.Need-returns
-returns c = cc
+returns c = λ i. record {
+  highest = c .before .before .report-at .ensures i;
+  previous = c .before .report-at2 .ensures i;
+  lock = c .report-at3 .ensures i;
+}
 
 pub reports-at-spec : {M : Type 1} → statement M
 reports-at-spec =

@@ -1,6 +1,7 @@
 -- `sound::kind_sound` meets its contract: without a frame the reports in bulk, else rows one by one and a rest in bulk.
 -- Assumes nothing.
-use mathlib.Core.Path.{ap, sym, _∙_}
+use mathlib.Core.Path.{_≡_, ap, sym, _∙_}
+use mathlib.Core.Bool.{Bool}
 use native.Mathlib.Omega.{arith}
 use Prim.Native.Nat.{ℕ, _<_}
 use Rattle.record.specs.Slots.{rows, slotOf}
@@ -37,8 +38,10 @@ no-reports-requires c κs = search needs
 returns : tie.Need-returns
 returns c =
     let a = c .before .before .before .before .before .args in
-    let from = c .before .before .before .frame-slot .ensures .0 in
-    let none = c .before .before .slots-absent .ensures ∙ ap (λ (x : ℕ). all (absentFrom (slotOf (decodeRecord (a .rec .now))) x) rows) from in
+    let at = c .before .before .before .frame-slot in
+    let absent : ℕ → Bool = λ x. all (absentFrom (slotOf (decodeRecord (a .rec .now))) x) rows in
+    let here : c .before .before .slots-absent .result ≡ absent (at .result) = c .before .before .slots-absent .ensures in
+    let none = here ∙ ap absent (at .ensures .0) in
     c .no-reports .ensures ∙ sym (kindAbsent (slotOf (decodeRecord (a .rec .now))) (a .kind) (a .set) (a .view) (told none (c .before .if1 .taken)))
 
 rest-empty-requires : tie.Need-rest-empty-requires

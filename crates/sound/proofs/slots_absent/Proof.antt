@@ -1,12 +1,12 @@
 -- `sound::slots_absent` meets its contract: the bytes of the slots are one part of the record.
 -- Assumes nothing.
-use Prim.Native.Nat.{ℕ, _+_, _*_, _≤_}
-use mathlib.Core.Path.{ap, _∙_}
+use Prim.Native.Nat.{ℕ, _+_, _-_, _*_, _≤_}
+use mathlib.Core.Path.{_≡_, ap, _∙_}
 use native.Mathlib.Omega.{arith}
-use lib.ListN.{length}
+use lib.ListN.{length, take, drop}
 use Rattle.layout.specs.Layout.{slotSize}
 use Rattle.sound.specs.Sound.{all}
-use Rattle.sound.specs.Bulk.{zeroFrom}
+use Rattle.sound.specs.Bulk.{zeroIn, zeroFrom}
 use Rattle.sound.proofs.Places.{runAbsent, runFits, zeroPart}
 use borrow.Author.Needs.{needs}
 use Rattle.sound.proofs.slots_absent.Statement.{statement}
@@ -45,7 +45,9 @@ returns c =
     let e = c .before .before .place-of .ensures .0 in
     let h = runFits (s .args .from) (s .args .count) (s .pre .0) in
     let room : at + slotSize * s .args .count ≤ length bytes = omega (arith, e, h, s .pre .1) in
-    c .zero .ensures ∙ zeroPart bytes at (slotSize * s .args .count) room
+    let part = take (at + slotSize * s .args .count - at) (drop at bytes) in
+    let zeros : c .zero .result ≡ all (zeroIn part) (length part) = c .zero .ensures in
+    zeros ∙ zeroPart bytes at (slotSize * s .args .count) room
     ∙ ap (λ (x : ℕ). all (zeroFrom bytes x) (slotSize * s .args .count)) e
     ∙ runAbsent bytes (s .args .from) (s .args .count) (s .pre .0)
 
