@@ -39,7 +39,8 @@ module _ (s : List ℕ) (link n own : ℕ) where
 
     module _ (linked : first (linkRows (getD s 1 0) link n own) ≡ 0) (f : Frame) (said : f ≡ decode s) where
       after-link : refusal s link n own ≡ first (contentRows f ++ leaderRows f n own)
-      after-link = rw said (after-form ∙ first-none (linkRows (getD s 1 0) link n own) (contentRows (decode s) ++ leaderRows (decode s) n own) (omega arith) linked)
+      after-link =
+          rw said (after-form ∙ first-none (linkRows (getD s 1 0) link n own) (contentRows (decode s) ++ leaderRows (decode s) n own) (omega arith) linked)
 
       pub by-frame : (k : ℕ) → (k ≡ 0 → ⊥) → k ≡ first (contentRows f ++ leaderRows f n own) → Refused k ≡ readFrame s link n own
       by-frame k z e = refused k z (after-link ∙ sym e)

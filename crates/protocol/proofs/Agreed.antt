@@ -41,7 +41,8 @@ module _ (r : Record) (third : 3 * r .set .f < r .set .n) where
 pub onePlan : AtMostOnePlan
 onePlan r third k p q hp hq =
     let most = everyone (r .set) third in
-    let (i, low, all, a, b) = quorumsMeet most (groupMap (λ i low x keeps. x) (voters r third k p hp)) (groupMap (λ i low x keeps. x) (voters r third k q hq)) in
+    let (i, low, all, a, b) = quorumsMeet most (groupMap (λ i low x keeps. x) (voters r third k p hp)) (groupMap (λ i low x keeps. x) (voters r third k q hq))
+        in
     let same : p ≡ q = cc in
     same
 

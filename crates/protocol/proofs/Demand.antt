@@ -50,7 +50,8 @@ abbrev pub past : List Item → Past
 past l = record { wrote = written l; at = λ i. viewIn (recordAt l i) }
 
 -- A refused call leaves the past as it was, an accepted one adds what it answers.
-pub pastRefused : (l : List Item) (x : Item) (k : ℕ) → answer (recordAt l (x .at)) (x .call) ≡ refused k → (recordAt (x ∷ l) ≡ recordAt l) × (written (x ∷ l) ≡ written l)
+pub pastRefused : (l : List Item) (x : Item) (k : ℕ) → answer (recordAt l (x .at)) (x .call) ≡ refused k
+    → (recordAt (x ∷ l) ≡ recordAt l) × (written (x ∷ l) ≡ written l)
 unfolding recordAt written
 pastRefused l x k e = (
   ap (λ (a : Answer). put (x .at) (leftBy (recordAt l (x .at)) a) (recordAt l)) e ∙ putOwn (x .at) (recordAt l),
@@ -58,7 +59,8 @@ pastRefused l x k e = (
       ∙ ap (λ (es : List Entry). put (x .at) es (written l)) (append-nil (written l (x .at))) ∙ putOwn (x .at) (written l),
 )
 
-pub recordAccepted : (l : List Item) (x : Item) (o : Out) → answer (recordAt l (x .at)) (x .call) ≡ accepted o → recordAt (x ∷ l) ≡ put (x .at) (some (o .left)) (recordAt l)
+pub recordAccepted : (l : List Item) (x : Item) (o : Out) → answer (recordAt l (x .at)) (x .call) ≡ accepted o
+    → recordAt (x ∷ l) ≡ put (x .at) (some (o .left)) (recordAt l)
 unfolding recordAt
 recordAccepted l x o e = ap (λ (a : Answer). put (x .at) (leftBy (recordAt l (x .at)) a) (recordAt l)) e
 
@@ -125,12 +127,14 @@ module _ (c : Setting) (Began : ℕ → Type 0) where
   -- An accepted frame does not come from the vault itself.
   othersFrame : (i : ℕ) (x : Frame) → Readable (c .vaults .n) i x → x .sender ≢ i
   othersFrame i x read =
-      eqb-false (x .sender) i (neither (leb (c .vaults .n) (x .sender)) (eqb (x .sender) i) (noneGiven (linkRows (x .sender) (x .sender) (c .vaults .n) i) (read .link) .0) .1)
+      eqb-false (x .sender) i (neither (leb (c .vaults .n) (x .sender)) (eqb (x .sender) i)
+          (noneGiven (linkRows (x .sender) (x .sender) (c .vaults .n) i) (read .link) .0) .1)
 
   never : {A : Type 0} {k : ℕ} {o : Out} → refused k ≡ accepted o → A
   never e = let z : _≡_ {A = ℕ} 0 1 = cc in absurd (omega arith)
 
-  callWent : Seed c Began → {l : List Item} (v : Inv l) (i : ℕ) (a : Call) → ((s : Settings) (p : ℕ) → a ≡ start s p → Began p) → Fair c l i a → (o : Out) → answer (recordAt l i) a ≡ accepted o
+  callWent : Seed c Began → {l : List Item} (v : Inv l) (i : ℕ) (a : Call) → ((s : Settings) (p : ℕ) → a ≡ start s p → Began p) → Fair c l i a → (o : Out)
+      → answer (recordAt l i) a ≡ accepted o
       → Third × Went c Began (past l) i o
   unfolding answer
   callWent seed {l} v i a began fair o is = go a (recordAt l i) refl began fair is
@@ -151,7 +155,8 @@ module _ (c : Setting) (Began : ℕ → Type 0) where
           let zero-view : viewIn (recordAt l (s .id)) ≡ 0 = ap (λ (j : ℕ). viewIn (recordAt l j)) id ∙ ap viewIn e in (
             third,
             subst (λ (u : Out). Went c Began (past l) i u) same
-                (subst (λ (j : ℕ). Went c Began (past l) j (started s p)) id (startWent c Began seed (past l) s p same-vaults (began s p refl) blank zero-view)),
+                (subst (λ (j : ℕ). Went c Began (past l) j (started s p)) id
+                    (startWent c Began seed (past l) s p same-vaults (began s p refl) blank zero-view)),
           )
       go (frame (Accepted x)) (some r) e began fair is =
           let (read, sent) = fair in
@@ -160,13 +165,15 @@ module _ (c : Setting) (Began : ℕ → Type 0) where
           let apart : x .sender ≢ r .set .id = λ (z : x .sender ≡ r .set .id). othersFrame i x read (z ∙ id) in (
             third,
             subst (λ (u : Out). Went c Began (past l) i u) same
-                (subst (λ (j : ℕ). Went c Began (past l) j (heard r x)) id (heardWent c Began seed (past l) r x apart (λ keeps. sentFine v i x (sent keeps)) g)),
+                (subst (λ (j : ℕ). Went c Began (past l) j (heard r x)) id
+                    (heardWent c Began seed (past l) r x apart (λ keeps. sentFine v i x (sent keeps)) g)),
           )
       go (timer w) (some r) e began fair is =
           let (given, same) = unlessAccepted (first (timerRows r w)) (rung r) is in
           let (id, third, g) = v .good i r e in
           let room : r .view ≢ 4294967295 = eqb-false (r .view) 4294967295 (noneGiven (timerRows r w) given .1 .0) in
-          (third, subst (λ (u : Out). Went c Began (past l) i u) same (subst (λ (j : ℕ). Went c Began (past l) j (rung r)) id (rungWent c Began seed (past l) r room g)))
+          (third, subst (λ (u : Out). Went c Began (past l) i u) same
+              (subst (λ (j : ℕ). Went c Began (past l) j (rung r)) id (rungWent c Began seed (past l) r room g)))
 
   invNone : Inv []
   unfolding recordAt written
@@ -177,7 +184,9 @@ module _ (c : Setting) (Began : ℕ → Type 0) where
       let (records, entries) = pastRefused l x k is in
       let same : past l ≡ past (x ∷ l) = λ z. record { wrote = sym entries z; at = λ i. viewIn (sym records z i) } in
       record {
-        good = λ i r e. subst (λ (h : Past). (r .set .id ≡ i) × Third × Good c Began h r) same (v .good i r (ap (λ (t : ℕ → Option Record). t i) (sym records) ∙ e));
+        good =
+            λ i r e. subst (λ (h : Past). (r .set .id ≡ i) × Third × Good c Began h r) same
+            (v .good i r (ap (λ (t : ℕ → Option Record). t i) (sym records) ∙ e));
         blank = λ i e. ap (λ (t : ℕ → List Entry). t i) entries ∙ v .blank i (ap (λ (t : ℕ → Option Record). t i) (sym records) ∙ e);
         kept = λ i e at. v .kept i e (subst (λ (t : ℕ → List Entry). e ∈ t i) entries at);
       }
@@ -196,7 +205,8 @@ module _ (c : Setting) (Began : ℕ → Type 0) where
           let its : o .left ≡ r = own-left (rw same at e) in (
             ap (λ (z : Record). z .set .id) (sym its) ∙ w .id ∙ eqb-true (x .at) i same,
             third,
-            subst (λ (h : Past). Good c Began h r) (sym (pastAccepted l x o is)) (subst (λ (z : Record). Good c Began (onto (past l) (x .at) o) z) its (w .good)),
+            subst (λ (h : Past). Good c Began h r) (sym (pastAccepted l x o is))
+                (subst (λ (z : Record). Good c Began (onto (past l) (x .at) o) z) its (w .good)),
           )
         where
           own-left : some (o .left) ≡ some r → o .left ≡ r
@@ -220,7 +230,8 @@ module _ (c : Setting) (Began : ℕ → Type 0) where
 
   pub invariant : Seed c Began → {l : List Item} → Run c l → ((p : ℕ) → Started p l → Began p) → Inv l
   invariant seed nothingYet began = invNone
-  invariant seed (andThen {l = l} {x = x} run keeps fair) began = go (invariant seed run (λ p s. began p (earlier s))) (answer (recordAt l (x .at)) (x .call)) refl
+  invariant seed (andThen {l = l} {x = x} run keeps fair) began =
+      go (invariant seed run (λ p s. began p (earlier s))) (answer (recordAt l (x .at)) (x .call)) refl
     where
       go : Inv l → (a : Answer) → answer (recordAt l (x .at)) (x .call) ≡ a → Inv (x ∷ l)
       go v (refused k) is = invRefused x k is v

@@ -57,7 +57,8 @@ frameIs : {x y : Frame} → ForAll x ≡ ForAll y → x ≡ y
 frameIs e = cc
 
 -- Only a cast writes a vote, for the current view.
-newVote : (r : Record) (a : Act) (j k u p : ℕ) → ForAll (record { kind = suc k; sender = j; view = u; body = Plan p }) ∈ writes r a → (a ≡ cast k p) × (u ≡ r .view)
+newVote : (r : Record) (a : Act) (j k u p : ℕ) → ForAll (record { kind = suc k; sender = j; view = u; body = Plan p }) ∈ writes r a
+    → (a ≡ cast k p) × (u ≡ r .view)
 unfolding writes
 newVote r (ask w) j k u p at = absurd (notPlan refl (inl (ap (λ (x : Frame). x .body) (frameIs (List·Memᴰ·eq-of-singleton at)))))
 newVote r (enter w) j k u p at = ⊎-elim (λ e. never (cc)) (λ rest. ⊎-elim proof (suggest (leads r w)) (List·Memᴰ·cases-cons rest)) (List·Memᴰ·cases-cons at)
@@ -130,7 +131,8 @@ module _ (r : Record) where
       row : (a : Act) → ((p : ℕ) → a ≡ cast k p → ⊥) → (does r a) .kept (suc k) j ≡ r .kept (suc k) j
       row (ask w) other = keepOtherKind (changeFrame r w) (r .kept) (suc k) j (λ (e : 6 ≡ suc k). omega arith)
       row (enter w) other = suggest w (leads r w)
-      row (cast k′ p) other = keepOtherKind (voteFrame r k′ p) (r .kept) (suc k) j (λ (e : suc k′ ≡ suc k). other p (let is : k′ ≡ k = cc in ap (λ (x : ℕ). cast x p) is))
+      row (cast k′ p) other =
+          keepOtherKind (voteFrame r k′ p) (r .kept) (suc k) j (λ (e : suc k′ ≡ suc k). other p (let is : k′ ≡ k = cc in ap (λ (x : ℕ). cast x p) is))
       row (decide p) other = refl
 
   pub voteCast : (k p : ℕ) → voteOf (does r (cast k p)) k (r .set .id) ≡ some (record { view = r .view; plan = p })
@@ -150,10 +152,12 @@ module _ (r : Record) where
 
   pub previousCast : (k p : ℕ) → hasPrevious k ≡ true → (does r (cast k p)) .previous k ≡ shift p (voteOf r k (r .set .id)) (r .previous k)
   unfolding does
-  previousCast k p h = ap (λ (b : Bool). cond b (put k (shift p (voteOf r k (r .set .id)) (r .previous k)) (r .previous)) (r .previous) k) h ∙ putSame k _ (r .previous)
+  previousCast k p h =
+      ap (λ (b : Bool). cond b (put k (shift p (voteOf r k (r .set .id)) (r .previous k)) (r .previous)) (r .previous) k) h ∙ putSame k _ (r .previous)
 
 pub previousThird : (k : ℕ) → hasPrevious k ≡ true → k < 3
-previousThird k h = ⊎-elim (λ e. let is : k ≡ 1 = eqb-true k 1 e in omega arith) (λ e. let is : k ≡ 2 = eqb-true k 2 e in omega arith) (either (eqb k 1) (eqb k 2) h)
+previousThird k h =
+    ⊎-elim (λ e. let is : k ≡ 1 = eqb-true k 1 e in omega arith) (λ e. let is : k ≡ 2 = eqb-true k 2 e in omega arith) (either (eqb k 1) (eqb k 2) h)
 
 pub previousBelow : (k : ℕ) → hasPrevious k ≡ true → k < 5
 previousBelow k h = omega (arith, previousThird k h)
@@ -202,7 +206,9 @@ module _ (c : Setting) (Began : ℕ → Type 0) where
         subst (λ (u : ℕ). ExactNow h rule u j x) (eqb-true (y .view) (r .view) t) (fine .told rule x kind body)
 
     quorumSent : (k p : ℕ) → Quorum (vaults r) (Held r k p) → Quorum (c .vaults) (λ j. c .keeps j ≡ true → Voted h j k (r .view) p)
-    quorumSent k p q = subst (λ (vs : Vaults). Quorum vs (λ j. c .keeps j ≡ true → Voted h j k (r .view) p)) (g .vaults) (groupMap (λ j low e keeps. keptWasSent k j p keeps e) q)
+    quorumSent k p q =
+        subst (λ (vs : Vaults). Quorum vs (λ j. c .keeps j ≡ true → Voted h j k (r .view) p)) (g .vaults)
+        (groupMap (λ j low e keeps. keptWasSent k j p keeps e) q)
 
     chosenReason : (p : ℕ) {o : Option ℕ} → Chosen (vaults r) (reportsOf r rule1) (r .view) (r .start) o → o ≡ some p
         → Reason (c .vaults) (c .keeps) (ExactNow h rule1 (r .view)) Began (r .view) p
@@ -210,14 +216,18 @@ module _ (c : Setting) (Began : ℕ → Type 0) where
     chosenReason p (Rules.other {o = none} never least) e = absurd (none≢some e)
     chosenReason p (Rules.other {o = some q} never least) e =
         let is : q ≡ p = cc in
-        found (r .start) (reportsOf r rule1) (keptIsExact rule1) (subst (λ (vs : Vaults). ¬ Safe rule1 vs (reportsOf r rule1) (r .view) (r .start)) (g .vaults) never)
-        (subst (λ (vs : Vaults). Safe rule1 vs (reportsOf r rule1) (r .view) p) (g .vaults) (subst (λ (x : ℕ). Safe rule1 (vaults r) (reportsOf r rule1) (r .view) x) is (least .0)))
+        found (r .start) (reportsOf r rule1) (keptIsExact rule1)
+            (subst (λ (vs : Vaults). ¬ Safe rule1 vs (reportsOf r rule1) (r .view) (r .start)) (g .vaults) never)
+        (subst (λ (vs : Vaults). Safe rule1 vs (reportsOf r rule1) (r .view) p) (g .vaults)
+            (subst (λ (x : ℕ). Safe rule1 (vaults r) (reportsOf r rule1) (r .view) x) is (least .0)))
 
     ground : Seed → (k p : ℕ) → Reached r k p → Ground c Began h k (r .view) p
     ground seed zero p (lead, e) = seed h r g p e
     ground seed (suc zero) p (safe, e) = (
-      record { proofs = reportsOf r rule3; from = keptIsExact rule3; safe = subst (λ (vs : Vaults). Safe rule3 vs (reportsOf r rule3) (r .view) p) (g .vaults) safe },
-      subst (λ (n : ℕ). c .keeps (leaderOf (r .view) n) ≡ true → Voted h (leaderOf (r .view) n) 0 (r .view) p) (ap (λ (vs : Vaults). vs .n) (g .vaults)) (λ keeps. keptWasSent 0 (leader r (r .view)) p keeps e),
+      record { proofs = reportsOf r rule3; from = keptIsExact rule3; safe = subst (λ (vs : Vaults). Safe rule3 vs (reportsOf r rule3) (r .view) p) (g .vaults)
+          safe },
+      subst (λ (n : ℕ). c .keeps (leaderOf (r .view) n) ≡ true → Voted h (leaderOf (r .view) n) 0 (r .view) p) (ap (λ (vs : Vaults). vs .n) (g .vaults))
+          (λ keeps. keptWasSent 0 (leader r (r .view)) p keeps e),
     )
     ground seed (suc (suc k)) p q = quorumSent (suc k) p q
 
@@ -328,7 +338,8 @@ module _ (c : Setting) (Began : ℕ → Type 0) where
         exact : Exact (Voted h′ i) rule w said
         exact = exactReport rule w said (λ k u p at. omega (arith, later, g .below k u p (back k u p at)))
             (topsOn (votedOld (claimVote rule)) (back (claimVote rule)) (g .highest (claimVote rule) (claimBelow rule .0)))
-            (topsOn (λ u p (at, o). (votedOld (claimVote rule) u p at, o)) (λ u p (at, o). (back (claimVote rule) u p at, o)) (g .previous (claimVote rule) (claimBelow rule .1)))
+            (topsOn (λ u p (at, o). (votedOld (claimVote rule) u p at, o)) (λ u p (at, o). (back (claimVote rule) u p at, o))
+                (g .previous (claimVote rule) (claimBelow rule .1)))
             (topsOn (votedOld (lockVote rule)) (back (lockVote rule)) (g .highest (lockVote rule) (lockBelow rule)))
 
         known : (x : Report) → reportBy (Told (tells r rule)) ≡ some x → ExactNow h′ rule w i x
@@ -345,7 +356,8 @@ module _ (c : Setting) (Began : ℕ → Type 0) where
               previous = sym (reportedSpelt (r .previous (claimVote rule))) z;
               lock = sym (reportedSpelt (voteOf r (lockVote rule) i)) z;
             }) ∙ is-x in
-            (omega (arith, putSame i ((does r a) .view) (h .at), ap (λ (b : Act). (does r b) .view) is), subst (λ (y : Report). Exact (Voted h′ i) rule w y) same exact)
+            (omega (arith, putSame i ((does r a) .view) (h .at), ap (λ (b : Act). (does r b) .view) is), subst (λ (y : Report). Exact (Voted h′ i) rule w y)
+                same exact)
 
     fineVote : (k p : ℕ) → a ≡ cast k p → Fine h′ i (voteFrame r k p)
     unfolding writes
@@ -354,7 +366,8 @@ module _ (c : Setting) (Began : ℕ → Type 0) where
       vote = λ k′ p′ kind body.
           let same : k ≡ k′ = cc in
           let plan : p ≡ p′ = cc in
-          entryNew _ (subst (λ (b : Act). ForAll (record { kind = suc k′; sender = i; view = r .view; body = Plan p′ }) ∈ writes r b) (sym is ∙ refl) (head same plan));
+          entryNew _ (subst (λ (b : Act). ForAll (record { kind = suc k′; sender = i; view = r .view; body = Plan p′ }) ∈ writes r b) (sym is ∙ refl)
+              (head same plan));
       told = λ rule x kind body. absurd (none≢some body);
     }
       where
@@ -402,8 +415,10 @@ module _ (c : Setting) (Began : ℕ → Type 0) where
             (topsOn (λ u p (at, o). (votedOld k u p at, o))
             (λ u p (at, o). (⊎-elim (λ old. old) (λ new. absurd (other p (new .0))) (votedSplit k u p at), o)) (g .previous k has)))
         go (inl (p, is)) =
-            subst (λ (o : Option Vote). Tops (Other (Voted h′ i k) o) ((does r a) .previous k)) (sym (ap (λ (b : Act). voteOf (does r b) k i) is ∙ voteCast r k p))
-            (subst (Tops (Other (Voted h′ i k) (some (record { view = r .view; plan = p })))) (sym (ap (λ (b : Act). (does r b) .previous k) is ∙ previousCast r k p has))
+            subst (λ (o : Option Vote). Tops (Other (Voted h′ i k) o) ((does r a) .previous k))
+                (sym (ap (λ (b : Act). voteOf (does r b) k i) is ∙ voteCast r k p))
+            (subst (Tops (Other (Voted h′ i k) (some (record { view = r .view; plan = p }))))
+                (sym (ap (λ (b : Act). (does r b) .previous k) is ∙ previousCast r k p has))
             (shiftTops (r .view) p (votedOld k) (castSplit k p is) (g .highest k (previousBelow k has)) (g .previous k has)))
 
     keptNow : (b : Act) → a ≡ b → (k j : ℕ) (x : Frame) → (does r b) .kept k j ≡ some x → c .keeps j ≡ true → (x .kind ≡ k) × Fine h′ j x
@@ -426,7 +441,8 @@ module _ (c : Setting) (Began : ℕ → Type 0) where
 
     toldNow : Seed → (b : Act) → a ≡ b → (e : Entry) → e ∈ writes r b → Past′.Told c Began h′ i e
     unfolding writes
-    toldNow seed (ask w) is e at = subst (Past′.Told c Began h′ i) (sym (List·Memᴰ·eq-of-singleton at)) (fineChange w, λ k p kind body. absurd (notPlan body (inl refl)))
+    toldNow seed (ask w) is e at =
+        subst (Past′.Told c Began h′ i) (sym (List·Memᴰ·eq-of-singleton at)) (fineChange w, λ k p kind body. absurd (notPlan body (inl refl)))
     toldNow seed (enter w) is e at = ⊎-elim timer (λ rest. ⊎-elim proof (suggest (leads r w)) (List·Memᴰ·cases-cons rest)) (List·Memᴰ·cases-cons at)
       where
         timer : e ≡ timerEntry r w → Past′.Told c Began h′ i e
@@ -455,7 +471,8 @@ module _ (c : Setting) (Began : ℕ → Type 0) where
       plan = subst Began (sym (doesStart r a)) (g .plan);
       now = at-own (λ (j : ℕ). h′ .at j ≡ (does r a) .view) (putSame i ((does r a) .view) (h .at));
       below = at-own (λ (j : ℕ). (k u p : ℕ) → Voted h′ j k u p → u ≤ (does r a) .view)
-          (λ k u p at. ⊎-elim (λ old. omega (arith, doesView r a may, g .below k u p old)) (λ new. omega (arith, doesView r a may, new .1)) (votedSplit k u p at));
+          (λ k u p at. ⊎-elim (λ old. omega (arith, doesView r a may, g .below k u p old)) (λ new. omega (arith, doesView r a may, new .1))
+              (votedSplit k u p at));
       once = at-own (λ (j : ℕ). (k v p q : ℕ) → Voted h′ j k v p → Voted h′ j k v q → p ≡ q) onceNow;
       highest = at-own (λ (j : ℕ). (k : ℕ) → k < 5 → Tops (Voted h′ j k) (voteOf (does r a) k j)) highestNow;
       previous = at-own (λ (j : ℕ). (k : ℕ) → hasPrevious k ≡ true → Tops (Other (Voted h′ j k) (voteOf (does r a) k j)) ((does r a) .previous k)) previousNow;
@@ -470,7 +487,8 @@ module _ (c : Setting) (Began : ℕ → Type 0) where
   -- ---- others act, or a frame is kept
 
   -- Vault i has done nothing, and others went on.
-  pub waits : {h h′ : Past} {r : Record} → Later h h′ → h′ .wrote (r .set .id) ≡ h .wrote (r .set .id) → h′ .at (r .set .id) ≡ h .at (r .set .id) → Good h r → Good h′ r
+  pub waits : {h h′ : Past} {r : Record} → Later h h′ → h′ .wrote (r .set .id) ≡ h .wrote (r .set .id) → h′ .at (r .set .id) ≡ h .at (r .set .id) → Good h r
+      → Good h′ r
   waits {h} {h′} {r} on same view g = record {
     vaults = g .vaults;
     plan = g .plan;
@@ -490,7 +508,8 @@ module _ (c : Setting) (Began : ℕ → Type 0) where
       back k u p at = subst (λ (l : List Entry). ForAll (record { kind = suc k; sender = r .set .id; view = u; body = Plan p }) ∈ l) same at
 
   -- The vault keeps another's frame.
-  pub heardGood : {h : Past} {r : Record} (x : Frame) → x .sender ≢ r .set .id → (c .keeps (x .sender) ≡ true → Fine h (x .sender) x) → Good h r → Good h (keep x r)
+  pub heardGood : {h : Past} {r : Record} (x : Frame) → x .sender ≢ r .set .id → (c .keeps (x .sender) ≡ true → Fine h (x .sender) x) → Good h r
+      → Good h (keep x r)
   unfolding keep
   heardGood {h} {r} x other fine g = record {
     vaults = g .vaults;

@@ -50,7 +50,8 @@ module _ (c : Setting) where
       go (frame (Refused k)) (some r) e brings fair = tt
       go (frame (Accepted x)) (some r) e brings fair =
           let (id, third, g) = v .good i r e in
-          subst (λ (n : ℕ). Readable n (r .set .id) x) (sym (ap (λ (vs : Vaults). vs .n) (g .vaults))) (subst (λ (j : ℕ). Readable (c .vaults .n) j x) (sym id) (fair .0))
+          subst (λ (n : ℕ). Readable n (r .set .id) x) (sym (ap (λ (vs : Vaults). vs .n) (g .vaults)))
+              (subst (λ (j : ℕ). Readable (c .vaults .n) j x) (sym id) (fair .0))
       go (timer w) b e brings fair = tt
       go short b e brings fair = tt
 
@@ -72,7 +73,8 @@ module _ (c : Setting) where
     entries = λ i. subst (λ (h : Past). AllValid (h .wrote i)) (sym (pastAccepted l x o is)) (entriesAt i (which (eqb (x .at) i)));
   }
     where
-      recordsAt : (i : ℕ) (r : Record) → (eqb (x .at) i ≡ true) ⊎ (eqb (x .at) i ≡ false) → put (x .at) (some (o .left)) (recordAt l) i ≡ some r → Sound r × Ranged r
+      recordsAt : (i : ℕ) (r : Record) → (eqb (x .at) i ≡ true) ⊎ (eqb (x .at) i ≡ false) → put (x .at) (some (o .left)) (recordAt l) i ≡ some r
+          → Sound r × Ranged r
       recordsAt i r (inl same) e = left (rw same at e)
         where
           left : some (o .left) ≡ some r → Sound r × Ranged r
@@ -86,8 +88,10 @@ module _ (c : Setting) where
   -- Refusal 3 never meets a record of a run, and every output of a run reads as its entries.
   pub runLasts : {l : List Item} → Run c l → Wide l → Lasting l
   runLasts nothingYet wide = lastsNone
-  runLasts (andThen {l = l} {x = x} run keeps fair) (brings, wide) = go (runLasts run wide) (invariant c (λ p. Unit {0}) (anySeed c) run (λ p s. tt)) (answer (recordAt l (x .at)) (x .call)) refl
+  runLasts (andThen {l = l} {x = x} run keeps fair) (brings, wide) =
+      go (runLasts run wide) (invariant c (λ p. Unit {0}) (anySeed c) run (λ p s. tt)) (answer (recordAt l (x .at)) (x .call)) refl
     where
       go : Lasting l → Inv c (λ p. Unit {0}) l → (a : Answer) → answer (recordAt l (x .at)) (x .call) ≡ a → Lasting (x ∷ l)
       go v inv (refused k) is = lastsRefused x k is v
-      go v inv (accepted o) is = lastsAccepted x o is (callProper (recordAt l (x .at)) (x .call) (λ r e. v .records (x .at) r e) (feeds inv (x .at) (x .call) brings fair) o is) v
+      go v inv (accepted o) is =
+          lastsAccepted x o is (callProper (recordAt l (x .at)) (x .call) (λ r e. v .records (x .at) r e) (feeds inv (x .at) (x .call) brings fair) o is) v

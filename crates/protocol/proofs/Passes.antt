@@ -21,4 +21,5 @@ joined es fs o z = record { left = o .left; wrote = sym (append-assoc es fs (o .
 pub passJoin : (a b : List Step) (r : Record) → pass (a ++ b) r ≡ onward ((pass a r) .wrote) (pass b ((pass a r) .left))
 unfolding pass
 passJoin [] b r = refl
-passJoin (s ∷ a) b r = ap (onward ((s r) .wrote)) (passJoin a b ((s r) .left)) ∙ joined ((s r) .wrote) ((pass a ((s r) .left)) .wrote) (pass b ((pass a ((s r) .left)) .left))
+passJoin (s ∷ a) b r =
+    ap (onward ((s r) .wrote)) (passJoin a b ((s r) .left)) ∙ joined ((s r) .wrote) ((pass a ((s r) .left)) .wrote) (pass b ((pass a ((s r) .left)) .left))

@@ -42,7 +42,8 @@ laterTrans x y = record {
 
 -- ---- reports
 
-pub highestOn : {P Q : ℕ → ℕ → Type 0} {v : ℕ} {o : Option Vote} → ((u p : ℕ) → P u p → Q u p) → ((u p : ℕ) → u < v → Q u p → P u p) → Highest P v o → Highest Q v o
+pub highestOn : {P Q : ℕ → ℕ → Type 0} {v : ℕ} {o : Option Vote} → ((u p : ℕ) → P u p → Q u p) → ((u p : ℕ) → u < v → Q u p → P u p) → Highest P v o
+    → Highest Q v o
 highestOn to back t = record {
   low = λ {x} e. t .low e;
   sent = λ {x} e. to (x .view) (x .plan) (t .sent e);
@@ -95,7 +96,8 @@ module _ (c : Setting) (Began : ℕ → Type 0) where
       Vouched (c .vaults) (c .keeps) (ExactNow h rule3 v) v p × (c .keeps (leaderOf v (c .vaults .n)) ≡ true → Voted h (leaderOf v (c .vaults .n)) 0 v p)
   Ground h (suc (suc k)) v p = Quorum (c .vaults) (λ j. c .keeps j ≡ true → Voted h j (suc k) v p)
 
-  reasonOn : {h g : Past} → Later h g → {v p : ℕ} → Reason (c .vaults) (c .keeps) (ExactNow h rule1 v) Began v p → Reason (c .vaults) (c .keeps) (ExactNow g rule1 v) Began v p
+  reasonOn : {h g : Past} → Later h g → {v p : ℕ} → Reason (c .vaults) (c .keeps) (ExactNow h rule1 v) Began v p
+      → Reason (c .vaults) (c .keeps) (ExactNow g rule1 v) Began v p
   reasonOn on (own b) = own b
   reasonOn on {v} (found s rs from unsafe safe) = found s rs (λ j x keeps e. exactOn on rule1 v j x (from j x keeps e)) unsafe safe
 

@@ -39,7 +39,8 @@ passWhole : {steps : List Step} → Sure steps → (r : Record) → Whole r → 
 unfolding pass
 passWhole done r w = (w, tt)
 passWhole (and {s = s} {l = rest} law sure) r w =
-    subst (λ (o : Out). Whole ((pass rest (o .left)) .left) × AllValid (o .wrote ++ (pass rest (o .left)) .wrote)) (sym (law .does r)) (go (law .act r) refl (passWhole sure))
+    subst (λ (o : Out). Whole ((pass rest (o .left)) .left) × AllValid (o .wrote ++ (pass rest (o .left)) .wrote)) (sym (law .does r))
+        (go (law .act r) refl (passWhole sure))
   where
     go : (b : Option Act) → law .act r ≡ b → ((r : Record) → Whole r → Whole ((pass rest r) .left) × AllValid ((pass rest r) .wrote))
         → Whole ((pass rest ((taken r b) .left)) .left) × AllValid ((taken r b) .wrote ++ (pass rest ((taken r b) .left)) .wrote)
@@ -58,7 +59,9 @@ freshWhole s p given low = record {
 -- A frame that the reader accepted is in its row.
 readInRow : (s : Settings) (x : Frame) → Readable (s .n) (s .id) x → InRow s (x .kind) (x .sender) x
 readInRow s x read = record {
-  row = leb-false (s .n) (x .sender) (neither (leb (s .n) (x .sender)) (eqb (x .sender) (s .id)) (noneGiven (linkRows (x .sender) (x .sender) (s .n) (s .id)) (read .link) .0) .0);
+  row =
+      leb-false (s .n) (x .sender) (neither (leb (s .n) (x .sender)) (eqb (x .sender) (s .id))
+      (noneGiven (linkRows (x .sender) (x .sender) (s .n) (s .id)) (read .link) .0) .0);
   kind = refl;
   sender = refl;
   valid = read .valid;
@@ -79,12 +82,15 @@ heardWhole r x read w = record {
 }
   where
     other : x .sender ≡ r .set .id → ⊥
-    other = eqb-false (x .sender) (r .set .id) (neither (leb (r .set .n) (x .sender)) (eqb (x .sender) (r .set .id)) (noneGiven (linkRows (x .sender) (x .sender) (r .set .n) (r .set .id)) (read .link) .0) .1)
+    other =
+        eqb-false (x .sender) (r .set .id) (neither (leb (r .set .n) (x .sender)) (eqb (x .sender) (r .set .id))
+        (noneGiven (linkRows (x .sender) (x .sender) (r .set .n) (r .set .id)) (read .link) .0) .1)
 
     ownVote : (k : ℕ) → voteOf (keep x r) k (r .set .id) ≡ voteOf r k (r .set .id)
     ownVote k = ap (λ (o : Option Frame). each o (λ y. voteBy (y .view) (y .body))) (keepOtherSender x (r .kept) (suc k) (r .set .id) other)
 
-callWhole : (b : Option Record) (a : Call) → ((r : Record) → b ≡ some r → Sound r × Ranged r) → Fed b a → (o : Out) → answer b a ≡ accepted o → Whole (o .left) × AllValid (o .wrote)
+callWhole : (b : Option Record) (a : Call) → ((r : Record) → b ≡ some r → Sound r × Ranged r) → Fed b a → (o : Out) → answer b a ≡ accepted o
+    → Whole (o .left) × AllValid (o .wrote)
 unfolding answer started heard rung
 callWhole b short was fed o e = let z : _≡_ {A = ℕ} 0 1 = cc in absurd (omega arith)
 callWhole none (frame x) was fed o e = let z : _≡_ {A = ℕ} 0 1 = cc in absurd (omega arith)
@@ -98,7 +104,8 @@ callWhole none (start s p) was fed o e =
 callWhole (some r) (frame (Accepted x)) was fed o e =
     let (given, same) = unlessAccepted (first (recordRows r x)) (heard r x) e in
     let (sound, ranged) = was r refl in
-    subst (λ (u : Out). Whole (u .left) × AllValid (u .wrote)) same (passWhole sureA (keep x r) (heardWhole r x fed (record { sound = sound; ranged = ranged })))
+    subst (λ (u : Out). Whole (u .left) × AllValid (u .wrote)) same
+        (passWhole sureA (keep x r) (heardWhole r x fed (record { sound = sound; ranged = ranged })))
 callWhole (some r) (timer v) was fed o e =
     let (given, same) = unlessAccepted (first (timerRows r v)) (rung r) e in
     let (sound, ranged) = was r refl in

@@ -24,12 +24,15 @@ pub acceptedReadable : (s : List ℕ) (link n own : ℕ) (x : Frame) → Bytes s
 acceptedReadable s link n own x bytes e =
     let p = passed s link n own x e in
     let said : getD s 1 0 ≡ x .sender = senderSaid s ∙ ap (λ (y : Frame). y .sender) (p .said) in
-    let same : getD s 1 0 ≡ link = eqb-true (getD s 1 0) link (not-false (eqb (getD s 1 0) link) (noneGiven (linkRows (getD s 1 0) link n own) (p .link-passed) .1 .0)) in
+    let same : getD s 1 0 ≡ link = eqb-true (getD s 1 0) link
+        (not-false (eqb (getD s 1 0) link) (noneGiven (linkRows (getD s 1 0) link n own) (p .link-passed) .1 .0)) in
     let own-link : x .sender ≡ link = sym said ∙ same in (
       own-link,
       record {
         valid = accepted-valid s link n own x bytes e;
-        link = subst (λ (j : ℕ). first (linkRows (x .sender) j n own) ≡ 0) (sym own-link) (subst (λ (j : ℕ). first (linkRows j link n own) ≡ 0) said (p .link-passed));
+        link =
+            subst (λ (j : ℕ). first (linkRows (x .sender) j n own) ≡ 0) (sym own-link)
+            (subst (λ (j : ℕ). first (linkRows j link n own) ≡ 0) said (p .link-passed));
         content = p .content;
         leader = p .leader;
       },

@@ -56,7 +56,8 @@ module _ (r t : Record) (set : t .set ≡ r .set) (view : t .view ≡ r .view) w
   sameD : t .kept 1 ≡ r .kept 1 → t .kept 2 ≡ r .kept 2 → t .kept 8 ≡ r .kept 8 → actD t ≡ actD r
   sameD proposals own proofs z = actD (seen (set z) 0 (view z) (λ k. cond (eqb k 1) (proposals z) (cond (eqb k 2) (own z) (proofs z))))
 
-  sameVote : (k : ℕ) → k < 3 → t .kept (suc (suc k)) ≡ r .kept (suc (suc k)) → t .kept (suc (suc (suc k))) ≡ r .kept (suc (suc (suc k))) → actVote t (suc k) ≡ actVote r (suc k)
+  sameVote : (k : ℕ) → k < 3 → t .kept (suc (suc k)) ≡ r .kept (suc (suc k)) → t .kept (suc (suc (suc k))) ≡ r .kept (suc (suc (suc k)))
+      → actVote t (suc k) ≡ actVote r (suc k)
   unfolding agreed
   sameVote zero low votes own = λ z. actVote (seen (set z) 0 (view z) (λ k. cond (eqb k 2) (votes z) (own z))) 1
   sameVote (suc zero) low votes own = λ z. actVote (seen (set z) 0 (view z) (λ k. cond (eqb k 3) (votes z) (own z))) 2
@@ -153,7 +154,9 @@ ownA r w top = eachNone (highest (asked t isBlocking) (changeOf t) (r .set .n)) 
 -- No view is above the one that B entered.
 ownB : (r : Record) (w : ℕ) → highest (canEnter r) (changeOf r) (r .set .n) ≡ some w → actB (does r (enter w)) ≡ none
 unfolding does
-ownB r w top = ap (λ (row : Row). actB (seen (r .set) 0 w (λ k. row))) (enterKind r w) ∙ eachNone (highest (canEnter t) (changeOf r) (r .set .n)) _ (λ x is. absurd (higher x is))
+ownB r w top =
+    ap (λ (row : Row). actB (seen (r .set) 0 w (λ k. row))) (enterKind r w)
+    ∙ eachNone (highest (canEnter t) (changeOf r) (r .set .n)) _ (λ x is. absurd (higher x is))
   where
     t : Record
     t = seen (r .set) 0 w (r .kept)
@@ -167,7 +170,8 @@ ownB r w top = ap (λ (row : Row). actB (seen (r .set) 0 w (λ k. row))) (enterK
         let (j, low, at) = found in
         let (over, enough) = bothSplit (ltb w x) (asked r isQuorum x) can in
         let l : w < x = ltb-true w x over in
-        let (z, is-top, le) = highestMost (canEnter r) (changeOf r) (r .set .n) j x low at (bothJoin (ltb (r .view) x) (asked r isQuorum x) (lt-ltb (r .view) x (omega (arith, up))) enough) in
+        let (z, is-top, le) = highestMost (canEnter r) (changeOf r) (r .set .n) j x low at
+            (bothJoin (ltb (r .view) x) (asked r isQuorum x) (lt-ltb (r .view) x (omega (arith, up))) enough) in
         let same : z ≡ w = cc in
         omega arith
 
@@ -188,7 +192,9 @@ unfolding does
 castDone n r k p low five q = record {
   a = λ le. sameA r (does r (cast k p)) refl refl (castKind r k p 6 (λ (e : suc k ≡ 6). omega arith)) ∙ q .a le;
   b = λ le. sameB r (does r (cast k p)) refl refl (castKind r k p 6 (λ (e : suc k ≡ 6). omega arith)) ∙ q .b le;
-  c = λ le. sameC r (does r (cast k p)) refl refl refl (castKind r k p 1 (λ (e : suc k ≡ 1). omega arith)) (castKind r k p 7 (λ (e : suc k ≡ 7). omega arith)) ∙ q .c le;
+  c =
+      λ le. sameC r (does r (cast k p)) refl refl refl (castKind r k p 1 (λ (e : suc k ≡ 1). omega arith)) (castKind r k p 7 (λ (e : suc k ≡ 7). omega arith))
+      ∙ q .c le;
   d = λ le. sameD r (does r (cast k p)) refl refl (castKind r k p 1 (λ (e : suc k ≡ 1). omega arith)) (castKind r k p 2 (λ (e : suc k ≡ 2). omega arith))
       (castKind r k p 8 (λ (e : suc k ≡ 8). omega arith)) ∙ q .d le;
   votes = λ m three le. sameVote r (does r (cast k p)) refl refl m three (castKind r k p (suc (suc m)) (λ (e : suc k ≡ suc (suc m)). omega arith))
@@ -205,7 +211,9 @@ unfolding stepA
 climbA r q = go (actA r) refl
   where
     only : (t : Record) → actA t ≡ none → Done 1 t
-    only t e = record { a = λ le. e; b = λ le. absurd (omega arith); c = λ le. absurd (omega arith); d = λ le. absurd (omega arith); votes = λ k three le. absurd (omega arith); h = λ le. absurd (omega arith) }
+    only t e =
+        record { a = λ le. e; b = λ le. absurd (omega arith); c = λ le. absurd (omega arith); d = λ le. absurd (omega arith); votes = λ k three le. absurd
+        (omega arith); h = λ le. absurd (omega arith) }
 
     go : (o : Option Act) → actA r ≡ o → Done 1 ((taken r o) .left)
     go none e = only r e
@@ -220,7 +228,9 @@ unfolding stepB
 climbB r q = go (actB r) refl
   where
     both : (t : Record) → actA t ≡ none → actB t ≡ none → Done 2 t
-    both t a b = record { a = λ le. a; b = λ le. b; c = λ le. absurd (omega arith); d = λ le. absurd (omega arith); votes = λ k three le. absurd (omega arith); h = λ le. absurd (omega arith) }
+    both t a b =
+        record { a = λ le. a; b = λ le. b; c = λ le. absurd (omega arith); d = λ le. absurd (omega arith); votes = λ k three le. absurd
+        (omega arith); h = λ le. absurd (omega arith) }
 
     go : (o : Option Act) → actB r ≡ o → Done 2 ((taken r o) .left)
     go none e = both r (q .a (omega arith)) e
@@ -235,7 +245,9 @@ unfolding stepC
 climbC r q = go (actC r) refl
   where
     more : (t : Record) → Done 2 t → actC t ≡ none → Done 3 t
-    more t q e = record { a = λ le. q .a (omega arith); b = λ le. q .b (omega arith); c = λ le. e; d = λ le. absurd (omega arith); votes = λ k three le. absurd (omega arith); h = λ le. absurd (omega arith) }
+    more t q e =
+        record { a = λ le. q .a (omega arith); b = λ le. q .b (omega arith); c = λ le. e; d = λ le. absurd (omega arith); votes = λ k three le. absurd
+        (omega arith); h = λ le. absurd (omega arith) }
 
     own : (p : ℕ) → actC (does r (cast 0 p)) ≡ none
     own p = whenFalse (mayPropose (does r (cast 0 p))) _ (rw (castSent r 0 p) (and-false (leads (does r (cast 0 p)) ((does r (cast 0 p)) .view))))
@@ -252,7 +264,9 @@ unfolding stepD
 climbD r q = go (actD r) refl
   where
     more : (t : Record) → Done 3 t → actD t ≡ none → Done 4 t
-    more t q e = record { a = λ le. q .a (omega arith); b = λ le. q .b (omega arith); c = λ le. q .c (omega arith); d = λ le. e; votes = λ k three le. absurd (omega arith); h = λ le. absurd (omega arith) }
+    more t q e =
+        record { a = λ le. q .a (omega arith); b = λ le. q .b (omega arith); c = λ le. q .c (omega arith); d = λ le. e; votes = λ k three le. absurd
+        (omega arith); h = λ le. absurd (omega arith) }
 
     own : (p : ℕ) → actD (does r (cast 1 p)) ≡ none
     own p = eachNone (planNow (does r (cast 1 p)) 0 (leader (does r (cast 1 p)) ((does r (cast 1 p)) .view))) _ (λ x is. rw (castSent r 1 p))
@@ -288,7 +302,8 @@ climbVote k low r q = go (actVote r (suc k)) refl
     go none e = more r q e
     go (some x) e =
         let (p, same) = actIs (agreed r (suc k)) (λ p. not (sentNow r (suc (suc k)))) (cast (suc (suc k))) e in
-        subst (λ (y : Act). Done (suc (k + 4)) (does r y)) same (more (does r (cast (suc (suc k)) p)) (castDone (k + 4) r (suc (suc k)) p (omega arith) (omega arith) q) (own p))
+        subst (λ (y : Act). Done (suc (k + 4)) (does r y)) same
+            (more (does r (cast (suc (suc k)) p)) (castDone (k + 4) r (suc (suc k)) p (omega arith) (omega arith) q) (own p))
 
 climbH : Climbs 7 stepH
 unfolding stepH does agreed
@@ -327,7 +342,9 @@ unfolding pass
 doneA r = doneC _ (climbB _ (climbA r none-yet))
   where
     none-yet : Done 0 r
-    none-yet = record { a = λ le. absurd (omega arith); b = λ le. absurd (omega arith); c = λ le. absurd (omega arith); d = λ le. absurd (omega arith); votes = λ k three le. absurd (omega arith); h = λ le. absurd (omega arith) }
+    none-yet =
+        record { a = λ le. absurd (omega arith); b = λ le. absurd (omega arith); c = λ le. absurd (omega arith); d = λ le. absurd
+        (omega arith); votes = λ k three le. absurd (omega arith); h = λ le. absurd (omega arith) }
 
 doneFresh : (s : Settings) (p : ℕ) → Done 2 (fresh s p)
 doneFresh s p = record {
@@ -349,8 +366,10 @@ unfolding stepA stepB stepC stepD stepVote stepH
 quietPass r q =
     quietStep stepA _ r (ap (taken r) (q .a (omega arith))) (quietStep stepB _ r (ap (taken r) (q .b (omega arith)))
     (quietStep stepC _ r (ap (taken r) (q .c (omega arith))) (quietStep stepD _ r (ap (taken r) (q .d (omega arith)))
-    (quietStep (stepVote 1) _ r (ap (taken r) (q .votes 0 (omega arith) (omega arith))) (quietStep (stepVote 2) _ r (ap (taken r) (q .votes 1 (omega arith) (omega arith)))
-    (quietStep (stepVote 3) _ r (ap (taken r) (q .votes 2 (omega arith) (omega arith))) (quietStep stepH [] r (ap (taken r) (q .h (omega arith))) (passNone r))))))))
+    (quietStep (stepVote 1) _ r (ap (taken r) (q .votes 0 (omega arith) (omega arith)))
+        (quietStep (stepVote 2) _ r (ap (taken r) (q .votes 1 (omega arith) (omega arith)))
+    (quietStep (stepVote 3) _ r (ap (taken r) (q .votes 2 (omega arith) (omega arith)))
+        (quietStep stepH [] r (ap (taken r) (q .h (omega arith))) (passNone r))))))))
 
 -- After every accepted call a further pass does nothing.
 pub callSettles : AlwaysSettled

@@ -75,7 +75,8 @@ pub shiftStands : (v p : ℕ) (top old : Option Vote) → Under v top → Stands
 shiftStands v p none old low s x is = let (y, is-top, more, other) = s x is in absurd (none≢some is-top)
 shiftStands v p (some z) old low s x is = go (which (eqb (z .plan) p))
   where
-    go : (eqb (z .plan) p ≡ true) ⊎ (eqb (z .plan) p ≡ false) → (y : Vote) × (_≡_ {A = Option Vote} (some (record { view = v; plan = p })) (some y)) × (x .view < y .view) × (y .plan ≢ x .plan)
+    go : (eqb (z .plan) p ≡ true) ⊎ (eqb (z .plan) p ≡ false)
+        → (y : Vote) × (_≡_ {A = Option Vote} (some (record { view = v; plan = p })) (some y)) × (x .view < y .view) × (y .plan ≢ x .plan)
     go (inl same) =
         let was : old ≡ some x = rw same at is in
         let (y, top, more, other) = s x was in
@@ -110,7 +111,8 @@ module _ (n i : ℕ) (small : i < 256) where
     leader = λ led. refl;
   }
 
-  pub voteSendable : (k v p : ℕ) → k < 5 → (k ≡ 0 → leaderOf v n ≡ i) → v < 2 ^ 32 → p < 2 ^ 64 → Sendable n i (record { kind = suc k; sender = i; view = v; body = Plan p })
+  pub voteSendable : (k v p : ℕ) → k < 5 → (k ≡ 0 → leaderOf v n ≡ i) → v < 2 ^ 32 → p < 2 ^ 64
+      → Sendable n i (record { kind = suc k; sender = i; view = v; body = Plan p })
   unfolding viewMissing within misled
   voteSendable k v p low led lv lp = record {
     valid = record { shape = rw (le-leb 1 (suc k) (omega arith), le-leb (suc k) 5 (omega arith)); sized = (omega arith, (omega arith, (lv, (lp, tt)))) };
@@ -129,7 +131,8 @@ module _ (n i : ℕ) (small : i < 256) where
   sizedSpelt none fs fit rest = (omega arith, (omega arith, (omega arith, rest)))
   sizedSpelt (some x) fs fit rest = (omega arith, (fit x refl .0, (fit x refl .1, rest)))
 
-  pub reportSendable : (rule : Rule) (w : ℕ) (h p l : Option Vote) → 0 < w → w < 2 ^ 32 → Under w h → Under w p → Under w l → badPrevious (spelt h) (spelt p) ≡ false
+  pub reportSendable : (rule : Rule) (w : ℕ) (h p l : Option Vote) → 0 < w → w < 2 ^ 32 → Under w h → Under w p → Under w l
+      → badPrevious (spelt h) (spelt p) ≡ false
       → ((x : Vote) → h ≡ some x → Fits x) → ((x : Vote) → p ≡ some x → Fits x) → ((x : Vote) → l ≡ some x → Fits x)
       → Sendable n i (record { kind = kindOf rule; sender = i; view = w; body = Told (record { highest = spelt h; previous = spelt p; lock = spelt l }) })
   unfolding viewMissing within misled
@@ -142,7 +145,8 @@ module _ (n i : ℕ) (small : i < 256) where
           last none fit = (omega arith, (omega arith, (omega arith, tt)))
           last (some x) fit = (omega arith, (fit x refl .0, (fit x refl .1, tt)))
 
-      by : (rule : Rule) → Sendable n i (record { kind = kindOf rule; sender = i; view = w; body = Told (record { highest = spelt h; previous = spelt p; lock = spelt l }) })
+      by : (rule : Rule)
+          → Sendable n i (record { kind = kindOf rule; sender = i; view = w; body = Told (record { highest = spelt h; previous = spelt p; lock = spelt l }) })
       by rule1 = record {
         valid = record { shape = refl; sized = (omega arith, (omega arith, (low, sized))) };
         content = rw (ne-eqb w 0 (λ (e : w ≡ 0). omega arith)) (reportsPass w h p l uh up ul stands);

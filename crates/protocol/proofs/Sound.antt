@@ -155,7 +155,8 @@ module _ {r : Record} (w : Whole r) where
 
   pub reportGoes : (v : ℕ) → r .view < v → v < 2 ^ 32 → (rule : Rule) → Sendable (r .set .n) (r .set .id) (reportFrame r rule v)
   reportGoes v later low rule =
-      reportSendable (r .set .n) (r .set .id) small rule v (voteOf r (claimVote rule) (r .set .id)) (r .previous (claimVote rule)) (voteOf r (lockVote rule) (r .set .id))
+      reportSendable (r .set .n) (r .set .id) small rule v (voteOf r (claimVote rule) (r .set .id)) (r .previous (claimVote rule))
+          (voteOf r (lockVote rule) (r .set .id))
       (omega arith) low
       (λ x e. omega (arith, ownLow (claimVote rule) x (claimBelow rule .0) e))
       (λ x e. omega (arith, previousLow (claimVote rule) x (claimBelow rule .1) e))
@@ -163,7 +164,8 @@ module _ {r : Record} (w : Whole r) where
       (w .sound .previous (claimVote rule) (claimBelow rule .1))
       (voteWidth (claimVote rule) (r .set .id)) (w .ranged .previous (claimVote rule)) (voteWidth (lockVote rule) (r .set .id))
 
-  ownRow : (y : Frame) → y .sender ≡ r .set .id → Sendable (r .set .n) (r .set .id) y → (y .kind ≡ 7 → leaderOf (y .view) (r .set .n) ≡ r .set .id) → InRow (r .set) (y .kind) (y .sender) y
+  ownRow : (y : Frame) → y .sender ≡ r .set .id → Sendable (r .set .n) (r .set .id) y → (y .kind ≡ 7 → leaderOf (y .view) (r .set .n) ≡ r .set .id)
+      → InRow (r .set) (y .kind) (y .sender) y
   ownRow y own ok led = record {
     row = subst (λ (j : ℕ). j < r .set .n) (sym own) (idBelow (r .set) (w .sound .settings));
     kind = refl;
@@ -178,7 +180,8 @@ module _ {r : Record} (w : Whole r) where
   pub rowsBy : (y : Frame) (t : ℕ → ℕ → Option Frame) → InRow (r .set) (y .kind) (y .sender) y → ((k j : ℕ) (x : Frame) → t k j ≡ some x → InRow (r .set) k j x)
       → (k j : ℕ) (x : Frame) → keeping y t k j ≡ some x → InRow (r .set) k j x
   rowsBy y t new old k j x e = ⊎-elim
-      (λ (kind, sender, same). subst (λ (z : Frame). InRow (r .set) k j z) same (subst (λ (i : ℕ). InRow (r .set) k i y) sender (subst (λ (i : ℕ). InRow (r .set) i (y .sender) y) kind new)))
+      (λ (kind, sender, same). subst (λ (z : Frame). InRow (r .set) k j z) same
+          (subst (λ (i : ℕ). InRow (r .set) k i y) sender (subst (λ (i : ℕ). InRow (r .set) i (y .sender) y) kind new)))
       (old k j x) (keepWas y t k j e)
 
   ownBy : (v : ℕ) (y : Frame) (t : ℕ → ℕ → Option Frame) → (y .kind ≢ 6 → y .view ≤ v) → ((k : ℕ) (x : Frame) → t k (r .set .id) ≡ some x → k ≢ 6 → x .view ≤ v)
@@ -225,7 +228,8 @@ module _ {r : Record} (w : Whole r) where
       goes = reportGoes v (may .0) (wishWidth v (may .1))
 
       proofs : (k j : ℕ) (x : Frame) → keeping (reportFrame r rule3 v) (r .kept) k j ≡ some x → InRow (r .set) k j x
-      proofs = rowsBy (reportFrame r rule3 v) (r .kept) (ownRow (reportFrame r rule3 v) refl (goes rule3) (λ (e : 8 ≡ 7). absurd (omega arith))) (w .sound .kept)
+      proofs =
+          rowsBy (reportFrame r rule3 v) (r .kept) (ownRow (reportFrame r rule3 v) refl (goes rule3) (λ (e : 8 ≡ 7). absurd (omega arith))) (w .sound .kept)
 
       rows : (b : Bool) → leads r v ≡ b → (k j : ℕ) (x : Frame) → entered r v b k j ≡ some x → InRow (r .set) k j x
       rows true lead = rowsBy (reportFrame r rule1 v) (keeping (reportFrame r rule3 v) (r .kept))

@@ -120,7 +120,8 @@ unfolding highest
 highestMost test f zero j x low e p = absurd (omega arith)
 highestMost test f (suc n) j x low e p = go (ℕ-discrete j n) (λ under. highestMost test f n j x under e p)
   where
-    go : Dec (j ≡ n) → (j < n → (w : ℕ) × (highest test f n ≡ some w) × (x ≤ w)) → (w : ℕ) × (higher (when (holds test (f n)) (f n)) (highest test f n) ≡ some w) × (x ≤ w)
+    go : Dec (j ≡ n) → (j < n → (w : ℕ) × (highest test f n ≡ some w) × (x ≤ w))
+        → (w : ℕ) × (higher (when (holds test (f n)) (f n)) (highest test f n) ≡ some w) × (x ≤ w)
     go (yes is) rest = let at : f n ≡ some x = ap f (sym is) ∙ e in higherMost (when (holds test (f n)) (f n)) (highest test f n) x (inl (rw (at, p)))
     go (no other) rest = higherMost (when (holds test (f n)) (f n)) (highest test f n) x (inr (rest (omega arith)))
 

@@ -75,11 +75,14 @@ module _ (r : Record) (tabled : Tabled r) where
   rowPasses : (k j : ℕ) (x : Frame) → InRow (r .set) k j x → passesRow (r .set) k j x ≡ true
   rowPasses k j x i =
       bothJoin (ltb j (r .set .n)) _ (lt-ltb j (r .set .n) (i .row)) (bothJoin (eqb (x .kind) k) _ (eq-eqb (x .kind) k (i .kind))
-      (bothJoin (eqb (x .sender) j) _ (eq-eqb (x .sender) j (i .sender)) (bothJoin (eqb (first (contentRows x)) 0) _ (eq-eqb (first (contentRows x)) 0 (i .content))
+      (bothJoin (eqb (x .sender) j) _ (eq-eqb (x .sender) j (i .sender))
+          (bothJoin (eqb (first (contentRows x)) 0) _ (eq-eqb (first (contentRows x)) 0 (i .content))
       (eq-eqb (first (leaderRows x (r .set .n) (r .set .id))) 0 (i .leader)))))
 
   standsTest : (k : ℕ) → previousStands r k ≡ true → hasPrevious k ≡ true → badPrevious (spelt (voteOf r k (r .set .id))) (spelt (r .previous k)) ≡ false
-  standsTest k h has = ⊎-elim (λ never. absurd (clash has (not-true (hasPrevious k) never))) (not-true (badPrevious (spelt (voteOf r k (r .set .id))) (spelt (r .previous k)))) (either (not (hasPrevious k)) _ h)
+  standsTest k h has =
+      ⊎-elim (λ never. absurd (clash has (not-true (hasPrevious k) never))) (not-true (badPrevious (spelt (voteOf r k (r .set .id))) (spelt (r .previous k))))
+      (either (not (hasPrevious k)) _ h)
 
   standsPasses : (k : ℕ) → (hasPrevious k ≡ true → badPrevious (spelt (voteOf r k (r .set .id))) (spelt (r .previous k)) ≡ false) → previousStands r k ≡ true
   standsPasses k s = go (which (hasPrevious k))
@@ -107,10 +110,12 @@ module _ (r : Record) (tabled : Tabled r) where
             settings = eqb-true (first (settingRows (r .set))) 0 settings;
             kept = λ k j x e.
                 let (pos, lk, lj, valid) = tabled k j x e in
-                rowTest k j x valid (ifAnyAt (passesRow (r .set) k j) (r .kept k j) x (everyAt (λ j. ifAny (passesRow (r .set) k j) (r .kept k j)) 64 j (everyAt rows 9 k kept lk) lj) e);
+                rowTest k j x valid (ifAnyAt (passesRow (r .set) k j) (r .kept k j) x
+                    (everyAt (λ j. ifAny (passesRow (r .set) k j) (r .kept k j)) 64 j (everyAt rows 9 k kept lk) lj) e);
             own = λ k x e other.
                 let (pos, lk, lj, valid) = tabled k (r .set .id) x e in
-                leb-true (x .view) (r .view) (ifAnyAt (λ (x : Frame). leb (x .view) (r .view)) (r .kept k (r .set .id)) x (unlessSix k other (everyAt owns 9 k own lk)) e);
+                leb-true (x .view) (r .view) (ifAnyAt (λ (x : Frame). leb (x .view) (r .view)) (r .kept k (r .set .id)) x
+                    (unlessSix k other (everyAt owns 9 k own lk)) e);
             previous = λ k has. standsTest k (everyAt (previousStands r) 3 k previous (previousThird k has)) has;
           }
         where
@@ -129,7 +134,9 @@ module _ (r : Record) (tabled : Tabled r) where
             where
               go : (eqb k 6 ≡ true) ⊎ (eqb k 6 ≡ false) → owns k ≡ true
               go (inl six) = orLeft (eqb k 6) _ six
-              go (inr other) = orRight (eqb k 6) _ (ifAnyOf (λ (x : Frame). leb (x .view) (r .view)) (r .kept k (r .set .id)) (λ x e. le-leb (x .view) (r .view) (s .own k x e (eqb-false k 6 other))))
+              go (inr other) =
+                  orRight (eqb k 6) _ (ifAnyOf (λ (x : Frame). leb (x .view) (r .view)) (r .kept k (r .set .id))
+                  (λ x e. le-leb (x .view) (r .view) (s .own k x e (eqb-false k 6 other))))
 
 -- What calls leave passes the test.
 pub soundPasses : (r : Record) → Sound r → isSound r ≡ true

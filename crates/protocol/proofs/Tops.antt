@@ -88,7 +88,8 @@ lockBelow rule1 = omega arith
 lockBelow rule3 = omega arith
 
 -- A report of the highest, the previous and the lock is exact for a view above all votes.
-pub exactReport : {voted : ℕ → ℕ → ℕ → Type 0} (rule : Rule) (w : ℕ) (r : Report) → ((k u p : ℕ) → voted k u p → u < w) → Tops (voted (claimVote rule)) (r .highest)
+pub exactReport : {voted : ℕ → ℕ → ℕ → Type 0} (rule : Rule) (w : ℕ) (r : Report) → ((k u p : ℕ) → voted k u p → u < w)
+    → Tops (voted (claimVote rule)) (r .highest)
     → Tops (Other (voted (claimVote rule)) (r .highest)) (r .previous) → Tops (voted (lockVote rule)) (r .lock) → Exact voted rule w r
 exactReport rule w r below high prev lock = record {
   highest = topsHighest w (below (claimVote rule)) high;

@@ -83,7 +83,8 @@ ontoNone h i r now z = record { wrote = wrote z; at = at z }
 ontoTwice : (h : Past) (i : ℕ) (o u : Out) → onto (onto h i o) i u ≡ onto h i (onward (o .wrote) u)
 ontoTwice h i o u z = record { wrote = wrote z; at = putAgain i (u .left .view) (o .left .view) (h .at) z }
   where
-    wrote : put i (put i (h .wrote i ++ o .wrote) (h .wrote) i ++ u .wrote) (put i (h .wrote i ++ o .wrote) (h .wrote)) ≡ put i (h .wrote i ++ (o .wrote ++ u .wrote)) (h .wrote)
+    wrote : put i (put i (h .wrote i ++ o .wrote) (h .wrote) i ++ u .wrote) (put i (h .wrote i ++ o .wrote) (h .wrote)) ≡ put i
+        (h .wrote i ++ (o .wrote ++ u .wrote)) (h .wrote)
     wrote =
         ap (λ (l : List Entry). put i (l ++ u .wrote) (put i (h .wrote i ++ o .wrote) (h .wrote))) (putSame i (h .wrote i ++ o .wrote) (h .wrote))
         ∙ putAgain i ((h .wrote i ++ o .wrote) ++ u .wrote) (h .wrote i ++ o .wrote) (h .wrote)
@@ -127,7 +128,8 @@ module _ (c : Setting) (Began : ℕ → Type 0) (seed : Seed c Began) where
 
   -- ---- the calls
 
-  pub startWent : (h : Past) (s : Settings) (p : ℕ) → vaultsOf s ≡ c .vaults → Began p → h .wrote (s .id) ≡ [] → h .at (s .id) ≡ 0 → Went c Began h (s .id) (started s p)
+  pub startWent : (h : Past) (s : Settings) (p : ℕ) → vaultsOf s ≡ c .vaults → Began p → h .wrote (s .id) ≡ [] → h .at (s .id) ≡ 0
+      → Went c Began h (s .id) (started s p)
   unfolding started
   startWent h s p same began blank zero-view = further c Began first-out (pass fromC (fresh s p)) later (passWent sureC h₁ (fresh s p) good)
     where
@@ -138,7 +140,9 @@ module _ (c : Setting) (Began : ℕ → Type 0) (seed : Seed c Began) where
       h₁ = onto h (s .id) first-out
 
       only : (e : Entry) → e ∈ h₁ .wrote (s .id) → e ≡ timerEntry (fresh s p) 0
-      only e at = List·Memᴰ·eq-of-singleton (subst (λ (l : List Entry). e ∈ l) (putSame (s .id) _ (h .wrote) ∙ ap (λ (l : List Entry). l ++ (timerEntry (fresh s p) 0 ∷ [])) blank) at)
+      only e at =
+          List·Memᴰ·eq-of-singleton (subst (λ (l : List Entry). e ∈ l)
+          (putSame (s .id) _ (h .wrote) ∙ ap (λ (l : List Entry). l ++ (timerEntry (fresh s p) 0 ∷ [])) blank) at)
 
       silent : (k u q : ℕ) → ¬ Voted h₁ (s .id) k u q
       silent k u q at = let e = only _ at in let z : _≡_ {A = ℕ} 0 1 = cc in omega arith
@@ -184,4 +188,5 @@ module _ (c : Setting) (Began : ℕ → Type 0) (seed : Seed c Began) where
   unfolding rung does
   rungWent h r room g =
       further c Began (taken r (some (ask (wanted r)))) (pass fromA (does r (ask (wanted r)))) (actLater c Began g (ask (wanted r)) (wantedMay r room))
-      (passWent sureA (onto h (r .set .id) (taken r (some (ask (wanted r))))) (does r (ask (wanted r))) (actGood c Began g (ask (wanted r)) (wantedMay r room) seed))
+      (passWent sureA (onto h (r .set .id) (taken r (some (ask (wanted r))))) (does r (ask (wanted r)))
+          (actGood c Began g (ask (wanted r)) (wantedMay r room) seed))

@@ -112,7 +112,8 @@ ownPlan = replies (starts 1 7 ∷ hears (change 0 1) ∷ hears (change 2 1) ∷ 
 -- A lock (0, 5) among three suggests: 7 is not safe, and 5 is the smallest safe plan. A fourth without lock comes too late.
 abbrev lockedPlan : Type 0
 lockedPlan = replies (
-    starts 1 7 ∷ hears (change 0 1) ∷ hears (change 2 1) ∷ hears (told rule1 0 1 (for 0 5) none (for 0 5)) ∷ hears (silent rule1 2 1) ∷ hears (silent rule1 3 1) ∷ []
+    starts 1 7 ∷ hears (change 0 1) ∷ hears (change 2 1) ∷ hears (told rule1 0 1 (for 0 5) none (for 0 5)) ∷ hears (silent rule1 2 1) ∷ hears (silent rule1 3 1)
+        ∷ []
     ) none
     ≡ wrote (timed 0 ∷ []) ∷ wrote [] ∷ wrote (ForAll (change 1 1) ∷ timed 1 ∷ ForAll (silent rule3 1 1) ∷ [])
     ∷ wrote [] ∷ wrote (ForAll (vote 1 0 1 5) ∷ []) ∷ wrote [] ∷ []
@@ -143,7 +144,8 @@ twoSetVote = replies (
 abbrev previousStays : Type 0
 previousStays = replies (
     starts 3 7 ∷ hears (vote 0 0 0 5) ∷ hears (change 0 1) ∷ hears (change 1 1) ∷ hears (silent rule3 0 1) ∷ hears (silent rule3 1 1) ∷ hears (vote 1 0 1 6)
-    ∷ hears (change 0 2) ∷ hears (change 1 2) ∷ hears (silent rule3 0 2) ∷ hears (silent rule3 1 2) ∷ hears (vote 2 0 2 5) ∷ hears (change 0 3) ∷ hears (change 1 3) ∷ []
+    ∷ hears (change 0 2) ∷ hears (change 1 2) ∷ hears (silent rule3 0 2) ∷ hears (silent rule3 1 2) ∷ hears (vote 2 0 2 5) ∷ hears (change 0 3) ∷ hears
+        (change 1 3) ∷ []
     ) none
     ≡ wrote (timed 0 ∷ []) ∷ wrote (ForAll (vote 3 1 0 5) ∷ []) ∷ wrote []
     ∷ wrote (ForAll (change 3 1) ∷ timed 1 ∷ ForAll (told rule3 3 1 (for 0 5) none none) ∷ ForOne 1 (silent rule1 3 1) ∷ [])
@@ -164,7 +166,8 @@ decidesOnce = replies (
 
 -- 'A sender's frame for a later view replaces the kept one': the first sender's vote-1 of view 0 no longer counts.
 abbrev laterReplaces : Type 0
-laterReplaces = replies (starts 3 7 ∷ hears (vote 0 1 0 5) ∷ hears (vote 0 1 1 5) ∷ hears (vote 1 1 0 5) ∷ hears (vote 2 1 0 5) ∷ hears (vote 0 1 0 5) ∷ []) none
+laterReplaces =
+    replies (starts 3 7 ∷ hears (vote 0 1 0 5) ∷ hears (vote 0 1 1 5) ∷ hears (vote 1 1 0 5) ∷ hears (vote 2 1 0 5) ∷ hears (vote 0 1 0 5) ∷ []) none
     ≡ wrote (timed 0 ∷ []) ∷ wrote [] ∷ wrote [] ∷ wrote [] ∷ wrote [] ∷ refusal 17 ∷ []
 
 -- Refusals on the way in, of settings, and of what the reader refuses.

@@ -66,7 +66,8 @@ module _ (vs : Vaults) (rs : Reports) where
   unfolding claimed
   unvotedClaims p q u unvoted h =
       enoughReports vs (isBlocking vs) (blockingByWeight vs) rs (claims p u) (claims q u)
-      (λ i low r is. claimsUnnamed r p q u (notTrue _ (λ (at : holds (λ x. eqb (x .plan) p) (r .highest) ≡ true). clash (anyAt (votes rs p) (vs .n) i low (rw is at)) unvoted))) h
+      (λ i low r is. claimsUnnamed r p q u (notTrue _
+          (λ (at : holds (λ x. eqb (x .plan) p) (r .highest) ≡ true). clash (anyAt (votes rs p) (vs .n) i low (rw is at)) unvoted))) h
 
   -- ---- the two-set clause
 
@@ -173,14 +174,17 @@ module _ (vs : Vaults) (rs : Reports) where
       go (noLock free) = noLock free
       go (since u low allowing claiming) =
           since u low
-          (groupMap (λ i below h. holdsMap (rs i) (allows p u) (allows q u) (λ r is. allowsUnnamed r p q u (namesSplit r p (apart i below r is) .0)) h) allowing)
-          (groupMap (λ i below h. holdsMap (rs i) (claims p u) (claims q u) (λ r is. claimsUnnamed r p q u (namesSplit r p (apart i below r is) .1)) h) claiming)
+          (groupMap (λ i below h. holdsMap (rs i) (allows p u) (allows q u) (λ r is. allowsUnnamed r p q u (namesSplit r p (apart i below r is) .0)) h)
+              allowing)
+          (groupMap (λ i below h. holdsMap (rs i) (claims p u) (claims q u) (λ r is. claimsUnnamed r p q u (namesSplit r p (apart i below r is) .1)) h)
+              claiming)
 
   -- Where the starting plan is not safe, every safe plan is named by a report.
   pub safeNamed : (v start p : ℕ) → ¬ Safe rule1 vs rs v start → Safe rule1 vs rs v p → (i : ℕ) × (i < vs .n) × (reporting rs (names p) i ≡ true)
   safeNamed v start p never s = go (which (any (reporting rs (names p)) (vs .n)))
     where
-      go : (any (reporting rs (names p)) (vs .n) ≡ true) ⊎ (any (reporting rs (names p)) (vs .n) ≡ false) → (i : ℕ) × (i < vs .n) × (reporting rs (names p) i ≡ true)
+      go : (any (reporting rs (names p)) (vs .n) ≡ true) ⊎ (any (reporting rs (names p)) (vs .n) ≡ false)
+          → (i : ℕ) × (i < vs .n) × (reporting rs (names p) i ≡ true)
       go (inl h) = anyWhere (reporting rs (names p)) (vs .n) h
       go (inr h) = absurd (never (unnamedSafe v p start h s))
 
@@ -297,7 +301,8 @@ module _ (vs : Vaults) (rs : Reports) (v start : ℕ) where
       go false e =
           let never : ¬ Safe rule1 vs rs v start = λ s. clash (safeIff vs rs rule1 v start .0 s) e in
           other never
-          (leastIsSmallest (namedPlan rs (vs .n) start) (vs .n + vs .n) never namedIndex (smallest (safe rule1 vs rs v) (namedPlan rs (vs .n) start) (vs .n + vs .n))
+          (leastIsSmallest (namedPlan rs (vs .n) start) (vs .n + vs .n) never namedIndex
+              (smallest (safe rule1 vs rs v) (namedPlan rs (vs .n) start) (vs .n + vs .n))
           (smallestLeast (safe rule1 vs rs v) (namedPlan rs (vs .n) start) (vs .n + vs .n)))
 
   smallestOne : (o o′ : Option ℕ) → IsSmallest vs rs v o → IsSmallest vs rs v o′ → o ≡ o′

@@ -111,7 +111,8 @@ allowsUnnamed r p q u other h = go (r .lock) other h
         (⊎-elim (orLeft (not (eqb (x .view) u)) _) (λ same. absurd (clash same f)) (either (not (eqb (x .view) u)) _ at))
 
 -- A report that names p has it as its lock's plan or as its highest vote's.
-pub namesSplit : (r : Report) (p : ℕ) → names p r ≡ false → (holds (λ x. eqb (x .plan) p) (r .lock) ≡ false) × (holds (λ x. eqb (x .plan) p) (r .highest) ≡ false)
+pub namesSplit : (r : Report) (p : ℕ) → names p r ≡ false
+    → (holds (λ x. eqb (x .plan) p) (r .lock) ≡ false) × (holds (λ x. eqb (x .plan) p) (r .highest) ≡ false)
 unfolding names
 namesSplit r p e = (
   notTrue _ (λ h. clash (orLeft (holds (λ x. eqb (x .plan) p) (r .lock)) _ h) e),

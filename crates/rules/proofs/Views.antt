@@ -57,7 +57,8 @@ module _ (test : ℕ → Bool) (falls : Falls test) where
   viewsIff zero u low = absurd (omega arith)
   viewsIff (suc v) u low = go (which (test v)) (viewsIff v)
     where
-      go : (test v ≡ true) ⊎ (test v ≡ false) → ((w : ℕ) → w < v → (test w ≡ true) ↔ (w < views test v)) → (test u ≡ true) ↔ (u < views test v + cond (test v) 1 0)
+      go : (test v ≡ true) ⊎ (test v ≡ false) → ((w : ℕ) → w < v → (test w ≡ true) ↔ (w < views test v))
+          → (test u ≡ true) ↔ (u < views test v + cond (test v) 1 0)
       go (inl at) rest =
           let all : views test (suc v) ≡ suc v = viewsAll (suc v) (λ u (e : u + 1 ≡ suc v). falls v u (omega arith) at) in
           (λ h. omega arith, λ h. falls v u (omega arith) at)
@@ -153,7 +154,8 @@ module _ (vs : Vaults) (rs : Reports) (v : ℕ) where
   unfolding lowestView
   clearedIff u low = (
     λ at. go (decLe (lowestView vs rs v) u) at,
-    λ le. ⊎-elim (λ at. at) (λ off. let less : u < lowestView vs rs v = viewsIff _ lockedFalls v u low .0 (ap not off) in absurd (omega arith)) (which (cleared vs rs u)),
+    λ le. ⊎-elim (λ at. at) (λ off. let less : u < lowestView vs rs v = viewsIff _ lockedFalls v u low .0 (ap not off) in absurd (omega arith))
+        (which (cleared vs rs u)),
   )
     where
       go : Dec (lowestView vs rs v ≤ u) → cleared vs rs u ≡ true → lowestView vs rs v ≤ u
@@ -165,7 +167,8 @@ module _ (vs : Vaults) (rs : Reports) (v : ℕ) where
   servedSafe : (rule : Rule) (p u : ℕ) → u < v → allowed vs rs p u ≡ true → backed rule vs rs v p u ≡ true → safe rule vs rs v p ≡ true
   unfolding safe
   servedSafe rule p u low allow back =
-      orRight (eqb v 0) _ (orRight (free vs rs) _ (anyAt (λ w. allowed vs rs p w && backed rule vs rs v p w) v u low (bothJoin (allowed vs rs p u) _ allow back)))
+      orRight (eqb v 0) _ (orRight (free vs rs) _
+          (anyAt (λ w. allowed vs rs p w && backed rule vs rs v p w) v u low (bothJoin (allowed vs rs p u) _ allow back)))
 
   -- No quorum is without a lock: then a safe plan has a view that serves it, and a quorum is cleared there.
   module _ (locked : free vs rs ≡ false) (above : v ≢ 0) where

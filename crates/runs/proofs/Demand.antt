@@ -116,7 +116,8 @@ module _ (c : Setting) where
     -- Bytes that were sent say a frame that was sent.
     sentSaid : (link : ℕ) (bytes : List ℕ) (x : Frame) → decode bytes ≡ x → x .sender ≡ link → Sent l i link bytes → model.Sent (v .items) i x
     sentSaid link bytes x is sender (y, spelt, at) =
-        subst (λ (j : ℕ). (ForAll x ∈ model.written (v .items) j) ⊎ (ForOne i x ∈ model.written (v .items) j)) (sym sender) (⊎-elim (λ a. inl (toAll a)) (λ a. inr (toOne a)) at)
+        subst (λ (j : ℕ). (ForAll x ∈ model.written (v .items) j) ⊎ (ForOne i x ∈ model.written (v .items) j)) (sym sender)
+            (⊎-elim (λ a. inl (toAll a)) (λ a. inr (toOne a)) at)
       where
         there : (e : Entry) → e ∈ written l link → e ∈ model.written (v .items) link
         there e = subst (λ (es : List Entry). e ∈ es) (v .same link .agree)
@@ -125,13 +126,18 @@ module _ (c : Setting) where
         frameIs valid = sym (decode-encode y valid) ∙ ap decode (sym spelt) ∙ is
 
         toAll : ForAll y ∈ written l link → ForAll x ∈ model.written (v .items) link
-        toAll a = let at = there (ForAll y) a in subst (λ (z : Frame). ForAll z ∈ model.written (v .items) link) (frameIs (validIn (model.written (v .items) link) (v .same link .valid) at)) at
+        toAll a =
+            let at = there (ForAll y) a in subst (λ (z : Frame). ForAll z ∈ model.written (v .items) link)
+            (frameIs (validIn (model.written (v .items) link) (v .same link .valid) at)) at
 
         toOne : ForOne i y ∈ written l link → ForOne i x ∈ model.written (v .items) link
-        toOne a = let at = there (ForOne i y) a in subst (λ (z : Frame). ForOne i z ∈ model.written (v .items) link) (frameIs (validIn (model.written (v .items) link) (v .same link .valid) at .1)) at
+        toOne a =
+            let at = there (ForOne i y) a in subst (λ (z : Frame). ForOne i z ∈ model.written (v .items) link)
+            (frameIs (validIn (model.written (v .items) link) (v .same link .valid) at .1)) at
 
     -- An accepted call brings what a run by contents lets it bring.
-    allowed : (a : Call) (b : Option Record) (left : Left) → Spells (recordAt c l i) b → ((r : Record) → b ≡ some r → Own i r) → InWidth a → Fair c l i a left → isAccepted left ≡ true
+    allowed : (a : Call) (b : Option Record) (left : Left) → Spells (recordAt c l i) b → ((r : Record) → b ≡ some r → Own i r) → InWidth a → Fair c l i a left
+        → isAccepted left ≡ true
         → (o : Out) → answer b (said (recordAt c l i) a) ≡ accepted o → Allowed (v .items) i b (said (recordAt c l i) a)
     unfolding answer
     allowed (start set plan) none left h own low fair went o is =
@@ -148,7 +154,8 @@ module _ (c : Setting) where
         its : Own i r
         its = own r refl
 
-        go : (y : Reading) → readFrame bytes link (decodeRecord rec .set .n) (decodeRecord rec .set .id) ≡ y → Fed (some r) (by.frame y) → answer (some r) (by.frame y) ≡ accepted o
+        go : (y : Reading) → readFrame bytes link (decodeRecord rec .set .n) (decodeRecord rec .set .id) ≡ y → Fed (some r) (by.frame y)
+            → answer (some r) (by.frame y) ≡ accepted o
             → Allowed (v .items) i (some r) (by.frame y)
         go (Refused k) read fed e = never e
         go (Accepted x) read fed e =
@@ -156,7 +163,8 @@ module _ (c : Setting) where
             record {
               fair = (
                 subst (λ (vs : Vaults). Readable (vs .n) i x) (its .vaults) (subst (λ (k : ℕ). Readable (r .set .n) k x) (its .id) fed),
-                λ keeps. sentSaid link bytes x (passed bytes link (decodeRecord rec .set .n) (decodeRecord rec .set .id) x read .said) sender (fair (subst (λ (j : ℕ). c .keeps j ≡ true) sender keeps)),
+                λ keeps. sentSaid link bytes x (passed bytes link (decodeRecord rec .set .n) (decodeRecord rec .set .id) x read .said) sender
+                    (fair (subst (λ (j : ℕ). c .keeps j ≡ true) sender keeps)),
               );
               set = r .set;
               goes = refl;
@@ -182,17 +190,22 @@ module _ (c : Setting) where
   sameNext : {l : List Item} (v : Carried l) (x : Item) (a : by.Call)
       → Same (x .at) (recordIn (x .left)) (model.leftBy (model.recordAt (v .items) (x .at)) (answer (model.recordAt (v .items) (x .at)) a))
       (written l (x .at) ++ entriesIn (x .left)) (model.written (v .items) (x .at) ++ model.wroteBy (answer (model.recordAt (v .items) (x .at)) a))
-      → (i : ℕ) → Same i (recordAt c (x ∷ l) i) (model.recordAt (record { at = x .at; call = a } ∷ v .items) i) (written (x ∷ l) i) (model.written (record { at = x .at; call = a } ∷ v .items) i)
+      → (i : ℕ)
+          → Same i (recordAt c (x ∷ l) i) (model.recordAt (record { at = x .at; call = a } ∷ v .items) i) (written (x ∷ l) i)
+          (model.written (record { at = x .at; call = a } ∷ v .items) i)
   unfolding recordAt written model.recordAt model.written
   sameNext {l} v x a new = putFour Same (x .at) (recordAt c l) (model.recordAt (v .items)) (written l) (model.written (v .items)) new (v .same)
 
-  carryRefused : {l : List Item} (v : Carried l) (x : Item) (k : ℕ) → c .keeps (x .at) ≡ true → x .left ≡ gave k (recordAt c l (x .at)) (x .out) → Carried (x ∷ l)
+  carryRefused : {l : List Item} (v : Carried l) (x : Item) (k : ℕ) → c .keeps (x .at) ≡ true → x .left ≡ gave k (recordAt c l (x .at)) (x .out)
+      → Carried (x ∷ l)
   carryRefused {l} v x k keeps is = record {
     items = record { at = x .at; call = by.short } ∷ v .items;
     run = model.andThen (v .run) keeps tt;
     same = sameNext v x by.short
-        (subst (λ (left : Left). Same i (recordIn left) (model.leftBy b (answer b by.short)) (written l i ++ entriesIn left) (model.written (v .items) i ++ model.wroteBy (answer b by.short))) (sym is)
-        (subst (λ (u : Answer). Same i (recordAt c l i) (model.leftBy b u) (written l i ++ []) (model.written (v .items) i ++ model.wroteBy u)) (sym (shortRefused b)) unchanged));
+        (subst (λ (left : Left). Same i (recordIn left) (model.leftBy b (answer b by.short)) (written l i ++ entriesIn left)
+            (model.written (v .items) i ++ model.wroteBy (answer b by.short))) (sym is)
+        (subst (λ (u : Answer). Same i (recordAt c l i) (model.leftBy b u) (written l i ++ []) (model.written (v .items) i ++ model.wroteBy u))
+            (sym (shortRefused b)) unchanged));
     starts = λ p s. ⊎-elim (λ (t, o, call, e). never (sym (shortRefused b) ∙ e)) (λ old. earlier (v .starts p old)) (startedCases s);
   }
     where
@@ -211,13 +224,16 @@ module _ (c : Setting) where
       }
 
   carryAccepted : {l : List Item} (v : Carried l) (x : Item) (o : Out) → c .keeps (x .at) ≡ true → InWidth (x .call) → Fair c l (x .at) (x .call) (x .left)
-      → answer (model.recordAt (v .items) (x .at)) (said (recordAt c l (x .at)) (x .call)) ≡ accepted o → x .left ≡ after (recordAt c l (x .at)) (x .out) (accepted o) → Carried (x ∷ l)
+      → answer (model.recordAt (v .items) (x .at)) (said (recordAt c l (x .at)) (x .call)) ≡ accepted o
+          → x .left ≡ after (recordAt c l (x .at)) (x .out) (accepted o) → Carried (x ∷ l)
   carryAccepted {l} v x o keeps low fair answered is = record {
     items = record { at = i; call = a } ∷ v .items;
     run = model.andThen (v .run) keeps (ok .fair);
     same = sameNext v x a
-        (subst (λ (left : Left). Same i (recordIn left) (model.leftBy b (answer b a)) (written l i ++ entriesIn left) (model.written (v .items) i ++ model.wroteBy (answer b a))) (sym is)
-        (subst (λ (u : Answer). Same i (recordIn left) (model.leftBy b u) (written l i ++ entriesIn left) (model.written (v .items) i ++ model.wroteBy u)) (sym answered) changed));
+        (subst (λ (left : Left). Same i (recordIn left) (model.leftBy b (answer b a)) (written l i ++ entriesIn left)
+            (model.written (v .items) i ++ model.wroteBy (answer b a))) (sym is)
+        (subst (λ (u : Answer). Same i (recordIn left) (model.leftBy b u) (written l i ++ entriesIn left) (model.written (v .items) i ++ model.wroteBy u))
+            (sym answered) changed));
     starts = λ p s. ⊎-elim (λ (t, o, call, e). begun p t (x .call) refl call) (λ old. earlier (v .starts p old)) (startedCases s);
   }
     where
@@ -270,7 +286,8 @@ module _ (c : Setting) where
     carry (andThen {l = l} {x = x} run keeps low ruled fair) = go (carry run) (law (recordAt c l (x .at)) (x .call) (x .out) (x .left) ruled)
       where
         go : Carried l → x .left ≡ leaves (recordAt c l (x .at)) (x .call) (x .out) → Carried (x ∷ l)
-        go v fixed = ⊎-elim (λ (k, is). carryRefused v x k keeps (fixed ∙ is)) (λ (o, room, answered, is). carryAccepted v x o keeps low fair answered (fixed ∙ is))
+        go v fixed =
+            ⊎-elim (λ (k, is). carryRefused v x k keeps (fixed ∙ is)) (λ (o, room, answered, is). carryAccepted v x o keeps low fair answered (fixed ∙ is))
             (carried (recordAt c l (x .at)) (x .out) (model.recordAt (v .items) (x .at)) (x .call) (v .same (x .at) .held keeps))
 
     -- In a run no rule-keeping vault's record is unsound: refusal 3 never meets a record that calls left.
@@ -288,7 +305,8 @@ module _ (c : Setting) where
 
 -- In every run any two decisions are for the same plan; and if all vaults keep the rules, for the plan of an accepted start.
 -- So it is of all calls that leave no more than the paper lets them.
-pub demand3By : {keepsRules : Rules} → ((rec : List ℕ) (a : Call) (out : List ℕ) (left : Left) → keepsRules rec a out left → left ≡ leaves rec a out) → Demand3 keepsRules
+pub demand3By : {keepsRules : Rules} → ((rec : List ℕ) (a : Call) (out : List ℕ) (left : Left) → keepsRules rec a out left → left ≡ leaves rec a out)
+    → Demand3 keepsRules
 demand3By law c l run = record {
   agreement = λ i j p q a b. claim .agreement i j p q (decided i p a) (decided j q b);
   validity = λ all i p a. v .starts p (claim .validity all i p (decided i p a));

@@ -27,7 +27,8 @@ returns c =
     let a = c .before .before .before .before .before .before .before .before .before .args in
     let body = c .before .before .put-body .ensures in (
       omega (arith, length-spell (fieldsOf (a .f)), body .0),
-      rw (body .1, c .before .before .before .before .before .before .put-head .ensures) (placed-spell (headFields (a .f)) (bodyFields (a .f .body)) (now (a .out)) 0 (omega arith)),
+      rw (body .1, c .before .before .before .before .before .before .put-head .ensures)
+          (placed-spell (headFields (a .f)) (bodyFields (a .f .body)) (now (a .out)) 0 (omega arith)),
     )
 
 pub write-spec : {M : Type 1} → statement M

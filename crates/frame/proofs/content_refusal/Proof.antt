@@ -31,7 +31,9 @@ returns-3 : tie.Need-returns-3
 returns-3 c = rw (c .enum-told2 .given .1) (simp (told (c .before .before .before .view-missing .ensures) (c .before .before .if1 .left)))
 
 returns-4 : tie.Need-returns-4
-returns-4 c = rw (c .before .before .body .given .1) (simp (told (c .before .before .before .before .before .view-missing .ensures) (c .before .before .before .before .if1 .left)) (c .reports-refusal .ensures))
+returns-4 c =
+    rw (c .before .before .body .given .1) (simp
+    (told (c .before .before .before .before .before .view-missing .ensures) (c .before .before .before .before .if1 .left)) (c .reports-refusal .ensures))
 
 pub content-refusal-spec : {M : Type 1} → statement M
 content-refusal-spec =

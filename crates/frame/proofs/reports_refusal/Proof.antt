@@ -16,7 +16,8 @@ any-too-high-requires : tie.Need-any-too-high-requires
 any-too-high-requires c κs = search needs
 
 returns-2 : tie.Need-returns-2
-returns-2 c = simp (told (c .before .any-too-high .ensures) (c .if2 .taken), told (c .before .before .before .any-bad-form .ensures) (c .before .before .if1 .left))
+returns-2 c =
+    simp (told (c .before .any-too-high .ensures) (c .if2 .taken), told (c .before .before .before .any-bad-form .ensures) (c .before .before .if1 .left))
 
 bad-previous-requires : tie.Need-bad-previous-requires
 bad-previous-requires c κs = search needs
