@@ -115,7 +115,7 @@ read-within (e ∷ es) (suc bound) v h =
     let least = entry-length e .0 in
     let there = ne-eqb (length (entryBytes e ++ layout es)) 0 (omega arith) in
     let next : drop (sizeAt (entryBytes e ++ layout es)) (entryBytes e ++ layout es) ≡ layout es = rw (says .size) (drop-append-seam (entryBytes e) (layout es))
-        in
+    in
     simp (there, says .entry, next) (ap (λ (l : List Entry). e ∷ l) (read-within es bound (v .1) (omega arith)))
 
 -- An output that is entries end to end reads as those entries.

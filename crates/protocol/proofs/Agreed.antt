@@ -42,7 +42,7 @@ pub onePlan : AtMostOnePlan
 onePlan r third k p q hp hq =
     let most = everyone (r .set) third in
     let (i, low, all, a, b) = quorumsMeet most (groupMap (λ i low x keeps. x) (voters r third k p hp)) (groupMap (λ i low x keeps. x) (voters r third k q hq))
-        in
+    in
     let same : p ≡ q = cc in
     same
 

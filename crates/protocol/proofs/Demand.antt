@@ -128,7 +128,7 @@ module _ (c : Setting) (Began : ℕ → Type 0) where
   othersFrame : (i : ℕ) (x : Frame) → Readable (c .vaults .n) i x → x .sender ≢ i
   othersFrame i x read =
       eqb-false (x .sender) i (neither (leb (c .vaults .n) (x .sender)) (eqb (x .sender) i)
-          (noneGiven (linkRows (x .sender) (x .sender) (c .vaults .n) i) (read .link) .0) .1)
+      (noneGiven (linkRows (x .sender) (x .sender) (c .vaults .n) i) (read .link) .0) .1)
 
   never : {A : Type 0} {k : ℕ} {o : Out} → refused k ≡ accepted o → A
   never e = let z : _≡_ {A = ℕ} 0 1 = cc in absurd (omega arith)
@@ -156,7 +156,7 @@ module _ (c : Setting) (Began : ℕ → Type 0) where
             third,
             subst (λ (u : Out). Went c Began (past l) i u) same
                 (subst (λ (j : ℕ). Went c Began (past l) j (started s p)) id
-                    (startWent c Began seed (past l) s p same-vaults (began s p refl) blank zero-view)),
+                (startWent c Began seed (past l) s p same-vaults (began s p refl) blank zero-view)),
           )
       go (frame (Accepted x)) (some r) e began fair is =
           let (read, sent) = fair in
@@ -166,14 +166,16 @@ module _ (c : Setting) (Began : ℕ → Type 0) where
             third,
             subst (λ (u : Out). Went c Began (past l) i u) same
                 (subst (λ (j : ℕ). Went c Began (past l) j (heard r x)) id
-                    (heardWent c Began seed (past l) r x apart (λ keeps. sentFine v i x (sent keeps)) g)),
+                (heardWent c Began seed (past l) r x apart (λ keeps. sentFine v i x (sent keeps)) g)),
           )
       go (timer w) (some r) e began fair is =
           let (given, same) = unlessAccepted (first (timerRows r w)) (rung r) is in
           let (id, third, g) = v .good i r e in
-          let room : r .view ≢ 4294967295 = eqb-false (r .view) 4294967295 (noneGiven (timerRows r w) given .1 .0) in
-          (third, subst (λ (u : Out). Went c Began (past l) i u) same
-              (subst (λ (j : ℕ). Went c Began (past l) j (rung r)) id (rungWent c Began seed (past l) r room g)))
+          let room : r .view ≢ 4294967295 = eqb-false (r .view) 4294967295 (noneGiven (timerRows r w) given .1 .0) in (
+            third,
+            subst (λ (u : Out). Went c Began (past l) i u) same
+                (subst (λ (j : ℕ). Went c Began (past l) j (rung r)) id (rungWent c Began seed (past l) r room g)),
+          )
 
   invNone : Inv []
   unfolding recordAt written

@@ -217,15 +217,19 @@ module _ (c : Setting) (Began : ℕ → Type 0) where
     chosenReason p (Rules.other {o = some q} never least) e =
         let is : q ≡ p = cc in
         found (r .start) (reportsOf r rule1) (keptIsExact rule1)
-            (subst (λ (vs : Vaults). ¬ Safe rule1 vs (reportsOf r rule1) (r .view) (r .start)) (g .vaults) never)
+        (subst (λ (vs : Vaults). ¬ Safe rule1 vs (reportsOf r rule1) (r .view) (r .start)) (g .vaults) never)
         (subst (λ (vs : Vaults). Safe rule1 vs (reportsOf r rule1) (r .view) p) (g .vaults)
-            (subst (λ (x : ℕ). Safe rule1 (vaults r) (reportsOf r rule1) (r .view) x) is (least .0)))
+        (subst (λ (x : ℕ). Safe rule1 (vaults r) (reportsOf r rule1) (r .view) x) is (least .0)))
 
     ground : Seed → (k p : ℕ) → Reached r k p → Ground c Began h k (r .view) p
     ground seed zero p (lead, e) = seed h r g p e
     ground seed (suc zero) p (safe, e) = (
-      record { proofs = reportsOf r rule3; from = keptIsExact rule3; safe = subst (λ (vs : Vaults). Safe rule3 vs (reportsOf r rule3) (r .view) p) (g .vaults)
-          safe },
+      record {
+        proofs = reportsOf r rule3;
+        from = keptIsExact rule3;
+        safe = subst (λ (vs : Vaults). Safe rule3 vs (reportsOf r rule3) (r .view) p) (g .vaults)
+            safe;
+      },
       subst (λ (n : ℕ). c .keeps (leaderOf (r .view) n) ≡ true → Voted h (leaderOf (r .view) n) 0 (r .view) p) (ap (λ (vs : Vaults). vs .n) (g .vaults))
           (λ keeps. keptWasSent 0 (leader r (r .view)) p keeps e),
     )
@@ -339,7 +343,7 @@ module _ (c : Setting) (Began : ℕ → Type 0) where
         exact = exactReport rule w said (λ k u p at. omega (arith, later, g .below k u p (back k u p at)))
             (topsOn (votedOld (claimVote rule)) (back (claimVote rule)) (g .highest (claimVote rule) (claimBelow rule .0)))
             (topsOn (λ u p (at, o). (votedOld (claimVote rule) u p at, o)) (λ u p (at, o). (back (claimVote rule) u p at, o))
-                (g .previous (claimVote rule) (claimBelow rule .1)))
+            (g .previous (claimVote rule) (claimBelow rule .1)))
             (topsOn (votedOld (lockVote rule)) (back (lockVote rule)) (g .highest (lockVote rule) (lockBelow rule)))
 
         known : (x : Report) → reportBy (Told (tells r rule)) ≡ some x → ExactNow h′ rule w i x
@@ -355,9 +359,11 @@ module _ (c : Setting) (Began : ℕ → Type 0) where
               highest = sym (reportedSpelt (voteOf r (claimVote rule) i)) z;
               previous = sym (reportedSpelt (r .previous (claimVote rule))) z;
               lock = sym (reportedSpelt (voteOf r (lockVote rule) i)) z;
-            }) ∙ is-x in
-            (omega (arith, putSame i ((does r a) .view) (h .at), ap (λ (b : Act). (does r b) .view) is), subst (λ (y : Report). Exact (Voted h′ i) rule w y)
-                same exact)
+            }) ∙ is-x in (
+              omega (arith, putSame i ((does r a) .view) (h .at), ap (λ (b : Act). (does r b) .view) is),
+              subst (λ (y : Report). Exact (Voted h′ i) rule w y)
+                  same exact,
+            )
 
     fineVote : (k p : ℕ) → a ≡ cast k p → Fine h′ i (voteFrame r k p)
     unfolding writes
@@ -367,7 +373,7 @@ module _ (c : Setting) (Began : ℕ → Type 0) where
           let same : k ≡ k′ = cc in
           let plan : p ≡ p′ = cc in
           entryNew _ (subst (λ (b : Act). ForAll (record { kind = suc k′; sender = i; view = r .view; body = Plan p′ }) ∈ writes r b) (sym is ∙ refl)
-              (head same plan));
+          (head same plan));
       told = λ rule x kind body. absurd (none≢some body);
     }
       where
@@ -416,9 +422,9 @@ module _ (c : Setting) (Began : ℕ → Type 0) where
             (λ u p (at, o). (⊎-elim (λ old. old) (λ new. absurd (other p (new .0))) (votedSplit k u p at), o)) (g .previous k has)))
         go (inl (p, is)) =
             subst (λ (o : Option Vote). Tops (Other (Voted h′ i k) o) ((does r a) .previous k))
-                (sym (ap (λ (b : Act). voteOf (does r b) k i) is ∙ voteCast r k p))
+            (sym (ap (λ (b : Act). voteOf (does r b) k i) is ∙ voteCast r k p))
             (subst (Tops (Other (Voted h′ i k) (some (record { view = r .view; plan = p }))))
-                (sym (ap (λ (b : Act). (does r b) .previous k) is ∙ previousCast r k p has))
+            (sym (ap (λ (b : Act). (does r b) .previous k) is ∙ previousCast r k p has))
             (shiftTops (r .view) p (votedOld k) (castSplit k p is) (g .highest k (previousBelow k has)) (g .previous k has)))
 
     keptNow : (b : Act) → a ≡ b → (k j : ℕ) (x : Frame) → (does r b) .kept k j ≡ some x → c .keeps j ≡ true → (x .kind ≡ k) × Fine h′ j x
@@ -472,7 +478,7 @@ module _ (c : Setting) (Began : ℕ → Type 0) where
       now = at-own (λ (j : ℕ). h′ .at j ≡ (does r a) .view) (putSame i ((does r a) .view) (h .at));
       below = at-own (λ (j : ℕ). (k u p : ℕ) → Voted h′ j k u p → u ≤ (does r a) .view)
           (λ k u p at. ⊎-elim (λ old. omega (arith, doesView r a may, g .below k u p old)) (λ new. omega (arith, doesView r a may, new .1))
-              (votedSplit k u p at));
+          (votedSplit k u p at));
       once = at-own (λ (j : ℕ). (k v p q : ℕ) → Voted h′ j k v p → Voted h′ j k v q → p ≡ q) onceNow;
       highest = at-own (λ (j : ℕ). (k : ℕ) → k < 5 → Tops (Voted h′ j k) (voteOf (does r a) k j)) highestNow;
       previous = at-own (λ (j : ℕ). (k : ℕ) → hasPrevious k ≡ true → Tops (Other (Voted h′ j k) (voteOf (does r a) k j)) ((does r a) .previous k)) previousNow;

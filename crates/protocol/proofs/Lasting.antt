@@ -51,7 +51,7 @@ module _ (c : Setting) where
       go (frame (Accepted x)) (some r) e brings fair =
           let (id, third, g) = v .good i r e in
           subst (λ (n : ℕ). Readable n (r .set .id) x) (sym (ap (λ (vs : Vaults). vs .n) (g .vaults)))
-              (subst (λ (j : ℕ). Readable (c .vaults .n) j x) (sym id) (fair .0))
+          (subst (λ (j : ℕ). Readable (c .vaults .n) j x) (sym id) (fair .0))
       go (timer w) b e brings fair = tt
       go short b e brings fair = tt
 

@@ -96,8 +96,11 @@ module _ (r : Record) where
       let (ok, q) = whenSome (approves r p) (some (cast 1 p)) g in
       let (new, good) = bothSplit (not (sentNow r 1)) (safe rule3 (vaults r) (reportsOf r rule3) (r .view) p) ok in
       let same : cast 1 p ≡ a = cc in
-      rw (← same) (omega arith, not-true (sentNow r 1) new,
-          (safeIff (vaults r) (reportsOf r rule3) rule3 (r .view) p .1 good, nowHeld 0 (leader r (r .view)) is))
+      rw (← same) (
+        omega arith,
+        not-true (sentNow r 1) new,
+        (safeIff (vaults r) (reportsOf r rule3) rule3 (r .view) p .1 good, nowHeld 0 (leader r (r .view)) is),
+      )
 
   -- Those whose vote-k is for p, as the count of them sees it.
   quorumHeld : (k p : ℕ) → hasQuorum r k p ≡ true → Quorum (vaults r) (Held k p)

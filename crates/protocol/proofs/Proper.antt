@@ -40,7 +40,7 @@ unfolding pass
 passWhole done r w = (w, tt)
 passWhole (and {s = s} {l = rest} law sure) r w =
     subst (λ (o : Out). Whole ((pass rest (o .left)) .left) × AllValid (o .wrote ++ (pass rest (o .left)) .wrote)) (sym (law .does r))
-        (go (law .act r) refl (passWhole sure))
+    (go (law .act r) refl (passWhole sure))
   where
     go : (b : Option Act) → law .act r ≡ b → ((r : Record) → Whole r → Whole ((pass rest r) .left) × AllValid ((pass rest r) .wrote))
         → Whole ((pass rest ((taken r b) .left)) .left) × AllValid ((taken r b) .wrote ++ (pass rest ((taken r b) .left)) .wrote)
@@ -105,7 +105,7 @@ callWhole (some r) (frame (Accepted x)) was fed o e =
     let (given, same) = unlessAccepted (first (recordRows r x)) (heard r x) e in
     let (sound, ranged) = was r refl in
     subst (λ (u : Out). Whole (u .left) × AllValid (u .wrote)) same
-        (passWhole sureA (keep x r) (heardWhole r x fed (record { sound = sound; ranged = ranged })))
+    (passWhole sureA (keep x r) (heardWhole r x fed (record { sound = sound; ranged = ranged })))
 callWhole (some r) (timer v) was fed o e =
     let (given, same) = unlessAccepted (first (timerRows r v)) (rung r) e in
     let (sound, ranged) = was r refl in

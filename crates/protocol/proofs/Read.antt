@@ -25,7 +25,7 @@ acceptedReadable s link n own x bytes e =
     let p = passed s link n own x e in
     let said : getD s 1 0 ≡ x .sender = senderSaid s ∙ ap (λ (y : Frame). y .sender) (p .said) in
     let same : getD s 1 0 ≡ link = eqb-true (getD s 1 0) link
-        (not-false (eqb (getD s 1 0) link) (noneGiven (linkRows (getD s 1 0) link n own) (p .link-passed) .1 .0)) in
+    (not-false (eqb (getD s 1 0) link) (noneGiven (linkRows (getD s 1 0) link n own) (p .link-passed) .1 .0)) in
     let own-link : x .sender ≡ link = sym said ∙ same in (
       own-link,
       record {

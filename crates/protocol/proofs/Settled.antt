@@ -171,7 +171,7 @@ ownB r w top =
         let (over, enough) = bothSplit (ltb w x) (asked r isQuorum x) can in
         let l : w < x = ltb-true w x over in
         let (z, is-top, le) = highestMost (canEnter r) (changeOf r) (r .set .n) j x low at
-            (bothJoin (ltb (r .view) x) (asked r isQuorum x) (lt-ltb (r .view) x (omega (arith, up))) enough) in
+        (bothJoin (ltb (r .view) x) (asked r isQuorum x) (lt-ltb (r .view) x (omega (arith, up))) enough) in
         let same : z ≡ w = cc in
         omega arith
 
@@ -212,8 +212,15 @@ climbA r q = go (actA r) refl
   where
     only : (t : Record) → actA t ≡ none → Done 1 t
     only t e =
-        record { a = λ le. e; b = λ le. absurd (omega arith); c = λ le. absurd (omega arith); d = λ le. absurd (omega arith); votes = λ k three le. absurd
-        (omega arith); h = λ le. absurd (omega arith) }
+        record {
+          a = λ le. e;
+          b = λ le. absurd (omega arith);
+          c = λ le. absurd (omega arith);
+          d = λ le. absurd (omega arith);
+          votes = λ k three le. absurd
+              (omega arith);
+          h = λ le. absurd (omega arith);
+        }
 
     go : (o : Option Act) → actA r ≡ o → Done 1 ((taken r o) .left)
     go none e = only r e
@@ -229,8 +236,15 @@ climbB r q = go (actB r) refl
   where
     both : (t : Record) → actA t ≡ none → actB t ≡ none → Done 2 t
     both t a b =
-        record { a = λ le. a; b = λ le. b; c = λ le. absurd (omega arith); d = λ le. absurd (omega arith); votes = λ k three le. absurd
-        (omega arith); h = λ le. absurd (omega arith) }
+        record {
+          a = λ le. a;
+          b = λ le. b;
+          c = λ le. absurd (omega arith);
+          d = λ le. absurd (omega arith);
+          votes = λ k three le. absurd
+              (omega arith);
+          h = λ le. absurd (omega arith);
+        }
 
     go : (o : Option Act) → actB r ≡ o → Done 2 ((taken r o) .left)
     go none e = both r (q .a (omega arith)) e
@@ -246,8 +260,15 @@ climbC r q = go (actC r) refl
   where
     more : (t : Record) → Done 2 t → actC t ≡ none → Done 3 t
     more t q e =
-        record { a = λ le. q .a (omega arith); b = λ le. q .b (omega arith); c = λ le. e; d = λ le. absurd (omega arith); votes = λ k three le. absurd
-        (omega arith); h = λ le. absurd (omega arith) }
+        record {
+          a = λ le. q .a (omega arith);
+          b = λ le. q .b (omega arith);
+          c = λ le. e;
+          d = λ le. absurd (omega arith);
+          votes = λ k three le. absurd
+              (omega arith);
+          h = λ le. absurd (omega arith);
+        }
 
     own : (p : ℕ) → actC (does r (cast 0 p)) ≡ none
     own p = whenFalse (mayPropose (does r (cast 0 p))) _ (rw (castSent r 0 p) (and-false (leads (does r (cast 0 p)) ((does r (cast 0 p)) .view))))
@@ -265,8 +286,15 @@ climbD r q = go (actD r) refl
   where
     more : (t : Record) → Done 3 t → actD t ≡ none → Done 4 t
     more t q e =
-        record { a = λ le. q .a (omega arith); b = λ le. q .b (omega arith); c = λ le. q .c (omega arith); d = λ le. e; votes = λ k three le. absurd
-        (omega arith); h = λ le. absurd (omega arith) }
+        record {
+          a = λ le. q .a (omega arith);
+          b = λ le. q .b (omega arith);
+          c = λ le. q .c (omega arith);
+          d = λ le. e;
+          votes = λ k three le. absurd
+              (omega arith);
+          h = λ le. absurd (omega arith);
+        }
 
     own : (p : ℕ) → actD (does r (cast 1 p)) ≡ none
     own p = eachNone (planNow (does r (cast 1 p)) 0 (leader (does r (cast 1 p)) ((does r (cast 1 p)) .view))) _ (λ x is. rw (castSent r 1 p))
@@ -303,7 +331,7 @@ climbVote k low r q = go (actVote r (suc k)) refl
     go (some x) e =
         let (p, same) = actIs (agreed r (suc k)) (λ p. not (sentNow r (suc (suc k)))) (cast (suc (suc k))) e in
         subst (λ (y : Act). Done (suc (k + 4)) (does r y)) same
-            (more (does r (cast (suc (suc k)) p)) (castDone (k + 4) r (suc (suc k)) p (omega arith) (omega arith) q) (own p))
+        (more (does r (cast (suc (suc k)) p)) (castDone (k + 4) r (suc (suc k)) p (omega arith) (omega arith) q) (own p))
 
 climbH : Climbs 7 stepH
 unfolding stepH does agreed
@@ -343,8 +371,15 @@ doneA r = doneC _ (climbB _ (climbA r none-yet))
   where
     none-yet : Done 0 r
     none-yet =
-        record { a = λ le. absurd (omega arith); b = λ le. absurd (omega arith); c = λ le. absurd (omega arith); d = λ le. absurd
-        (omega arith); votes = λ k three le. absurd (omega arith); h = λ le. absurd (omega arith) }
+        record {
+          a = λ le. absurd (omega arith);
+          b = λ le. absurd (omega arith);
+          c = λ le. absurd (omega arith);
+          d = λ le. absurd
+              (omega arith);
+          votes = λ k three le. absurd (omega arith);
+          h = λ le. absurd (omega arith);
+        }
 
 doneFresh : (s : Settings) (p : ℕ) → Done 2 (fresh s p)
 doneFresh s p = record {
@@ -367,9 +402,9 @@ quietPass r q =
     quietStep stepA _ r (ap (taken r) (q .a (omega arith))) (quietStep stepB _ r (ap (taken r) (q .b (omega arith)))
     (quietStep stepC _ r (ap (taken r) (q .c (omega arith))) (quietStep stepD _ r (ap (taken r) (q .d (omega arith)))
     (quietStep (stepVote 1) _ r (ap (taken r) (q .votes 0 (omega arith) (omega arith)))
-        (quietStep (stepVote 2) _ r (ap (taken r) (q .votes 1 (omega arith) (omega arith)))
+    (quietStep (stepVote 2) _ r (ap (taken r) (q .votes 1 (omega arith) (omega arith)))
     (quietStep (stepVote 3) _ r (ap (taken r) (q .votes 2 (omega arith) (omega arith)))
-        (quietStep stepH [] r (ap (taken r) (q .h (omega arith))) (passNone r))))))))
+    (quietStep stepH [] r (ap (taken r) (q .h (omega arith))) (passNone r))))))))
 
 -- After every accepted call a further pass does nothing.
 pub callSettles : AlwaysSettled

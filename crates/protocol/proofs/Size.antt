@@ -128,7 +128,7 @@ sizeC : (r : Record) → sizes ((pass fromC r) .wrote) ≤ 89
 unfolding stepC stepD stepVote stepH
 sizeC =
     passSize stepC _ 15 74 (takenSize actC 15 costC)
-        (passSize stepD _ 15 59 (takenSize actD 15 costD) (passSize (stepVote 1) _ 15 44 (takenSize (λ r. actVote r 1) 15 (costVote 1))
+    (passSize stepD _ 15 59 (takenSize actD 15 costD) (passSize (stepVote 1) _ 15 44 (takenSize (λ r. actVote r 1) 15 (costVote 1))
     (passSize (stepVote 2) _ 15 29 (takenSize (λ r. actVote r 2) 15 (costVote 2)) (passSize (stepVote 3) _ 15 14 (takenSize (λ r. actVote r 3) 15 (costVote 3))
     (passSize stepH [] 14 0 (takenSize actH 14 costH) noneSize)))))
 
@@ -152,8 +152,13 @@ callSize (some r) (frame (Accepted x)) o e =
 callSize (some r) (timer v) o e =
     let (given, same) = unlessAccepted (first (timerRows r v)) (rung r) e in
     subst (λ (u : Out). sizes (u .wrote) ≤ 205) same
-    (omega (arith, sizesJoin (writes r (ask (wanted r))) ((pass fromA (does r (ask (wanted r)))) .wrote), actSize r (ask (wanted r)), sizeA
-        (does r (ask (wanted r)))))
+    (omega (
+      arith,
+      sizesJoin (writes r (ask (wanted r))) ((pass fromA (does r (ask (wanted r)))) .wrote),
+      actSize r (ask (wanted r)),
+      sizeA
+          (does r (ask (wanted r))),
+    ))
 
 -- Every accepted call writes at most 205 bytes.
 pub outputShort : (b : Option Record) (a : Call) (o : Out) → answer b a ≡ accepted o → length (layout (o .wrote)) ≤ 205

@@ -156,7 +156,7 @@ module _ {r : Record} (w : Whole r) where
   pub reportGoes : (v : ℕ) → r .view < v → v < 2 ^ 32 → (rule : Rule) → Sendable (r .set .n) (r .set .id) (reportFrame r rule v)
   reportGoes v later low rule =
       reportSendable (r .set .n) (r .set .id) small rule v (voteOf r (claimVote rule) (r .set .id)) (r .previous (claimVote rule))
-          (voteOf r (lockVote rule) (r .set .id))
+      (voteOf r (lockVote rule) (r .set .id))
       (omega arith) low
       (λ x e. omega (arith, ownLow (claimVote rule) x (claimBelow rule .0) e))
       (λ x e. omega (arith, previousLow (claimVote rule) x (claimBelow rule .1) e))
@@ -181,7 +181,7 @@ module _ {r : Record} (w : Whole r) where
       → (k j : ℕ) (x : Frame) → keeping y t k j ≡ some x → InRow (r .set) k j x
   rowsBy y t new old k j x e = ⊎-elim
       (λ (kind, sender, same). subst (λ (z : Frame). InRow (r .set) k j z) same
-          (subst (λ (i : ℕ). InRow (r .set) k i y) sender (subst (λ (i : ℕ). InRow (r .set) i (y .sender) y) kind new)))
+      (subst (λ (i : ℕ). InRow (r .set) k i y) sender (subst (λ (i : ℕ). InRow (r .set) i (y .sender) y) kind new)))
       (old k j x) (keepWas y t k j e)
 
   ownBy : (v : ℕ) (y : Frame) (t : ℕ → ℕ → Option Frame) → (y .kind ≢ 6 → y .view ≤ v) → ((k : ℕ) (x : Frame) → t k (r .set .id) ≡ some x → k ≢ 6 → x .view ≤ v)

@@ -76,7 +76,7 @@ module _ (r : Record) (tabled : Tabled r) where
   rowPasses k j x i =
       bothJoin (ltb j (r .set .n)) _ (lt-ltb j (r .set .n) (i .row)) (bothJoin (eqb (x .kind) k) _ (eq-eqb (x .kind) k (i .kind))
       (bothJoin (eqb (x .sender) j) _ (eq-eqb (x .sender) j (i .sender))
-          (bothJoin (eqb (first (contentRows x)) 0) _ (eq-eqb (first (contentRows x)) 0 (i .content))
+      (bothJoin (eqb (first (contentRows x)) 0) _ (eq-eqb (first (contentRows x)) 0 (i .content))
       (eq-eqb (first (leaderRows x (r .set .n) (r .set .id))) 0 (i .leader)))))
 
   standsTest : (k : ℕ) → previousStands r k ≡ true → hasPrevious k ≡ true → badPrevious (spelt (voteOf r k (r .set .id))) (spelt (r .previous k)) ≡ false
@@ -111,11 +111,11 @@ module _ (r : Record) (tabled : Tabled r) where
             kept = λ k j x e.
                 let (pos, lk, lj, valid) = tabled k j x e in
                 rowTest k j x valid (ifAnyAt (passesRow (r .set) k j) (r .kept k j) x
-                    (everyAt (λ j. ifAny (passesRow (r .set) k j) (r .kept k j)) 64 j (everyAt rows 9 k kept lk) lj) e);
+                (everyAt (λ j. ifAny (passesRow (r .set) k j) (r .kept k j)) 64 j (everyAt rows 9 k kept lk) lj) e);
             own = λ k x e other.
                 let (pos, lk, lj, valid) = tabled k (r .set .id) x e in
                 leb-true (x .view) (r .view) (ifAnyAt (λ (x : Frame). leb (x .view) (r .view)) (r .kept k (r .set .id)) x
-                    (unlessSix k other (everyAt owns 9 k own lk)) e);
+                (unlessSix k other (everyAt owns 9 k own lk)) e);
             previous = λ k has. standsTest k (everyAt (previousStands r) 3 k previous (previousThird k has)) has;
           }
         where

@@ -189,4 +189,4 @@ module _ (c : Setting) (Began : ℕ → Type 0) (seed : Seed c Began) where
   rungWent h r room g =
       further c Began (taken r (some (ask (wanted r)))) (pass fromA (does r (ask (wanted r)))) (actLater c Began g (ask (wanted r)) (wantedMay r room))
       (passWent sureA (onto h (r .set .id) (taken r (some (ask (wanted r))))) (does r (ask (wanted r)))
-          (actGood c Began g (ask (wanted r)) (wantedMay r room) seed))
+      (actGood c Began g (ask (wanted r)) (wantedMay r room) seed))

@@ -113,7 +113,7 @@ ownPlan = replies (starts 1 7 ∷ hears (change 0 1) ∷ hears (change 2 1) ∷ 
 abbrev lockedPlan : Type 0
 lockedPlan = replies (
     starts 1 7 ∷ hears (change 0 1) ∷ hears (change 2 1) ∷ hears (told rule1 0 1 (for 0 5) none (for 0 5)) ∷ hears (silent rule1 2 1) ∷ hears (silent rule1 3 1)
-        ∷ []
+    ∷ []
     ) none
     ≡ wrote (timed 0 ∷ []) ∷ wrote [] ∷ wrote (ForAll (change 1 1) ∷ timed 1 ∷ ForAll (silent rule3 1 1) ∷ [])
     ∷ wrote [] ∷ wrote (ForAll (vote 1 0 1 5) ∷ []) ∷ wrote [] ∷ []
@@ -145,7 +145,7 @@ abbrev previousStays : Type 0
 previousStays = replies (
     starts 3 7 ∷ hears (vote 0 0 0 5) ∷ hears (change 0 1) ∷ hears (change 1 1) ∷ hears (silent rule3 0 1) ∷ hears (silent rule3 1 1) ∷ hears (vote 1 0 1 6)
     ∷ hears (change 0 2) ∷ hears (change 1 2) ∷ hears (silent rule3 0 2) ∷ hears (silent rule3 1 2) ∷ hears (vote 2 0 2 5) ∷ hears (change 0 3) ∷ hears
-        (change 1 3) ∷ []
+    (change 1 3) ∷ []
     ) none
     ≡ wrote (timed 0 ∷ []) ∷ wrote (ForAll (vote 3 1 0 5) ∷ []) ∷ wrote []
     ∷ wrote (ForAll (change 3 1) ∷ timed 1 ∷ ForAll (told rule3 3 1 (for 0 5) none none) ∷ ForOne 1 (silent rule1 3 1) ∷ [])

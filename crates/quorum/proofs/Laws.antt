@@ -193,8 +193,15 @@ module _ {vs : Vaults} {keeps : Set} (most : Mostly vs keeps) where
   keepersBlock a = record {
     who = λ i. a .who i && keeps i;
     large = blockingWeighs vs (λ i. a .who i && keeps i) .1
-        (omega (arith, most .third, most .others, quorumWeighs vs (a .who) .0 (a .large), weighShared (vs .weight) (a .who) keeps (vs .n), weighRest
-            (vs .weight) keeps (vs .n)));
+        (omega (
+          arith,
+          most .third,
+          most .others,
+          quorumWeighs vs (a .who) .0 (a .large),
+          weighShared (vs .weight) (a .who) keeps (vs .n),
+          weighRest
+              (vs .weight) keeps (vs .n),
+        ));
     each = λ i low inside. let (s, h) = bothSplit (a .who i) (keeps i) inside in (h, a .each i low s h);
   }
 

@@ -67,7 +67,7 @@ module _ (vs : Vaults) (rs : Reports) where
   unvotedClaims p q u unvoted h =
       enoughReports vs (isBlocking vs) (blockingByWeight vs) rs (claims p u) (claims q u)
       (λ i low r is. claimsUnnamed r p q u (notTrue _
-          (λ (at : holds (λ x. eqb (x .plan) p) (r .highest) ≡ true). clash (anyAt (votes rs p) (vs .n) i low (rw is at)) unvoted))) h
+      (λ (at : holds (λ x. eqb (x .plan) p) (r .highest) ≡ true). clash (anyAt (votes rs p) (vs .n) i low (rw is at)) unvoted))) h
 
   -- ---- the two-set clause
 
@@ -175,9 +175,9 @@ module _ (vs : Vaults) (rs : Reports) where
       go (since u low allowing claiming) =
           since u low
           (groupMap (λ i below h. holdsMap (rs i) (allows p u) (allows q u) (λ r is. allowsUnnamed r p q u (namesSplit r p (apart i below r is) .0)) h)
-              allowing)
+          allowing)
           (groupMap (λ i below h. holdsMap (rs i) (claims p u) (claims q u) (λ r is. claimsUnnamed r p q u (namesSplit r p (apart i below r is) .1)) h)
-              claiming)
+          claiming)
 
   -- Where the starting plan is not safe, every safe plan is named by a report.
   pub safeNamed : (v start p : ℕ) → ¬ Safe rule1 vs rs v start → Safe rule1 vs rs v p → (i : ℕ) × (i < vs .n) × (reporting rs (names p) i ≡ true)
@@ -302,7 +302,7 @@ module _ (vs : Vaults) (rs : Reports) (v start : ℕ) where
           let never : ¬ Safe rule1 vs rs v start = λ s. clash (safeIff vs rs rule1 v start .0 s) e in
           other never
           (leastIsSmallest (namedPlan rs (vs .n) start) (vs .n + vs .n) never namedIndex
-              (smallest (safe rule1 vs rs v) (namedPlan rs (vs .n) start) (vs .n + vs .n))
+          (smallest (safe rule1 vs rs v) (namedPlan rs (vs .n) start) (vs .n + vs .n))
           (smallestLeast (safe rule1 vs rs v) (namedPlan rs (vs .n) start) (vs .n + vs .n)))
 
   smallestOne : (o o′ : Option ℕ) → IsSmallest vs rs v o → IsSmallest vs rs v o′ → o ≡ o′

@@ -168,7 +168,7 @@ module _ (vs : Vaults) (rs : Reports) (v : ℕ) where
   unfolding safe
   servedSafe rule p u low allow back =
       orRight (eqb v 0) _ (orRight (free vs rs) _
-          (anyAt (λ w. allowed vs rs p w && backed rule vs rs v p w) v u low (bothJoin (allowed vs rs p u) _ allow back)))
+      (anyAt (λ w. allowed vs rs p w && backed rule vs rs v p w) v u low (bothJoin (allowed vs rs p u) _ allow back)))
 
   -- No quorum is without a lock: then a safe plan has a view that serves it, and a quorum is cleared there.
   module _ (locked : free vs rs ≡ false) (above : v ≢ 0) where

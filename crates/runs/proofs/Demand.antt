@@ -117,7 +117,7 @@ module _ (c : Setting) where
     sentSaid : (link : ℕ) (bytes : List ℕ) (x : Frame) → decode bytes ≡ x → x .sender ≡ link → Sent l i link bytes → model.Sent (v .items) i x
     sentSaid link bytes x is sender (y, spelt, at) =
         subst (λ (j : ℕ). (ForAll x ∈ model.written (v .items) j) ⊎ (ForOne i x ∈ model.written (v .items) j)) (sym sender)
-            (⊎-elim (λ a. inl (toAll a)) (λ a. inr (toOne a)) at)
+        (⊎-elim (λ a. inl (toAll a)) (λ a. inr (toOne a)) at)
       where
         there : (e : Entry) → e ∈ written l link → e ∈ model.written (v .items) link
         there e = subst (λ (es : List Entry). e ∈ es) (v .same link .agree)
@@ -191,8 +191,8 @@ module _ (c : Setting) where
       → Same (x .at) (recordIn (x .left)) (model.leftBy (model.recordAt (v .items) (x .at)) (answer (model.recordAt (v .items) (x .at)) a))
       (written l (x .at) ++ entriesIn (x .left)) (model.written (v .items) (x .at) ++ model.wroteBy (answer (model.recordAt (v .items) (x .at)) a))
       → (i : ℕ)
-          → Same i (recordAt c (x ∷ l) i) (model.recordAt (record { at = x .at; call = a } ∷ v .items) i) (written (x ∷ l) i)
-          (model.written (record { at = x .at; call = a } ∷ v .items) i)
+      → Same i (recordAt c (x ∷ l) i) (model.recordAt (record { at = x .at; call = a } ∷ v .items) i) (written (x ∷ l) i)
+      (model.written (record { at = x .at; call = a } ∷ v .items) i)
   unfolding recordAt written model.recordAt model.written
   sameNext {l} v x a new = putFour Same (x .at) (recordAt c l) (model.recordAt (v .items)) (written l) (model.written (v .items)) new (v .same)
 
@@ -203,9 +203,9 @@ module _ (c : Setting) where
     run = model.andThen (v .run) keeps tt;
     same = sameNext v x by.short
         (subst (λ (left : Left). Same i (recordIn left) (model.leftBy b (answer b by.short)) (written l i ++ entriesIn left)
-            (model.written (v .items) i ++ model.wroteBy (answer b by.short))) (sym is)
+        (model.written (v .items) i ++ model.wroteBy (answer b by.short))) (sym is)
         (subst (λ (u : Answer). Same i (recordAt c l i) (model.leftBy b u) (written l i ++ []) (model.written (v .items) i ++ model.wroteBy u))
-            (sym (shortRefused b)) unchanged));
+        (sym (shortRefused b)) unchanged));
     starts = λ p s. ⊎-elim (λ (t, o, call, e). never (sym (shortRefused b) ∙ e)) (λ old. earlier (v .starts p old)) (startedCases s);
   }
     where
@@ -225,15 +225,15 @@ module _ (c : Setting) where
 
   carryAccepted : {l : List Item} (v : Carried l) (x : Item) (o : Out) → c .keeps (x .at) ≡ true → InWidth (x .call) → Fair c l (x .at) (x .call) (x .left)
       → answer (model.recordAt (v .items) (x .at)) (said (recordAt c l (x .at)) (x .call)) ≡ accepted o
-          → x .left ≡ after (recordAt c l (x .at)) (x .out) (accepted o) → Carried (x ∷ l)
+      → x .left ≡ after (recordAt c l (x .at)) (x .out) (accepted o) → Carried (x ∷ l)
   carryAccepted {l} v x o keeps low fair answered is = record {
     items = record { at = i; call = a } ∷ v .items;
     run = model.andThen (v .run) keeps (ok .fair);
     same = sameNext v x a
         (subst (λ (left : Left). Same i (recordIn left) (model.leftBy b (answer b a)) (written l i ++ entriesIn left)
-            (model.written (v .items) i ++ model.wroteBy (answer b a))) (sym is)
+        (model.written (v .items) i ++ model.wroteBy (answer b a))) (sym is)
         (subst (λ (u : Answer). Same i (recordIn left) (model.leftBy b u) (written l i ++ entriesIn left) (model.written (v .items) i ++ model.wroteBy u))
-            (sym answered) changed));
+        (sym answered) changed));
     starts = λ p s. ⊎-elim (λ (t, o, call, e). begun p t (x .call) refl call) (λ old. earlier (v .starts p old)) (startedCases s);
   }
     where

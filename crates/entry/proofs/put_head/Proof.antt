@@ -34,7 +34,7 @@ returns c =
     let a = c .before .before .before .before .before .before .before .before .before .before .before .before .before .before .before .before .args in
     rw (c .before .before .put3 .ensures, c .before .before .before .before .before .before .before .put2 .ensures, c .before .before .before .before .before .before .before .before .before .before .before .before .put .ensures)
     (puts-spell (headFields (a .f)) (now (a .out)) 0
-        (c .before .before .before .before .before .before .before .before .before .before .before .before .before .before .before .before .pre))
+    (c .before .before .before .before .before .before .before .before .before .before .before .before .before .before .before .before .pre))
 
 pub put-head-spec : {M : Type 1} → statement M
 put-head-spec =

@@ -40,7 +40,7 @@ returns : tie.Need-returns
 returns c =
     let a = c .before .before .before .before .before .before .before .before .before .before .before .before .before .before .before .before .before .args in
     let bytes = puts-spell (hostFields (a .code) (a .view) (a .width) (a .value)) (now (a .out)) (a .at)
-        (c .before .before .before .before .before .before .before .before .before .before .before .before .before .before .before .before .before .pre) in
+    (c .before .before .before .before .before .before .before .before .before .before .before .before .before .before .before .before .before .pre) in
     (omega arith, rw (c .before .before .put4 .ensures, c .before .before .before .before .before .before .put3 .ensures, c .before .before .before .before .before .before .before .before .before .before .put2 .ensures, c .before .before .before .before .before .before .before .before .before .before .before .before .before .before .put .ensures) bytes)
 
 pub put-host-spec : {M : Type 1} → statement M

@@ -37,7 +37,7 @@ returns c =
     let a = c .before .before .before .before .before .before .before .before .before .before .before .before .before .before .before .args in
     rw (c .before .before .put3 .ensures, c .before .before .before .before .before .before .put2 .ensures, c .before .before .before .before .before .before .before .before .before .before .before .put .ensures)
     (puts-spell (reportFields (a .r)) (now (a .out)) (a .at)
-        (c .before .before .before .before .before .before .before .before .before .before .before .before .before .before .before .pre))
+    (c .before .before .before .before .before .before .before .before .before .before .before .before .before .before .before .pre))
 
 pub put-report-spec : {M : Type 1} → statement M
 put-report-spec =

@@ -49,7 +49,7 @@ returns-3 : tie.Need-returns-3
 returns-3 c =
     let a = c .before .before .before .before .before .before .before .before .before .args in
     let form = told (c .before .before .before .before .before .before .before .form-refusal .ensures)
-        (c .before .before .before .before .before .before .if1 .left) in
+    (c .before .before .before .before .before .before .if1 .left) in
     let linked = told (c .before .before .before .before .link-refusal .ensures) (c .before .before .before .if2 .left) in
     by-frame (now (a .s)) (a .link) (a .n) (a .own) form linked _ (c .before .before .parse .ensures) _ (c .if3 .taken) (c .before .frame-refusal .ensures)
 
@@ -57,7 +57,7 @@ returns-4 : tie.Need-returns-4
 returns-4 c =
     let a = c .before .before .before .before .before .before .before .before .before .args in
     let form = told (c .before .before .before .before .before .before .before .form-refusal .ensures)
-        (c .before .before .before .before .before .before .if1 .left) in
+    (c .before .before .before .before .before .before .if1 .left) in
     let linked = told (c .before .before .before .before .link-refusal .ensures) (c .before .before .before .if2 .left) in
     accepts (now (a .s)) (a .link) (a .n) (a .own) form linked _ (c .before .before .parse .ensures) (told (c .if3 .left) (c .before .frame-refusal .ensures))
 
