@@ -38,10 +38,14 @@ same-length c = search needs
 
 returns : tie.Need-returns
 returns c =
-    let a = c .before .before .before .before .before .before .before .before .before .before .before .before .before .before .before .before .before .args in
+    let atPut3 = c .before .before .before .before .before .before in
+    let atPut2 = atPut3 .before .before .before .before in
+    let atPut = atPut2 .before .before .before .before in
+    let atEntry = atPut .before .before .before in
+    let a = atEntry .args in
     let bytes = puts-spell (hostFields (a .code) (a .view) (a .width) (a .value)) (now (a .out)) (a .at)
-    (c .before .before .before .before .before .before .before .before .before .before .before .before .before .before .before .before .before .pre) in
-    (omega arith, rw (c .before .before .put4 .ensures, c .before .before .before .before .before .before .put3 .ensures, c .before .before .before .before .before .before .before .before .before .before .put2 .ensures, c .before .before .before .before .before .before .before .before .before .before .before .before .before .before .put .ensures) bytes)
+    (atEntry .pre) in
+    (omega arith, rw (c .before .before .put4 .ensures, atPut3 .put3 .ensures, atPut2 .put2 .ensures, atPut .put .ensures) bytes)
 
 pub put-host-spec : {M : Type 1} → statement M
 put-host-spec =

@@ -34,10 +34,13 @@ same-length c = search needs
 
 returns : tie.Need-returns
 returns c =
-    let a = c .before .before .before .before .before .before .before .before .before .before .before .before .before .before .before .args in
-    rw (c .before .before .put3 .ensures, c .before .before .before .before .before .before .put2 .ensures, c .before .before .before .before .before .before .before .before .before .before .before .put .ensures)
+    let atPut2 = c .before .before .before .before .before .before in
+    let atPut = atPut2 .before .before .before .before .before in
+    let atEntry = atPut .before .before .before .before in
+    let a = atEntry .args in
+    rw (c .before .before .put3 .ensures, atPut2 .put2 .ensures, atPut .put .ensures)
     (puts-spell (reportFields (a .r)) (now (a .out)) (a .at)
-    (c .before .before .before .before .before .before .before .before .before .before .before .before .before .before .before .pre))
+    (atEntry .pre))
 
 pub put-report-spec : {M : Type 1} → statement M
 put-report-spec =

@@ -36,13 +36,16 @@ same-length c = search needs
 
 returns : tie.Need-returns
 returns c =
-    let a = c .before .before .before .before .before .before .before .before .before .before .before .before .before .before .before .before .args in
+    let atPutReport2 = c .before .before .before .before .before .before in
+    let atPutReport = atPutReport2 .before .before .before .before in
+    let atEntry = atPutReport .before .before .before .before .before .before in
+    let a = atEntry .args in
     let o = now (a .out) in
     let h = reportFields (a .r .highest) in
     let p = reportFields (a .r .previous) in
     let l = reportFields (a .r .lock) in
     let room : a .at + 13 ≤ length (placed o (a .at) (spell h)) = rw (length-placed o (a .at) (spell h) (rw (length-spell h) (omega arith))) (omega arith) in
-    rw (c .before .before .put-report3 .ensures, c .before .before .before .before .before .before .put-report2 .ensures, c .before .before .before .before .before .before .before .before .before .before .put-report .ensures)
+    rw (c .before .before .put-report3 .ensures, atPutReport2 .put-report2 .ensures, atPutReport .put-report .ensures)
     (placed-spell p l (placed o (a .at) (spell h)) (a .at + 13) room ∙ placed-spell h (p ++ l) o (a .at) (omega arith))
 
 pub put-reports-spec : {M : Type 1} → statement M

@@ -24,10 +24,12 @@ same-length c = search needs
 returns : tie.Need-returns
 unfolding encode
 returns c =
-    let a = c .before .before .before .before .before .before .before .before .before .args in
+    let atPutHead = c .before .before .before .before .before .before in
+    let atEntry = atPutHead .before .before .before in
+    let a = atEntry .args in
     let body = c .before .before .put-body .ensures in (
       omega (arith, length-spell (fieldsOf (a .f)), body .0),
-      rw (body .1, c .before .before .before .before .before .before .put-head .ensures)
+      rw (body .1, atPutHead .put-head .ensures)
           (placed-spell (headFields (a .f)) (bodyFields (a .f .body)) (now (a .out)) 0 (omega arith)),
     )
 

@@ -56,9 +56,12 @@ same-length c = search needs
 returns-3 : tie.Need-returns-3
 unfolding echo
 returns-3 c =
+    let atGot = c .before .before .before .before .before in
+    let atRead = atGot .before .before in
+    let atEntry = atRead .before .before .before .before in
     let all = c .before .before .put-echo .ensures in
-    simp (le-ltb (length (now (c .before .before .before .before .before .before .before .before .before .before .before .args .out))) 256 (omega arith))
-    (rw (← c .before .before .before .before .before .before .before .read .ensures, c .before .before .before .before .before .got .given .1) (λ i. left (256 + all .0 i) (all .1 i)))
+    simp (le-ltb (length (now (atEntry .args .out))) 256 (omega arith))
+    (rw (← atRead .read .ensures, atGot .got .given .1) (λ i. left (256 + all .0 i) (all .1 i)))
 
 pub frame-echo-spec : {M : Type 1} → statement M
 frame-echo-spec =

@@ -25,7 +25,9 @@ cast-t13 c = search needs
 
 put-entry-requires-3 : tie.Need-put-entry-requires-3
 put-entry-requires-3 c κs =
-    let f = c .before .before .before .before .before .before .before .before .before .before .args .f in
+    let midway = c .before .before .before .before .before .before .before .before in
+    let atEntry = midway .before .before in
+    let f = atEntry .args .f in
     omega (arith, entry-length (ForAll f) .1, entry-length (Timer (f .view) 180) .1, entry-length (Decision (f .view) (f .view)) .1)
 
 same-length : tie.Need-same-length
@@ -33,9 +35,12 @@ same-length c = search needs
 
 returns : tie.Need-returns
 returns c =
-    let a = c .before .before .before .before .before .before .before .before .before .before .before .before .before .args in
-    let frame = c .before .before .before .before .before .before .before .before .before .before .put-entry .ensures in
-    let timer = c .before .before .before .before .before .before .put-entry2 .ensures in
+    let atPutEntry2 = c .before .before .before .before .before .before in
+    let atPutEntry = atPutEntry2 .before .before .before .before in
+    let atEntry = atPutEntry .before .before .before in
+    let a = atEntry .args in
+    let frame = atPutEntry .put-entry .ensures in
+    let timer = atPutEntry2 .put-entry2 .ensures in
     let decision = c .before .before .put-entry3 .ensures in (
       simp length-append (omega arith),
       rw (decision .1, timer .1, frame .1, timer .0, frame .0) (lays-layout (echoEntries (a .f)) (now (a .out)) 0 (omega (arith, echo-short (a .f)))),

@@ -49,11 +49,13 @@ enum-known-body c = search needs
 
 put-reports-requires : tie.Need-put-reports-requires
 put-reports-requires c κs =
-    let s = c .before .before .before .before .before .before .before .before .before .before .before in
+    let atPutSlot = c .before .before .before .before .before .before in
+    let atPlace = atPutSlot .before .before .before .before .before in
+    let s = atPlace in
     let h = fitsKind (s .args .f .kind) (s .args .f .body) (s .pre .0) in (
       toldKind (s .args .f .kind) (c .before .before .body .given .1) (s .pre .0),
       record { low = h .0; high = h .1; row = s .pre .1 },
-      c .before .before .before .before .before .before .put-slot .ensures .size,
+      atPutSlot .put-slot .ensures .size,
     )
 
 same-length-3 : tie.Need-same-length-3
@@ -61,10 +63,12 @@ same-length-3 c = search needs
 
 returns-3 : tie.Need-returns-3
 returns-3 c =
-    let k = c .before .before .before .before .before .before .before .before .before in
+    let atBody = c .before .before .before .before .before in
+    let atPlace = atBody .before .before .before .before in
+    let k = atPlace in
     let s = k .before .before .before .before .before in
     heldTold _ _ (s .args .sender) (s .args .f) (k .before .before .before .frame-slot .ensures .0) (k .before .before .plan-of .ensures) (k .put-slot .ensures)
-    (c .before .before .before .before .before .body .given .1) (c .before .before .put-reports .ensures)
+    (atBody .body .given .1) (c .before .before .put-reports .ensures)
 
 pub keep-spec : {M : Type 1} → statement M
 keep-spec =

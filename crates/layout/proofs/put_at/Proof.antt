@@ -35,11 +35,13 @@ same-length c = c .before .before .put2 .kept .0 ∙ c .before .before .before .
 
 returns : tie.Need-returns
 returns c =
-    let s = c .before .before .before .before .before .before .before .before .before .before in
+    let atPlace = c .before .before .before .before .before .before in
+    let atPlace2 = atPlace .before .before .before .before in
+    let s = atPlace2 in
     let o = s .args .part .now in
     let at = s .args .at in
     let x = s .args .slot in
-    let first = c .before .before .before .before .before .before in
+    let first = atPlace in
     let view : first .put .last .0 ≡ placed (set o at (x .mark)) (at + 1) (digits 4 (first .before .wider .result)) = first .put .ensures in
     c .before .before .put2 .ensures
     ∙ ap (λ (l : List ℕ). placed l (at + 5) (digits 8 (x .plan)))

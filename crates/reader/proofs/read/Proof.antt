@@ -47,18 +47,26 @@ frame-refusal-requires c κs =
 
 returns-3 : tie.Need-returns-3
 returns-3 c =
-    let a = c .before .before .before .before .before .before .before .before .before .args in
-    let form = told (c .before .before .before .before .before .before .before .form-refusal .ensures)
-    (c .before .before .before .before .before .before .if1 .left) in
-    let linked = told (c .before .before .before .before .link-refusal .ensures) (c .before .before .before .if2 .left) in
+    let atLinkRefusal = c .before .before .before .before in
+    let atIf1 = atLinkRefusal .before .before in
+    let atFormRefusal = atIf1 .before in
+    let atEntry = atFormRefusal .before .before in
+    let a = atEntry .args in
+    let form = told (atFormRefusal .form-refusal .ensures)
+    (atIf1 .if1 .left) in
+    let linked = told (atLinkRefusal .link-refusal .ensures) (c .before .before .before .if2 .left) in
     by-frame (now (a .s)) (a .link) (a .n) (a .own) form linked _ (c .before .before .parse .ensures) _ (c .if3 .taken) (c .before .frame-refusal .ensures)
 
 returns-4 : tie.Need-returns-4
 returns-4 c =
-    let a = c .before .before .before .before .before .before .before .before .before .args in
-    let form = told (c .before .before .before .before .before .before .before .form-refusal .ensures)
-    (c .before .before .before .before .before .before .if1 .left) in
-    let linked = told (c .before .before .before .before .link-refusal .ensures) (c .before .before .before .if2 .left) in
+    let atLinkRefusal = c .before .before .before .before in
+    let atIf1 = atLinkRefusal .before .before in
+    let atFormRefusal = atIf1 .before in
+    let atEntry = atFormRefusal .before .before in
+    let a = atEntry .args in
+    let form = told (atFormRefusal .form-refusal .ensures)
+    (atIf1 .if1 .left) in
+    let linked = told (atLinkRefusal .link-refusal .ensures) (c .before .before .before .if2 .left) in
     accepts (now (a .s)) (a .link) (a .n) (a .own) form linked _ (c .before .before .parse .ensures) (told (c .if3 .left) (c .before .frame-refusal .ensures))
 
 pub read-spec : {M : Type 1} → statement M

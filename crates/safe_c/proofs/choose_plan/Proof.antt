@@ -32,11 +32,16 @@ same-length c = search needs
 
 returns : tie.Need-returns
 returns c =
-    let a = c .before .before .before .before .before .before .before .before .before .before .args in
-    let set = c .before .before .before .before .settings-for .ensures in
+    let atSettingsFor = c .before .before .before .before in
+    let atIf2 = atSettingsFor .before in
+    let atIf1 = atIf2 .before in
+    let atIsLaid = atIf1 .before in
+    let atEntry = atIsLaid .before .before .before in
+    let a = atEntry .args in
+    let set = atSettingsFor .settings-for .ensures in
     let e = chooseSaid (a .table .now) (a .n) (a .f) _ _ (set .0) (set .1) (a .v) (a .start) _ (a .out .now)
-    (sym (c .before .before .before .before .before .before .before .is-laid .ensures) ∙ c .before .before .before .before .before .before .if1 .taken)
-    (c .before .before .before .before .before .if2 .taken)
+    (sym (atIsLaid .is-laid .ensures) ∙ atIf1 .if1 .taken)
+    (atIf2 .if2 .taken)
     (sym (ap chosen (c .before .choice .given .1)) ∙ c .before .before .before .choose .ensures) in
     (ap (λ (x : Answer). x .code) e, ap (λ (x : Answer). x .out) e)
 
@@ -45,11 +50,15 @@ enum-told c = search needs
 
 returns-2 : tie.Need-returns-2
 returns-2 c =
-    let a = c .before .before .before .before .before .before .before .before .before .args in
+    let atIf2 = c .before .before .before .before in
+    let atIf1 = atIf2 .before in
+    let atIsLaid = atIf1 .before in
+    let atEntry = atIsLaid .before .before .before in
+    let a = atEntry .args in
     let set = c .before .before .before .settings-for .ensures in
     let e = chooseSaid (a .table .now) (a .n) (a .f) _ _ (set .0) (set .1) (a .v) (a .start) _ (a .out .now)
-    (sym (c .before .before .before .before .before .before .is-laid .ensures) ∙ c .before .before .before .before .before .if1 .taken)
-    (c .before .before .before .before .if2 .taken)
+    (sym (atIsLaid .is-laid .ensures) ∙ atIf1 .if1 .taken)
+    (atIf2 .if2 .taken)
     (sym (ap chosen (c .enum-told .given .1)) ∙ c .before .before .choose .ensures) in
     (ap (λ (x : Answer). x .code) e, ap (λ (x : Answer). x .out) e)
 

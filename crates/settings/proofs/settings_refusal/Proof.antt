@@ -27,25 +27,33 @@ mul-if4 c = search needs
 
 returns-4 : tie.Need-returns-4
 returns-4 c =
-    let a = c .before .before .before .before .before .before .before .before .before .args .s in
+    let midway = c .before .before .before .before .before .before .before .before in
+    let atEntry = midway .before in
+    let a = atEntry .args .s in
     let h : a .n ≤ 3 * a .f = omega arith in
     search tests
 
 returns-5 : tie.Need-returns-5
 returns-5 c =
-    let a = c .before .before .before .before .before .before .before .before .before .before .before .args .s in
+    let midway = c .before .before .before .before .before .before .before .before in
+    let atEntry = midway .before .before .before in
+    let a = atEntry .args .s in
     let h : 3 * a .f < a .n = omega arith in
     search tests
 
 returns-6 : tie.Need-returns-6
 returns-6 c =
-    let a = c .before .before .before .before .before .before .before .before .before .before .before .before .before .args .s in
+    let midway = c .before .before .before .before .before .before .before .before in
+    let atEntry = midway .before .before .before .before .before in
+    let a = atEntry .args .s in
     let h : 3 * a .f < a .n = omega arith in
     search tests
 
 returns-7 : tie.Need-returns-7
 returns-7 c =
-    let a = c .before .before .before .before .before .before .before .before .before .before .before .before .before .args .s in
+    let midway = c .before .before .before .before .before .before .before .before in
+    let atEntry = midway .before .before .before .before .before in
+    let a = atEntry .args .s in
     let h : 3 * a .f < a .n = omega arith in
     search tests
 
