@@ -11,7 +11,8 @@ use mathlib.Core.Option.{Option, none, some}
 use native.Mathlib.Omega.{arith}
 use lib.Dec.{leb, eqb}
 use borrow.Author.Tests.{eq-eqb, ne-eqb}
-use Rattle.quorum.specs.Sets.{equals, total, isQuorum}
+use Rattle.quorum.specs.Sets.{equals, total}
+use Rattle.quorum.specs.Quorums.{isQuorum}
 use Rattle.quorum.proofs.Bools.{which, clash}
 use Rattle.quorum.proofs.Laws.{weighSame}
 use Rattle.rules.specs.Options.{isNone, holds}
@@ -24,8 +25,8 @@ use Rattle.protocol.specs.Pass.{cast, decide, hasQuorum, agreed, actVote, actH}
 use Rattle.protocol.proofs.Agreed.{agreedIs}
 use Rattle.protocol.proofs.Tables.{eachNone, whenFalse}
 use Rattle.contents.specs.Contents.{contents}
-use Rattle.acts.specs.Parts.{blockPart, blockPlace}
-use Rattle.acts.specs.Votes.{voted, voteIn, votes, leading, quorumFor, agreedIn}
+use Rattle.acts.specs.inside.Parts.{blockPart, blockPlace}
+use Rattle.acts.specs.inside.Votes.{voted, voteIn, votes, leading, quorumFor, agreedIn}
 use Rattle.acts.proofs.Parts.{Reads}
 use Rattle.acts.proofs.Kept.{planAt}
 use Rattle.acts.proofs.Votes.{onlyLead}

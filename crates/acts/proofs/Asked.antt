@@ -11,7 +11,8 @@ use native.Mathlib.Omega.{arith}
 use native.Mathlib.Decide.{decLt}
 use lib.Dec.{leb, ltb, eqb}
 use borrow.Author.Tests.{eqb-true, leb-true, lt-ltb, le-ltb, le-leb, lt-leb}
-use Rattle.quorum.specs.Sets.{Set, weigh, isQuorum, isBlocking}
+use Rattle.quorum.specs.Sets.{Set, weigh}
+use Rattle.quorum.specs.Quorums.{isQuorum, isBlocking}
 use Rattle.quorum.proofs.Bools.{bothSplit}
 use Rattle.quorum.proofs.Laws.{weighSame, totalEquals}
 use Rattle.rules.specs.Options.{holds}
@@ -21,8 +22,8 @@ use Rattle.protocol.specs.Record.{when, each, changeOf, highest}
 use Rattle.protocol.specs.Pass.{Act, ask, enter, asked, isNews, canEnter, actA, actB}
 use Rattle.protocol.proofs.Tables.{highestHas, highestMost}
 use Rattle.contents.specs.Contents.{contents}
-use Rattle.acts.specs.Parts.{sharedPart}
-use Rattle.acts.specs.Changes.{changeIn, newsFrom, askers, enough, Highest}
+use Rattle.acts.specs.inside.Parts.{sharedPart}
+use Rattle.acts.specs.inside.Changes.{changeIn, newsFrom, askers, enough, Highest}
 use Rattle.acts.proofs.Parts.{Reads}
 use Rattle.acts.proofs.Kept.{changeAt}
 use Rattle.acts.proofs.Changes.{highestBoth}

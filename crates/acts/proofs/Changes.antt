@@ -18,7 +18,7 @@ use Rattle.quorum.specs.Sets.{Set, weigh}
 use Rattle.quorum.proofs.Laws.{weighNone, weighMore, weighStep, weighSame, weighMost, shareMost}
 use Rattle.rules.specs.Options.{holds}
 use Rattle.frame.specs.declared.Report.{Report}
-use Rattle.acts.specs.Changes.{asks, newsFrom, askers, enough, times, Gathered, raisedAt, Highest}
+use Rattle.acts.specs.inside.Changes.{asks, newsFrom, askers, enough, times, Gathered, raisedAt, Highest}
 
 -- ---- a slot
 

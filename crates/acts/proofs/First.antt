@@ -8,10 +8,10 @@ use mathlib.Core.List.{List}
 use mathlib.Core.Option.{Option, some}
 use Rattle.quorum.specs.Sets.{Vaults}
 use Rattle.rules.specs.Rules.{Reports, Rule}
-use Rattle.rules.specs.Counts.{safe, choice}
+use Rattle.rules.specs.inside.Counts.{safe, choice}
 use Rattle.layout.specs.Layout.{decodeRecord}
 use Rattle.contents.specs.Contents.{contents, contentsIn}
-use Rattle.acts.specs.Reports.{proposalOf, approvedBy}
+use Rattle.acts.specs.inside.Reports.{proposalOf, approvedBy}
 
 safeFirst : (rule : Rule) (vs : Vaults) (rs : Reports) (v p : ℕ) → v ≡ 0 → safe rule vs rs v p ≡ true
 unfolding safe

@@ -25,10 +25,10 @@ use Rattle.protocol.specs.Record.{when, each, reported, reportBy, kindOf, chang
 use Rattle.contents.specs.Contents.{contents}
 use Rattle.contents.proofs.Clean.{keptAt}
 use Rattle.contents.proofs.Acts.{voteAt}
-use Rattle.acts.specs.Parts.{sharedPart, blockPart, blockPlace}
-use Rattle.acts.specs.Changes.{asks, changeIn}
-use Rattle.acts.specs.Votes.{voted, voteIn}
-use Rattle.acts.specs.Reports.{reportsBy, Filled}
+use Rattle.acts.specs.inside.Parts.{sharedPart, blockPart, blockPlace}
+use Rattle.acts.specs.inside.Changes.{asks, changeIn}
+use Rattle.acts.specs.inside.Votes.{voted, voteIn}
+use Rattle.acts.specs.inside.Reports.{reportsBy, Filled}
 use Rattle.acts.proofs.Parts.{Reads}
 use Rattle.acts.proofs.Reports.{filledSame, filledAll}
 

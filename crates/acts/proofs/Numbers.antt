@@ -5,7 +5,7 @@ use mathlib.Core.Path.{_≡_, refl, sym, ap}
 use native.Mathlib.Omega.{arith}
 use Rattle.protocol.specs.Record.{Record}
 use Rattle.protocol.specs.Pass.{actVote}
-use Rattle.acts.specs.Acts.{actAt}
+use Rattle.acts.specs.inside.Acts.{actAt}
 
 pub numbered : {k j : ℕ} (c : Record) → k ≡ j → actAt j c ≡ actAt k c
 numbered c e = ap (λ (i : ℕ). actAt i c) (sym e)

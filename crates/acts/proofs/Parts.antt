@@ -7,15 +7,17 @@ use mathlib.Core.List.{List}
 use native.Mathlib.Omega.{arith}
 use lib.ListN.{length, drop, length-take, length-drop}
 use Rattle.settings.specs.declared.Settings.{Settings}
-use Rattle.settings.specs.Settings.{Allowed}
+use Rattle.settings.specs.inside.Allowed.{Allowed}
 use Rattle.record.specs.Slots as slots
 use Rattle.record.specs.Slots.{rows, slotCount, slotOf}
-use Rattle.layout.specs.Layout.{sharedSize, blockSize, partPlace, slotIn, decodeRecord}
+use Rattle.layout.specs.Layout.{sharedSize, partPlace, slotIn, decodeRecord}
+use Rattle.layout.specs.inside.Layout.{blockSize}
 use Rattle.layout.proofs.Laws.{placeShared, placeBlock, slotThere, slotPart}
 use Rattle.protocol.specs.Sound.{Sound}
-use Rattle.contents.specs.Contents.{contents, contentsIn, Ready}
+use Rattle.contents.specs.Contents.{contents, contentsIn}
+use Rattle.contents.specs.inside.Ready.{Ready}
 use Rattle.contents.proofs.Ready.{readyAllowed}
-use Rattle.acts.specs.Parts.{sharedPart, blockPart, blockPlace}
+use Rattle.acts.specs.inside.Parts.{sharedPart, blockPart, blockPlace}
 
 -- ---- the slots of a record
 

@@ -12,10 +12,10 @@ use lib.Dec.{eqb}
 use borrow.Author.Tests.{eq-eqb, ne-eqb}
 use Rattle.rules.specs.Options.{isNone}
 use Rattle.rules.specs.Rules.{rule1, rule3}
-use Rattle.rules.specs.Counts.{safe, choice}
+use Rattle.rules.specs.inside.Counts.{safe, choice}
 use Rattle.claims.specs.Table.{reportsIn}
 use Rattle.frame.specs.Refusal.{leaderOf}
-use Rattle.settings.specs.Settings.{vaultsOf}
+use Rattle.settings.specs.Vaults.{vaultsOf}
 use Rattle.record.specs.Slots as slots
 use Rattle.record.specs.Slots.{frameSlot}
 use Rattle.layout.specs.Layout.{slotIn}
@@ -23,9 +23,9 @@ use Rattle.protocol.specs.Record.{Record, when, each, leader, leads, planNow, s
 use Rattle.protocol.specs.Pass.{cast, mayPropose, approves, actC, actD}
 use Rattle.protocol.proofs.Tables.{eachNone, whenFalse}
 use Rattle.contents.specs.Contents.{contents}
-use Rattle.acts.specs.Parts.{blockPart, blockPlace}
-use Rattle.acts.specs.Votes.{voted, voteIn}
-use Rattle.acts.specs.Reports.{proposalOf, approvedBy, reportsBy, Filled}
+use Rattle.acts.specs.inside.Parts.{blockPart, blockPlace}
+use Rattle.acts.specs.inside.Votes.{voted, voteIn}
+use Rattle.acts.specs.inside.Reports.{proposalOf, approvedBy, reportsBy, Filled}
 use Rattle.acts.proofs.Parts.{Reads}
 use Rattle.acts.proofs.Kept.{planAt, tableIs}
 use Rattle.acts.proofs.Votes.{votedPlan, toldNone}

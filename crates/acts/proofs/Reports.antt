@@ -21,9 +21,9 @@ use Rattle.frame.specs.Refusal.{present}
 use Rattle.record.specs.Slots.{rows, frameSlot, reportSlot}
 use Rattle.layout.specs.Layout.{slotSize, slotIn}
 use Rattle.protocol.specs.Record.{when, reported}
-use Rattle.acts.specs.Parts.{blockPlace}
-use Rattle.acts.specs.Votes.{voted}
-use Rattle.acts.specs.Reports.{reportsBy, aboveOf, withVote, withReport, Filled}
+use Rattle.acts.specs.inside.Parts.{blockPlace}
+use Rattle.acts.specs.inside.Votes.{voted}
+use Rattle.acts.specs.inside.Reports.{reportsBy, aboveOf, withVote, withReport, Filled}
 
 -- ---- one vote
 

@@ -20,7 +20,7 @@ use Rattle.frame.specs.declared.Report.{Report}
 use Rattle.frame.specs.Refusal.{present}
 use Rattle.protocol.specs.Record.{when}
 use Rattle.acts.specs.declared.Lead.{Lead}
-use Rattle.acts.specs.Votes.{voted, meet, after, leading, Leads, quorumFor, agreedIn}
+use Rattle.acts.specs.inside.Votes.{voted, meet, after, leading, Leads, quorumFor, agreedIn}
 
 -- ---- a slot
 

@@ -1,5 +1,1 @@
-pub mod Acts
-pub mod Parts
-pub mod Changes
-pub mod Votes
-pub mod Reports
+pub mod inside

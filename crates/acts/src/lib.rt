@@ -13,15 +13,17 @@ ghost use Rattle.rules.specs.Options.{isNone, holds};
 ghost use Rattle.frame.specs.Refusal.{leaderOf};
 ghost use Rattle.record.specs.Slots.{rows, slotCount, frameSlot};
 ghost use Rattle.claims.specs.Table.{column, tableSize};
-ghost use Rattle.layout.specs.Layout.{slotSize, sharedSize, blockSize, slotIn, decodeRecord};
+ghost use Rattle.layout.specs.Layout.{slotSize, sharedSize, slotIn, decodeRecord};
+ghost use Rattle.layout.specs.inside.Layout.{blockSize};
 ghost use Rattle.safe.specs.Choices.{chosen};
 ghost use Rattle.protocol.specs.Pass.{mayPropose, actA, actB, actC, actD, actVote, actH};
-ghost use Rattle.contents.specs.Contents.{contentsIn, Ready};
-ghost use Rattle.acts.specs.Acts.{asAct, actAt};
-ghost use Rattle.acts.specs.Parts.{blockPlace};
-ghost use Rattle.acts.specs.Changes.{asks, changeIn, newsFrom, enough, times, raisedAt, Gathered, Highest};
-ghost use Rattle.acts.specs.Votes.{voted, voteIn, votes, meet, after, agreedIn, Leads};
-ghost use Rattle.acts.specs.Reports.{proposalOf, approvedBy, reportsBy, aboveOf, withVote, withReport, Filled};
+ghost use Rattle.contents.specs.Contents.{contentsIn};
+ghost use Rattle.contents.specs.inside.Ready.{Ready};
+ghost use Rattle.acts.specs.inside.Acts.{asAct, actAt};
+ghost use Rattle.acts.specs.inside.Parts.{blockPlace};
+ghost use Rattle.acts.specs.inside.Changes.{asks, changeIn, newsFrom, enough, times, raisedAt, Gathered, Highest};
+ghost use Rattle.acts.specs.inside.Votes.{voted, voteIn, votes, meet, after, agreedIn, Leads};
+ghost use Rattle.acts.specs.inside.Reports.{proposalOf, approvedBy, reportsBy, aboveOf, withVote, withReport, Filled};
 
 // What a step does: ask for a view, enter it, send a vote (0: a proposal) for a plan, decide a plan, or nothing.
 pub enum Act {

@@ -9,13 +9,15 @@ use mathlib.Core.Logic.{inl, inr}
 use mathlib.Core.Bool.{true}
 use native.Mathlib.Omega.{arith}
 use native.Mathlib.Decide.{decLt}
-use Rattle.quorum.specs.Sets.{Vaults, Set, Quorum, Mostly}
+use Rattle.quorum.specs.Sets.{Vaults, Set}
+use Rattle.quorum.specs.Quorums.{Quorum}
+use Rattle.quorum.specs.inside.Mostly.{Mostly}
 use Rattle.quorum.proofs.Laws.{groupMap, quorumsMeet, blockingKeeper, quorumBlocks}
 use Rattle.rules.specs.Rules.{Report, rule3, Safe, atStart, noLock, since, Claimed, Backed, claims, unlocked, allows}
 use Rattle.rules.specs.Sentences.{Says, always, forIt, forAny}
 use Rattle.rules.proofs.Single.{claimsSays}
 use Rattle.rules.proofs.Laws.{holdsWhere}
-use Rattle.agreement.specs.Law.{History, Exact, Vouched, Lawful, Locked}
+use Rattle.agreement.specs.inside.Law.{History, Exact, Vouched, Lawful, Locked}
 use Rattle.agreement.proofs.Reports.{none≢some, allowedLock, unlockedNone}
 
 module _ {vs : Vaults} {keeps : Set} (most : Mostly vs keeps) {voted : History} (law : Lawful vs keeps voted) where

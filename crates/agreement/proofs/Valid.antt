@@ -10,14 +10,15 @@ use mathlib.Core.Option.{Option}
 use native.Mathlib.Omega.{arith}
 use lib.Dec.{eqb}
 use borrow.Author.Tests.{eqb-true}
-use Rattle.quorum.specs.Sets.{Vaults, Set, Mostly}
+use Rattle.quorum.specs.Sets.{Vaults, Set}
+use Rattle.quorum.specs.inside.Mostly.{Mostly}
 use Rattle.quorum.proofs.Bools.{either}
 use Rattle.quorum.proofs.Laws.{blockingKeeper, quorumBlocks}
 use Rattle.rules.specs.Options.{holds}
 use Rattle.rules.specs.Rules.{Vote, Report, rule1}
-use Rattle.rules.specs.Counts.{names}
+use Rattle.rules.specs.inside.Counts.{names}
 use Rattle.rules.proofs.Laws.{holdsWhere, safeNamed}
-use Rattle.agreement.specs.Law.{History, Highest, Exact, Reason, own, found, Lawful, Led, Locked}
+use Rattle.agreement.specs.inside.Law.{History, Highest, Exact, Reason, own, found, Lawful, Led, Locked}
 use Rattle.agreement.proofs.Agree.{rooted}
 
 -- The report's lock or highest vote is for p.

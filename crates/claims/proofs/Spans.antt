@@ -14,12 +14,13 @@ use lib.Dec.{leb, ltb}
 use lib.ListN.{length, getD, set}
 use lib.Seq.{getD-set-same, getD-set-other}
 use borrow.Author.Tests.{le-leb, lt-leb, ltb-true, lt-ltb}
-use Rattle.quorum.specs.Sets.{equals, weigh, isBlocking}
+use Rattle.quorum.specs.Sets.{equals, weigh}
+use Rattle.quorum.specs.Quorums.{isBlocking}
 use Rattle.quorum.proofs.Bools.{notTrue}
 use Rattle.quorum.proofs.Laws.{weighMono, weighSame, blockingWeighs}
-use Rattle.rules.specs.Views.{views}
+use Rattle.rules.specs.inside.Views.{views}
 use Rattle.rules.proofs.Views.{Falls, viewsAre}
-use Rattle.claims.specs.Spans.{covering, covered, coveredViews, highestTo, Within, AreSpans}
+use Rattle.claims.specs.inside.Spans.{covering, covered, coveredViews, highestTo, Within, AreSpans}
 
 -- One span more.
 pub highestMore : (spans : List ℕ) (w k : ℕ) → highestTo spans w (k + 1) ≡ max (highestTo spans w k) (cond (leb (getD spans k 0) w) (getD spans k 0) 0)

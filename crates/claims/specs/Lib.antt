@@ -1,3 +1,2 @@
-pub mod Rows
-pub mod Spans
 pub mod Table
+pub mod inside

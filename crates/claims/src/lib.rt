@@ -6,8 +6,8 @@ ghost use mathlib.Core.Bool.{cond};
 ghost use lib.Dec.{leb, ltb, eqb};
 ghost use lib.ListN.{length, getD};
 ghost use Rattle.rules.specs.Rules.{claims, reporting};
-ghost use Rattle.claims.specs.Rows.{rowsSize, Fits, Stance, Tells, SameBelow, tallyAt, placeAt, claimedIn, endOf, servingView};
-ghost use Rattle.claims.specs.Spans.{coveredViews, highestTo, Within};
+ghost use Rattle.claims.specs.inside.Rows.{rowsSize, Fits, Stance, Tells, SameBelow, tallyAt, placeAt, claimedIn, endOf, servingView};
+ghost use Rattle.claims.specs.inside.Spans.{coveredViews, highestTo, Within};
 ghost use Rattle.claims.specs.Table.{column, tableSize, reporter, reportsIn};
 
 // The places of a column, one for each vault, and of the table.

@@ -19,16 +19,20 @@ use Rattle.frame.specs.Format.{within}
 use Rattle.frame.specs.Refusal.{present}
 use Rattle.frame.proofs.Laws.{inside}
 use Rattle.record.specs.Slots as slots
-use Rattle.record.specs.Slots.{rows, frameSlot, previousSlot, slotOf, withSlot, withView}
-use Rattle.keeping.specs.Kept.{frameIn, keptIn, keepFrame}
-use Rattle.keeping.specs.Keeping.{moves, shifted, ownBroadcast}
+use Rattle.record.specs.Slots.{rows, frameSlot, previousSlot, slotOf}
+use Rattle.record.specs.inside.Slots.{withSlot, withView}
+use Rattle.keeping.specs.Kept.{frameIn, keptIn}
+use Rattle.keeping.specs.inside.Kept.{keepFrame}
+use Rattle.keeping.specs.inside.Keeping.{moves, shifted, ownBroadcast}
 use Rattle.keeping.proofs.Forms.{bodyPlan, keptThere, keptNothing}
-use Rattle.protocol.specs.Record.{Record, changed, put, each, reported, spelt, voteBy, leads, voteOf, tells, changeFrame, voteFrame, reportFrame}
+use Rattle.protocol.specs.Record.{Record, changed, each, reported, spelt, voteBy, leads, voteOf, tells, changeFrame, voteFrame, reportFrame}
+use Rattle.protocol.specs.Tables.{put}
 use Rattle.protocol.specs.Pass.{ask, enter, cast, decide, shift, hasPrevious, does}
 use Rattle.protocol.specs.Pass as protocol
 use Rattle.protocol.specs.Calls.{keep}
 use Rattle.protocol.proofs.Tables.{putOwn}
-use Rattle.contents.specs.Contents.{contents, headOf, Clean}
+use Rattle.contents.specs.Contents.{contents, headOf}
+use Rattle.contents.specs.Lent.{Clean}
 use Rattle.contents.proofs.Kept.{contentsKeep, previousBounds}
 use Rattle.contents.proofs.Clean.{keptAt, previousAt, filledOf, cleanKeep}
 use Rattle.contents.proofs.Parts.{contentsView, cleanView, cleanBeside, contentsPrevious, contentsDecide, decided}

@@ -12,14 +12,16 @@ use lib.Dec.{ltb}
 use borrow.Author.Tests.{lt-ltb, le-ltb}
 use Rattle.frame.specs.declared.Report.{Report}
 use Rattle.frame.specs.declared.Frame.{Frame}
-use Rattle.frame.specs.Format.{fits}
+use Rattle.frame.specs.Valid.{fits}
 use Rattle.frame.proofs.Laws.{inside}
 use Rattle.record.specs.Slots as slots
 use Rattle.record.specs.Slots.{rows, kinds, slotCount, frameSlot, reportSlot, previousSlot, decisionSlot, emptySlot, slotOf}
-use Rattle.keeping.specs.Kept.{keptIn, keptFrame, headSlot, keepFrame}
+use Rattle.keeping.specs.Kept.{keptIn, keptFrame, headSlot}
+use Rattle.keeping.specs.inside.Kept.{keepFrame}
 use Rattle.protocol.specs.Record.{when, reported, spelt}
 use Rattle.protocol.specs.Pass.{hasPrevious}
-use Rattle.contents.specs.Contents.{keptOf, previousOf, contents, headOf, toldOf, slotAt, Clean}
+use Rattle.contents.specs.Contents.{keptOf, previousOf, contents, headOf, toldOf, slotAt}
+use Rattle.contents.specs.Lent.{Clean}
 use Rattle.contents.proofs.Kept.{Puts, putsKeep, keptPut, headStays, toldStays, keptStays, farStays, byPlace, previousBounds}
 use Rattle.contents.proofs.Places.{slotHead, slotTold, slotPrevious, slotDecision, everywhere}
 

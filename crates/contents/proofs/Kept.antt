@@ -16,12 +16,15 @@ use Rattle.frame.specs.declared.Reports.{Reports}
 use Rattle.frame.specs.declared.Body.{Body}
 use Rattle.frame.specs.declared.Body.the-variants.{Plan, Empty, Told}
 use Rattle.frame.specs.declared.Frame.{Frame}
-use Rattle.frame.specs.Format.{within, fits}
+use Rattle.frame.specs.Format.{within}
+use Rattle.frame.specs.Valid.{fits}
 use Rattle.frame.proofs.Laws.{Form, plan, bare, reports, form, inside, bounds}
 use Rattle.record.specs.Slots as slots
-use Rattle.record.specs.Slots.{rows, kinds, firstPrevious, frameSlot, reportSlot, previousSlot, decisionSlot, slotOf, withSlot}
+use Rattle.record.specs.Slots.{rows, kinds, firstPrevious, frameSlot, reportSlot, previousSlot, decisionSlot, slotOf}
+use Rattle.record.specs.inside.Slots.{withSlot}
 use Rattle.record.proofs.Slots.{slotSame, slotOther}
-use Rattle.keeping.specs.Kept.{bodyIn, frameIn, keptIn, planOf, headSlot, withReports, withBody, keepFrame}
+use Rattle.keeping.specs.Kept.{bodyIn, frameIn, keptIn, planOf, headSlot}
+use Rattle.keeping.specs.inside.Kept.{withReports, withBody, keepFrame}
 use Rattle.keeping.proofs.Forms.{bodyPlan, bodyBare, bodyReports, keptThere, fitsKind}
 use Rattle.protocol.specs.Record.{when, reported, keeping}
 use Rattle.protocol.specs.Pass.{hasPrevious}

@@ -8,5 +8,6 @@ pub mod Widths
 pub mod Tests
 pub mod Sound
 pub mod Ready
+pub mod Lent
 pub mod Stays
 pub mod Spelling

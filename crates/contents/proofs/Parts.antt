@@ -17,15 +17,17 @@ use Rattle.frame.specs.Format.{within}
 use Rattle.frame.proofs.Laws.{bounds}
 use Rattle.record.specs.Slots as slots
 use Rattle.settings.specs.declared.Settings.{Settings}
-use Rattle.record.specs.Slots.{rows, kinds, firstPrevious, slotCount, frameSlot, reportSlot, previousSlot, decisionSlot}
-use Rattle.record.specs.Slots.{emptySlot, slotOf, withSlot, withView, fresh}
+use Rattle.record.specs.Slots.{rows, kinds, firstPrevious, slotCount, frameSlot, reportSlot, previousSlot, decisionSlot, emptySlot, slotOf}
+use Rattle.record.specs.inside.Slots.{withSlot, withView, fresh}
 use Rattle.record.proofs.Slots.{slotSame, slotOther}
 use Rattle.keeping.specs.Kept.{keptIn}
 use Rattle.keeping.proofs.Forms.{keptNothing}
-use Rattle.protocol.specs.Record.{changed, put, when, reported, spelt}
+use Rattle.protocol.specs.Record.{changed, when, reported, spelt}
+use Rattle.protocol.specs.Tables.{put}
 use Rattle.protocol.specs.Pass.{hasPrevious}
 use Rattle.protocol.specs.Calls as protocol
-use Rattle.contents.specs.Contents.{keptOf, previousOf, contents, headOf, toldOf, Clean}
+use Rattle.contents.specs.Contents.{keptOf, previousOf, contents, headOf, toldOf}
+use Rattle.contents.specs.Lent.{Clean}
 use Rattle.contents.proofs.Kept.{keptSame, guarded, guardedNone, previousBounds}
 use Rattle.contents.proofs.Clean.{Filled, asWas, cleanOf, beyondOf, filledOf}
 

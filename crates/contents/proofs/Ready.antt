@@ -7,18 +7,23 @@ use mathlib.Core.List.{List}
 use native.Mathlib.Omega.{arith}
 use Rattle.wire.specs.Fields.{Bytes}
 use Rattle.frame.specs.Refusal.{first}
-use Rattle.settings.specs.Settings.{settingRows, Allowed}
+use Rattle.settings.specs.Settings.{settingRows}
+use Rattle.settings.specs.inside.Allowed.{Allowed}
 use Rattle.settings.proofs.Allowed.{allowed}
 use Rattle.record.specs.Slots as slots
 use Rattle.record.specs.Slots.{rows}
-use Rattle.layout.specs.Layout.{encodeRecord, decodeRecord, Holds}
+use Rattle.layout.specs.Layout.{encodeRecord, decodeRecord}
+use Rattle.layout.specs.inside.Layout.{Holds}
 use Rattle.layout.proofs.Theorems.{encodeDecode}
 use Rattle.sound.specs.declared.Lent.the-variants as lent
-use Rattle.sound.specs.Sound.{lentIs}
+use Rattle.sound.specs.inside.Sound.{lentIs}
 use Rattle.sound.proofs.Laws.{lent-other}
 use Rattle.protocol.specs.Record.{Record}
-use Rattle.protocol.specs.Sound.{Sound, Ranged}
-use Rattle.contents.specs.Contents.{contents, contentsIn, slotted, Clean, Ready}
+use Rattle.protocol.specs.inside.Sound.{Ranged}
+use Rattle.protocol.specs.Sound.{Sound}
+use Rattle.contents.specs.Contents.{contents, contentsIn, slotted}
+use Rattle.contents.specs.inside.Ready.{Ready}
+use Rattle.contents.specs.Lent.{Clean}
 use Rattle.contents.proofs.Slotted.{slottedContents}
 use Rattle.contents.proofs.Sound.{soundContents, sizeSound, soundRead}
 

@@ -23,7 +23,8 @@ use Rattle.protocol.specs.Record.{Record, when, reported, spelt}
 use Rattle.protocol.specs.Pass.{hasPrevious}
 use Rattle.protocol.specs.Sound.{Sound}
 use Rattle.protocol.proofs.Sound.{sizeBelow}
-use Rattle.contents.specs.Contents.{keptOf, previousOf, contents, headOf, toldOf, slotAt, slotted, Clean}
+use Rattle.contents.specs.Contents.{keptOf, previousOf, contents, headOf, toldOf, slotAt, slotted}
+use Rattle.contents.specs.Lent.{Clean}
 use Rattle.contents.proofs.Kept.{keptIs, guardedNone, previousBounds}
 use Rattle.contents.proofs.Places.{slotHead, slotTold, slotPrevious, slotDecision}
 use Rattle.contents.proofs.Clean.{filledAt, cleanOf}

@@ -23,22 +23,25 @@ use Rattle.frame.proofs.Laws.{form, bounds, Positive, first-none, first-both}
 use Rattle.settings.specs.declared.Settings.{Settings}
 use Rattle.record.specs.Slots as slots
 use Rattle.record.specs.Slots.{rows, kinds, frameSlot, previousSlot, decisionSlot, slotOf}
-use Rattle.layout.specs.Layout as layout
-use Rattle.layout.specs.Layout.{recordSize, encodeRecord, decodeRecord}
+use Rattle.layout.specs.inside.Layout as layout
+use Rattle.layout.specs.Layout.{encodeRecord, decodeRecord}
+use Rattle.layout.specs.Size.{recordSize}
 use Rattle.layout.proofs.Laws.{fitsDecoded}
 use Rattle.layout.proofs.Theorems.{decodeEncode, encodeSize}
 use Rattle.keeping.specs.Kept.{frameIn, keptFrame}
 use Rattle.keeping.proofs.Forms.{keptThere, keptNothing}
 use Rattle.sound.specs.declared.Lent.the-variants as lent
-use Rattle.sound.specs.Sound.{emptyAt, noPlan, ahead, frameSound, placeSound, kindSound, rowsSound, stands, previousSound, votesSound, soundIn, sound, lentIs}
+use Rattle.sound.specs.inside.Sound.{emptyAt, noPlan, ahead, frameSound, placeSound, kindSound, rowsSound, stands, previousSound, votesSound, soundIn, sound, lentIs}
 use Rattle.sound.proofs.Laws.{place-empty, place-frame, lent-other}
 use Rattle.protocol.specs.Record.{Record, spelt, voteOf}
 use Rattle.protocol.specs.Pass.{hasPrevious}
 use Rattle.settings.specs.Settings.{settingRows}
-use Rattle.protocol.specs.Sound.{InRow, Sound, Ranged}
+use Rattle.protocol.specs.inside.Sound.{Ranged}
+use Rattle.protocol.specs.Sound.{InRow, Sound}
 use Rattle.protocol.proofs.Tables.{whenSome}
 use Rattle.protocol.proofs.Sound.{idBelow, sizeBelow}
-use Rattle.contents.specs.Contents.{keptOf, contents, headOf, slotted, Clean}
+use Rattle.contents.specs.Contents.{keptOf, contents, headOf, slotted}
+use Rattle.contents.specs.Lent.{Clean}
 use Rattle.contents.proofs.Kept.{previousBounds}
 use Rattle.contents.proofs.Clean.{keptAt, cleanOf, filledOf}
 use Rattle.contents.proofs.Acts.{voteSpelt, previousSpelt}

@@ -16,19 +16,23 @@ use Rattle.wire.specs.Fields.{Bytes}
 use Rattle.agreement.proofs.Reports.{none≢some}
 use Rattle.record.specs.Slots as slots
 use Rattle.record.specs.Slots.{previousSlot, slotOf}
-use Rattle.layout.specs.Layout.{recordSize, encodeRecord, decodeRecord}
+use Rattle.layout.specs.Layout.{encodeRecord, decodeRecord}
+use Rattle.layout.specs.Size.{recordSize}
 use Rattle.layout.proofs.Theorems.{encodeBytes}
 use Rattle.sound.specs.declared.Lent.{Lent}
-use Rattle.sound.specs.Sound.{lentIs}
+use Rattle.sound.specs.inside.Sound.{lentIs}
 use Rattle.sound.proofs.Laws.{lent-blank}
 use Rattle.protocol.specs.Record.{Record, reported}
 use Rattle.protocol.specs.Pass.{hasPrevious, Out}
 use Rattle.protocol.specs.Calls.{Call, accepted, answer}
-use Rattle.protocol.specs.Sound.{Sound, Ranged, Fed}
+use Rattle.protocol.specs.inside.Sound.{Ranged}
+use Rattle.protocol.specs.Sound.{Sound}
+use Rattle.protocol.specs.Fed.{Fed}
 use Rattle.protocol.proofs.Tables.{whenFalse}
 use Rattle.protocol.proofs.Proper.{callProper}
 use Rattle.contents.specs.Contents.{previousOf, contents, contentsIn, slotted}
-use Rattle.contents.specs.Calls.{gave, after, onLent, called}
+use Rattle.contents.specs.Calls.{after, onLent, called}
+use Rattle.contents.specs.Left.{gave}
 use Rattle.contents.specs.Spelling.{Spells, Reached, blank, next, LeavesSpelled, LosesNothing}
 use Rattle.contents.proofs.Slotted.{Placed}
 use Rattle.contents.proofs.Widths.{fitsSlotted}

@@ -13,7 +13,8 @@ use Rattle.rules.specs.Rules.{Vote}
 use Rattle.frame.specs.declared.Frame.{Frame}
 use Rattle.frame.specs.declared.Reading.the-variants.{Accepted, Refused}
 use Rattle.frame.specs.Refusal.{first}
-use Rattle.protocol.specs.Record.{Record, put}
+use Rattle.protocol.specs.Record.{Record}
+use Rattle.protocol.specs.Tables.{put}
 use Rattle.settings.specs.declared.Settings.{Settings}
 use Rattle.protocol.specs.Pass.{Act, ask, enter, cast, decide, hasPrevious, does, Out, Step, taken, pass}
 use Rattle.protocol.specs.Calls.{recordRows, timerRows, fresh, started, keep, heard, wanted, rung, Call, start, frame, timer, short, accepted, answer}

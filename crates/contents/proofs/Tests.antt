@@ -17,14 +17,15 @@ use Rattle.wire.specs.Fields as wire
 use Rattle.frame.specs.declared.Report.{Report}
 use Rattle.frame.specs.declared.Body.{Body}
 use Rattle.frame.specs.declared.Frame.{Frame}
-use Rattle.frame.specs.Format.{fits, bodyFields, Valid}
+use Rattle.frame.specs.Format.{bodyFields}
+use Rattle.frame.specs.Valid.{fits, Valid}
 use Rattle.frame.specs.Refusal.{present, absent, badForm}
 use Rattle.frame.proofs.Laws.{Form, plan, bare, reports, inside}
 use Rattle.record.specs.Slots.{rows, kinds, frameSlot, reportSlot, emptySlot}
-use Rattle.layout.specs.Layout.{Small}
+use Rattle.layout.specs.inside.Layout.{Small}
 use Rattle.keeping.specs.Kept.{reportsIn, bodyIn, frameIn, keptIn, planOf}
 use Rattle.keeping.proofs.Forms.{bodyPlan, bodyBare, bodyReports, keptThere, keptNothing}
-use Rattle.sound.specs.Sound.{all, reportsAbsent, emptyAt, noPlan}
+use Rattle.sound.specs.inside.Sound.{all, reportsAbsent, emptyAt, noPlan}
 use Rattle.sound.proofs.Laws.{all-stop}
 use Rattle.protocol.specs.Record.{reported, spelt}
 use Rattle.contents.specs.Contents.{headOf, nth, toldBy, toldOf}

@@ -17,16 +17,18 @@ use Rattle.frame.specs.declared.Report.{Report}
 use Rattle.frame.specs.declared.Body.{Body}
 use Rattle.frame.specs.declared.Body.the-variants.{Plan, Empty, Told}
 use Rattle.frame.specs.declared.Frame.{Frame}
-use Rattle.frame.specs.Format.{headFields, bodyFields, Valid}
+use Rattle.frame.specs.Format.{headFields, bodyFields}
+use Rattle.frame.specs.Valid.{Valid}
 use Rattle.record.specs.Slots as slots
 use Rattle.record.specs.Slots.{slotCount, previousSlot, decisionSlot, emptySlot, slotOf}
-use Rattle.layout.specs.Layout as layout
-use Rattle.layout.specs.Layout.{Small}
+use Rattle.layout.specs.inside.Layout as layout
+use Rattle.layout.specs.inside.Layout.{Small}
 use Rattle.keeping.specs.Kept.{planOf, headSlot}
 use Rattle.protocol.specs.Record.{Record, reported, spelt}
 use Rattle.protocol.specs.Pass.{hasPrevious}
 use Rattle.settings.specs.Settings.{settingRows}
-use Rattle.protocol.specs.Sound.{Sound, Fits, Ranged}
+use Rattle.protocol.specs.inside.Sound.{Fits, Ranged}
+use Rattle.protocol.specs.Sound.{Sound}
 use Rattle.protocol.proofs.Tables.{whenSome}
 use Rattle.protocol.proofs.Slots.{viewFits}
 use Rattle.protocol.proofs.Went.{noneGiven, thirdOf}

@@ -14,15 +14,11 @@ use Rattle.settings.specs.declared.Settings.{Settings}
 use Rattle.layout.specs.Layout.{encodeRecord, decodeRecord}
 use Rattle.sound.specs.declared.Lent.{Lent}
 use Rattle.sound.specs.declared.Lent.the-variants.{Blank, Unsound, Sound}
-use Rattle.sound.specs.Sound.{lentIs}
+use Rattle.sound.specs.inside.Sound.{lentIs}
 use Rattle.protocol.specs.Record.{Record}
 use Rattle.protocol.specs.Calls.{Call, start, frame, timer, Answer, refused, accepted, answer}
 use Rattle.contents.specs.Contents.{contents, slotted}
-
--- What a call leaves: its answer, the record's bytes and the output's bytes.
-pub data Left : Type 0 where
-  wrote : ℕ → List ℕ → List ℕ → Left
-  gave : ℕ → List ℕ → List ℕ → Left
+use Rattle.contents.specs.Left.{Left, wrote, gave}
 
 -- 'Each gives its number, zero bytes written, record and output unchanged.' 'Accepted calls return the byte count written; bytes
 -- beyond it keep their contents.'
@@ -30,7 +26,7 @@ abbrev pub after : List ℕ → List ℕ → Answer → Left
 after rec out (refused k) = gave k rec out
 after rec out (accepted o) = wrote (length (layout (o .wrote))) (encodeRecord (slotted (o .left))) (placed out 0 (layout (o .wrote)))
 
--- A call on a lent record: 3 or 4 where it is unsound (4 is 'start on a record not blank').
+-- A call on a lent record, by what it is (`LentIsSaid` in Lent): 3 or 4 where it is unsound (4 is 'start on a record not blank').
 abbrev pub onLent : Lent → ℕ → Record → Call → Answer
 onLent Blank k r a = answer none a
 onLent Unsound k r a = refused k

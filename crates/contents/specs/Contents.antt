@@ -2,27 +2,23 @@
 -- how they lie in slots is the program's choice. Each content that calls reach has just one spelling.
 -- Assumes nothing.
 use Prim.Native.Nat.{ℕ, zero, suc, _+_, _-_, _/_, _%_}
-use mathlib.Core.Path.{_≡_}
 use mathlib.Core.Bool.{_&&_, cond}
 use mathlib.Core.List.{List}
 use mathlib.Core.Option.{Option, none, some}
 use lib.Dec.{ltb}
-use lib.ListN.{length}
 use Rattle.frame.specs.declared.Report.{Report}
 use Rattle.frame.specs.declared.Reports.{Reports}
 use Rattle.frame.specs.declared.Body.{Body}
 use Rattle.frame.specs.declared.Body.the-variants.{Plan, Empty, Told}
 use Rattle.frame.specs.declared.Frame.{Frame}
 use Rattle.frame.specs.Format.{within}
-use Rattle.settings.specs.declared.Settings.{Settings}
 use Rattle.record.specs.Slots as slots
 use Rattle.record.specs.Slots.{rows, kinds, reportRows, firstReport, firstPrevious, decisionSlot, slotCount, previousSlot, emptySlot, slotOf}
-use Rattle.layout.specs.Layout.{recordSize, decodeRecord}
+use Rattle.layout.specs.Layout.{decodeRecord}
 use Rattle.keeping.specs.Kept.{keptFrame, headSlot}
 use Rattle.rules.specs.Rules.{Vote}
 use Rattle.protocol.specs.Record.{Record, when, reported, spelt}
 use Rattle.protocol.specs.Pass.{hasPrevious}
-use Rattle.protocol.specs.Sound.{Sound, Ranged}
 
 -- ---- from slots to contents
 
@@ -84,17 +80,6 @@ slotsAt c i = cond (ltb i slotCount) (slotAt c i) emptySlot
 unfoldable pub slotted : Record → slots.Record
 slotted c = record { set = c .set; view = c .view; plan = c .start; slots = slotsAt c }
 
--- A record whose slots hold its contents, and nothing besides.
-pub record Clean (r : slots.Record) : Type 0 where
-  pub filled : (i : ℕ) → slotOf r i ≡ slotsAt (contents r) i
-
 -- The contents of a record's bytes.
 abbrev pub contentsIn : List ℕ → Record
 contentsIn s = contents (decodeRecord s)
-
--- Bytes of a record that calls leave: its slots hold its contents alone, and these are sound and have their widths.
-pub record Ready (s : List ℕ) : Type 0 where
-  pub size : length s ≡ recordSize
-  pub clean : Clean (decodeRecord s)
-  pub sound : Sound (contentsIn s)
-  pub ranged : Ranged (contentsIn s)

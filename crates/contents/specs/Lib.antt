@@ -1,3 +1,6 @@
 pub mod Contents
 pub mod Calls
 pub mod Spelling
+pub mod Left
+pub mod Lent
+pub mod inside

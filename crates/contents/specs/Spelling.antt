@@ -10,13 +10,14 @@ use Rattle.wire.specs.Placed.{placed}
 use Rattle.entry.specs.Layout.{layout}
 use Rattle.layout.specs.Layout.{encodeRecord}
 use Rattle.sound.specs.declared.Lent.the-variants as lent
-use Rattle.sound.specs.Sound.{lentIs}
+use Rattle.sound.specs.inside.Sound.{lentIs}
 use Rattle.protocol.specs.Record.{Record}
 use Rattle.protocol.specs.Pass.{Out}
 use Rattle.protocol.specs.Calls.{Call, accepted, answer}
-use Rattle.protocol.specs.Sound.{Fed}
+use Rattle.protocol.specs.Fed.{Fed}
 use Rattle.contents.specs.Contents.{contentsIn, slotted}
-use Rattle.contents.specs.Calls.{Left, wrote, gave, called}
+use Rattle.contents.specs.Calls.{called}
+use Rattle.contents.specs.Left.{Left, wrote, gave}
 
 -- Bytes that are lent as a sound record, and are read as contents r.
 pub record Holds (s : List ℕ) (r : Record) : Type 0 where

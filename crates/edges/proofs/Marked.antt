@@ -9,12 +9,13 @@ use mathlib.Core.Option.{Option, none, some}
 use mathlib.Core.List.{List, [], _∷_}
 use lib.Dec.{leb, ltb, eqb, leb·zero}
 use borrow.Author.Tests.{ltb-true, not-true, eqb-true, eq-eqb, ne-eqb}
-use Rattle.quorum.specs.Bools.{any}
-use Rattle.quorum.specs.Sets.{Vaults, size, total, weigh, isQuorum, isBlocking}
+use Rattle.quorum.specs.inside.Bools.{any}
+use Rattle.quorum.specs.Sets.{Vaults, size, total, weigh}
+use Rattle.quorum.specs.Quorums.{isQuorum, isBlocking}
 use Rattle.quorum.proofs.Bools.{clash, bothSplit}
 use Rattle.quorum.proofs.Laws.{countQuorum}
 use Rattle.rules.specs.Rules.{reach, claims, unlocked, allows, reporting, noLock}
-use Rattle.rules.specs.Counts.{claimed, free, allowed, twoSets, backed, safe}
+use Rattle.rules.specs.inside.Counts.{claimed, free, allowed, twoSets, backed, safe}
 use Rattle.rules.proofs.Laws.{backedIff, safeIff}
 use Rattle.frame.specs.Refusal.{first}
 use Rattle.settings.specs.Settings.{settingRows}

@@ -9,7 +9,8 @@ use mathlib.Core.Option.{Option, none, some}
 use mathlib.Core.List.{List, [], _∷_}
 use lib.Dec.{eqb}
 use lib.ListN.{getD}
-use Rattle.quorum.specs.Sets.{Vaults, equals, size, Quorum}
+use Rattle.quorum.specs.Sets.{Vaults, equals, size}
+use Rattle.quorum.specs.Quorums.{Quorum}
 use Rattle.frame.specs.Refusal.{first}
 use Rattle.settings.specs.Settings.{settingRows}
 use Rattle.rules.specs.Options.{holds}

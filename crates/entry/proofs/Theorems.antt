@@ -15,12 +15,15 @@ use Rattle.wire.specs.Placed.{placed}
 use Rattle.wire.proofs.Laws.{number-one, fields-spell, length-spell}
 use Rattle.wire.proofs.Output.{placed-none, placed-more, length-placed}
 use Rattle.frame.specs.declared.Frame.{Frame}
-use Rattle.frame.specs.Format.{lengthOf, encode, decode, Valid}
+use Rattle.frame.specs.Format.{lengthOf, encode, decode}
+use Rattle.frame.specs.Valid.{Valid}
 use Rattle.frame.proofs.Spelling.{kind-at}
 use Rattle.frame.proofs.Theorems.{decode-encode, encode-length, encode-short, encode-head}
 use Rattle.entry.specs.declared.Entry.{Entry}
 use Rattle.entry.specs.declared.Entry.the-variants.{ForAll, ForOne, Timer, Decision}
-use Rattle.entry.specs.Layout.{hostFields, entryBytes, layout, ValidEntry, AllValid, frameIn, entryAt, sizeAt, entriesWithin, entriesOf}
+use Rattle.entry.specs.Layout.{hostFields, entryBytes, layout}
+use Rattle.entry.specs.Valid.{ValidEntry, AllValid}
+use Rattle.entry.specs.Reading.{frameIn, entryAt, sizeAt, entriesWithin, entriesOf}
 use Rattle.entry.specs.Sentences.{EntriesReadBack, EntriesUnique}
 
 -- what the bytes of an entry say, whatever follows them

@@ -1,2 +1,4 @@
 pub mod Layout
 pub mod Sentences
+pub mod Reading
+pub mod Valid

@@ -3,7 +3,9 @@
 use mathlib.Core.Path.{_≡_}
 use mathlib.Core.List.{List}
 use Rattle.entry.specs.declared.Entry.{Entry}
-use Rattle.entry.specs.Layout.{layout, AllValid, entriesOf}
+use Rattle.entry.specs.Layout.{layout}
+use Rattle.entry.specs.Valid.{AllValid}
+use Rattle.entry.specs.Reading.{entriesOf}
 
 -- 'Entries lie end to end: a recipient byte (ff all vaults, else a vault's number, or fe the host), then the frame': an output reads as the
 -- entries that were written. Proved as `entriesReadBack` in proofs/Theorems.

@@ -13,7 +13,8 @@ use lib.Dec.{leb, eqb}
 use lib.ListN.{length, getD}
 use Rattle.wire.specs.Digits.{numberAt}
 use Rattle.frame.specs.declared.Body.the-variants.{Plan, Empty, Told}
-use Rattle.frame.specs.Format.{within, lengthOf, reportsAt, bodyAs, Formed}
+use Rattle.frame.specs.Format.{within, lengthOf, reportsAt, bodyAs}
+use Rattle.frame.specs.inside.Reading.{Formed}
 use Rattle.frame.specs.Refusal.{Row, row, first, formRows}
 
 -- what is known of two numbers, said of the tests on them: `search tests` decides a table's row from the branches on the way

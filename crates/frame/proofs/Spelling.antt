@@ -9,14 +9,17 @@ use mathlib.Core.List.{List, [], _∷_}
 use native.Mathlib.Omega.{arith}
 use borrow.Author.Tests.{eq-eqb, eqb-true}
 use lib.ListN.{length, getD}
-use Rattle.wire.specs.Fields.{Field, field, spell, widths, total, fieldsAt, Sized, Bytes}
+use Rattle.wire.specs.Fields.{Field, field, spell, Sized, Bytes}
+use Rattle.wire.specs.inside.Widths.{widths, total, fieldsAt}
 use Rattle.wire.proofs.Laws.{number-one, read-fields, spell-read, sized-fields, length-spell}
 use Rattle.frame.specs.declared.Report.{Report}
 use Rattle.frame.specs.declared.Reports.{Reports}
 use Rattle.frame.specs.declared.Body.{Body}
 use Rattle.frame.specs.declared.Body.the-variants.{Plan, Empty, Told}
 use Rattle.frame.specs.declared.Frame.{Frame}
-use Rattle.frame.specs.Format.{within, lengthOf, fits, reportsFields, bodyFields, fieldsOf, encode, reportsAt, bodyAs, decode, Formed, Valid}
+use Rattle.frame.specs.Format.{within, lengthOf, reportsFields, bodyFields, fieldsOf, encode, reportsAt, bodyAs, decode}
+use Rattle.frame.specs.Valid.{fits, Valid}
+use Rattle.frame.specs.inside.Reading.{Formed}
 use Rattle.frame.proofs.Laws.{Form, plan, bare, reports, inside, bounds, body-plan, body-bare, body-reports, length-plan, length-bare, length-reports, form-of}
 
 -- the widths of what follows the head

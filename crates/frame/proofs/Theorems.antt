@@ -10,13 +10,15 @@ use native.Mathlib.Omega.{arith}
 use borrow.Author.Tests.{eqb-true}
 use lib.Dec.{eqb}
 use lib.ListN.{length, getD}
-use Rattle.wire.specs.Fields.{widths, total, Bytes}
+use Rattle.wire.specs.Fields.{Bytes}
+use Rattle.wire.specs.inside.Widths.{widths, total}
 use Rattle.wire.proofs.Laws.{length-spell, bytes-spell}
 use Rattle.frame.specs.declared.Body.{Body}
 use Rattle.frame.specs.declared.Body.the-variants.{Plan, Empty, Told}
 use Rattle.frame.specs.declared.Frame.{Frame}
 use Rattle.frame.specs.declared.Reading.the-variants.{Accepted, Refused}
-use Rattle.frame.specs.Format.{lengthOf, bodyFields, fieldsOf, encode, decode, Valid}
+use Rattle.frame.specs.Format.{lengthOf, bodyFields, fieldsOf, encode, decode}
+use Rattle.frame.specs.Valid.{Valid}
 use Rattle.frame.specs.Refusal.{first, formRows, linkRows, contentRows, leaderRows, refusal, readFrame}
 use Rattle.frame.specs.Sentences.{FramesReadBack, OneSpelling}
 use Rattle.frame.proofs.Laws.{first-none, first-both, formed, form-passes}

@@ -1,13 +1,12 @@
 -- The frames of document 01: each kind's length, its fields in order, and what its bytes say.
 -- Assumes nothing.
 use Prim.Native.Nat.{ℕ, _+_}
-use mathlib.Core.Path.{_≡_}
-use mathlib.Core.Bool.{Bool, true, _&&_, cond}
+use mathlib.Core.Bool.{Bool, _&&_, cond}
 use mathlib.Core.List.{List, [], _∷_, _++_}
-use lib.ListN.{length, getD}
+use lib.ListN.{getD}
 use lib.Dec.{leb, eqb}
 use Rattle.wire.specs.Digits.{numberAt}
-use Rattle.wire.specs.Fields.{Field, field, spell, Sized}
+use Rattle.wire.specs.Fields.{Field, field, spell}
 use Rattle.frame.specs.declared.Report.{Report}
 use Rattle.frame.specs.declared.Reports.{Reports}
 use Rattle.frame.specs.declared.Body.{Body}
@@ -21,12 +20,6 @@ within low high k = leb low k && leb k high
 -- The table's column "Length", over its column "Kind"; 0 where there is no such kind.
 unfoldable pub lengthOf : ℕ → ℕ
 lengthOf kind = cond (within 1 5 kind) 14 (cond (eqb kind 6) 6 (cond (within 7 8 kind) 45 0))
-
--- The table's column "Rest": a plan in kinds 1 to 5, none in kind 6, three reports in kinds 7 and 8.
-abbrev pub fits : ℕ → Body → Bool
-fits kind (Plan p) = within 1 5 kind
-fits kind Empty = eqb kind 6
-fits kind (Told r) = within 7 8 kind
 
 -- "A suggest reports highest vote-2, previous vote-2, highest vote-3", and a proof its own three, in this order.
 abbrev pub threeReports : Reports → List Report
@@ -79,13 +72,3 @@ bodyAs kind s = cond (within 1 5 kind) (Plan (numberAt 8 s 6)) (cond (eqb kind 6
 -- "Byte 0 is the kind, byte 1 the sender, bytes 2 to 5 the view": what the bytes of a whole frame say.
 unfoldable pub decode : List ℕ → Frame
 decode s = record { kind = getD s 0 0; sender = getD s 1 0; view = numberAt 4 s 2; body = bodyAs (getD s 0 0) s }
-
--- Bytes of a known kind, as many as the table's column "Length" has for it.
-pub record Formed (s : List ℕ) : Type 0 where
-  pub kind : within 1 8 (getD s 0 0) ≡ true
-  pub size : length s ≡ lengthOf (getD s 0 0)
-
--- A frame that can be written: its body is one of its kind, and each field fits its bytes.
-pub record Valid (f : Frame) : Type 0 where
-  pub shape : fits (f .kind) (f .body) ≡ true
-  pub sized : Sized (fieldsOf f)

@@ -106,8 +106,3 @@ refusal s link n own =
 -- What reading answers: the frame that the bytes say, or the number that the table gives.
 unfoldable pub readFrame : List ℕ → ℕ → ℕ → ℕ → Reading
 readFrame s link n own = cond (eqb (refusal s link n own) 0) (Accepted (decode s)) (Refused (refusal s link n own))
-
--- The number of a refusal, 0 where the frame was accepted.
-abbrev pub refusalOf : Reading → ℕ
-refusalOf (Accepted f) = 0
-refusalOf (Refused number) = number

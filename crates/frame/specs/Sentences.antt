@@ -6,7 +6,8 @@ use mathlib.Core.List.{List}
 use Rattle.wire.specs.Fields.{Bytes}
 use Rattle.frame.specs.declared.Frame.{Frame}
 use Rattle.frame.specs.declared.Reading.the-variants.{Accepted}
-use Rattle.frame.specs.Format.{encode, Valid}
+use Rattle.frame.specs.Format.{encode}
+use Rattle.frame.specs.Valid.{Valid}
 use Rattle.frame.specs.Refusal.{first, linkRows, contentRows, leaderRows, readFrame}
 
 -- 'Byte 0 is the kind, byte 1 the sender, bytes 2 to 5 the view', and the table's column 'Rest': a frame that is written reads back as

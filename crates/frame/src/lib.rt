@@ -4,7 +4,8 @@ ghost use mathlib.Core.Bool.{false, _||_};
 ghost use mathlib.Core.List.{_++_};
 ghost use Prim.Native.Nat.{_<_};
 ghost use Rattle.frame.specs.Format.{lengthOf, threeReports};
-ghost use Rattle.frame.specs.Refusal.{badForm, tooHigh, badPrevious, viewMissing, misled, first, any, formRows, linkRows, reportRows, contentRows, leaderRows, refusalOf};
+ghost use Rattle.frame.specs.Refusal.{badForm, tooHigh, badPrevious, viewMissing, misled, first, any, formRows, linkRows, reportRows, contentRows, leaderRows};
+ghost use Rattle.frame.specs.inside.Reading.{refusalOf};
 
 // The lengths of frames: with a plan, bare, and with reports.
 const PLAN_LENGTH: usize = 14;

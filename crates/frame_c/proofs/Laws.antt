@@ -8,7 +8,7 @@ use Rattle.frame.specs.declared.Frame.{Frame}
 use Rattle.entry.specs.declared.Entry.the-variants.{ForAll, Timer, Decision}
 use Rattle.entry.specs.Layout.{layout}
 use Rattle.entry.proofs.Theorems.{entry-length}
-use Rattle.frame_c.specs.Echo.{echoEntries}
+use Rattle.frame_c.specs.inside.Echo.{echoEntries}
 
 pub echo-short : (f : Frame) → length (layout (echoEntries f)) ≤ 138
 echo-short f =

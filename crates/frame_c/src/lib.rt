@@ -4,7 +4,7 @@ ghost use Prim.Native.Nat.{_≤_};
 ghost use lib.ListN.{length};
 ghost use Rattle.wire.specs.Placed.{placed};
 ghost use Rattle.entry.specs.Layout.{layout};
-ghost use Rattle.frame_c.specs.Echo.{left, echoEntries, echo};
+ghost use Rattle.frame_c.specs.inside.Echo.{left, echoEntries, echo};
 use entry::Entry;
 use frame::Frame;
 use frame::Reading;

@@ -12,10 +12,12 @@ use Rattle.frame.specs.declared.Reports.{Reports}
 use Rattle.frame.specs.declared.Body.{Body}
 use Rattle.frame.specs.declared.Body.the-variants.{Plan, Empty, Told}
 use Rattle.frame.specs.declared.Frame.{Frame}
-use Rattle.frame.specs.Format.{fits}
+use Rattle.frame.specs.Valid.{fits}
 use Rattle.frame.proofs.Laws.{inside, over, bounds}
-use Rattle.record.specs.Slots.{Record, frameSlot, withSlot}
-use Rattle.keeping.specs.Kept.{reportsIn, bodyIn, frameIn, keptIn, planOf, withReports, withBody, keepFrame}
+use Rattle.record.specs.Slots.{Record, frameSlot}
+use Rattle.record.specs.inside.Slots.{withSlot}
+use Rattle.keeping.specs.Kept.{reportsIn, bodyIn, frameIn, keptIn, planOf}
+use Rattle.keeping.specs.inside.Kept.{withReports, withBody, keepFrame}
 
 module _ (slots : ℕ → Report) (kind sender : ℕ) where
   pub bodyPlan : 1 ≤ kind → kind ≤ 5 → bodyIn slots kind sender ≡ Plan (slots (frameSlot kind sender) .plan)

@@ -9,8 +9,9 @@ use Rattle.frame.specs.declared.Report.{Report}
 use Rattle.frame.specs.Format.{within}
 use Rattle.frame.specs.Refusal.{first, present}
 use Rattle.frame.proofs.Laws.{both, bounds}
-use Rattle.record.specs.Slots.{Record, frameSlot, previousSlot, withSlot}
-use Rattle.keeping.specs.Keeping.{stale, outdone, keepRows, moves, ownSlot, shifted}
+use Rattle.record.specs.Slots.{Record, frameSlot, previousSlot}
+use Rattle.record.specs.inside.Slots.{withSlot}
+use Rattle.keeping.specs.inside.Keeping.{stale, outdone, keepRows, moves, ownSlot, shifted}
 
 module _ (slots : ℕ → Report) (current sender kind view : ℕ) where
   pub refused-stale : stale current kind view ≡ true → first (keepRows slots current sender kind view) ≡ 16

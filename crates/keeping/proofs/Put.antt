@@ -7,10 +7,13 @@ use Rattle.frame.specs.declared.Reports.{Reports}
 use Rattle.frame.specs.declared.Body.{Body}
 use Rattle.frame.specs.declared.Body.the-variants.{Plan, Empty, Told}
 use Rattle.frame.specs.declared.Frame.{Frame}
-use Rattle.record.specs.Slots.{Record, frameSlot, reportSlot, withSlot}
-use Rattle.layout.specs.Layout.{decodeRecord, Holds}
-use Rattle.keeping.specs.Kept.{planOf, headSlot, withReports, withBody, keepFrame}
-use Rattle.keeping.specs.Keeping.{shifted, ownBroadcast}
+use Rattle.record.specs.Slots.{Record, frameSlot, reportSlot}
+use Rattle.record.specs.inside.Slots.{withSlot}
+use Rattle.layout.specs.Layout.{decodeRecord}
+use Rattle.layout.specs.inside.Layout.{Holds}
+use Rattle.keeping.specs.Kept.{planOf, headSlot}
+use Rattle.keeping.specs.inside.Kept.{withReports, withBody, keepFrame}
+use Rattle.keeping.specs.inside.Keeping.{shifted, ownBroadcast}
 
 -- the same bytes hold an equal record
 pub heldAs : {o : List ℕ} {r s : Record} → Holds o r → r ≡ s → Holds o s

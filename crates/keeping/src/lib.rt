@@ -7,12 +7,16 @@ ghost use mathlib.Core.Path.{_≡_};
 ghost use mathlib.Core.Bool.{true};
 ghost use Prim.Native.Nat.{_≤_, _<_};
 ghost use lib.ListN.{length};
-ghost use Rattle.frame.specs.Format.{fits};
+ghost use Rattle.frame.specs.Valid.{fits};
 ghost use Rattle.frame.specs.Refusal.{first};
-ghost use Rattle.record.specs.Slots.{rows, slotOf, Place};
-ghost use Rattle.layout.specs.Layout.{recordSize, decodeRecord, Holds};
-ghost use Rattle.keeping.specs.Kept.{planOf, withReports, keepFrame};
-ghost use Rattle.keeping.specs.Keeping.{stale, outdone, keepRows, moves, shifted, ownBroadcast};
+ghost use Rattle.record.specs.Slots.{rows, slotOf};
+ghost use Rattle.record.specs.inside.Slots.{Place};
+ghost use Rattle.layout.specs.Layout.{decodeRecord};
+ghost use Rattle.layout.specs.Size.{recordSize};
+ghost use Rattle.layout.specs.inside.Layout.{Holds};
+ghost use Rattle.keeping.specs.Kept.{planOf};
+ghost use Rattle.keeping.specs.inside.Kept.{withReports, keepFrame};
+ghost use Rattle.keeping.specs.inside.Keeping.{stale, outdone, keepRows, moves, shifted, ownBroadcast};
 
 fn is_stale(current: u32, kind: u8, view: u32) -> bool
     ensures { λ b. ⌜ b ≡ stale current kind view ⌝ }

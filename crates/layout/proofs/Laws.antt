@@ -20,22 +20,11 @@ use Rattle.wire.proofs.Laws.{number-digits, length-digits, number-below}
 use Rattle.wire.proofs.Output.{length-placed, placed-sets, placed-more, placed-next}
 use Rattle.frame.specs.declared.Report.{Report}
 use Rattle.settings.specs.declared.Settings.{Settings}
-use Rattle.record.specs.Slots.{rows, slotCount, emptySlot, slotPut, withSlot, withView, fresh}
-use Rattle.layout.specs.Layout.{
-  headSize,
-  slotSize,
-  sharedSize,
-  recordSize,
-  viewPlace,
-  partPlace,
-  place,
-  slotIn,
-  slotBytes,
-  decodeRecord,
-  Small,
-  Fits,
-  Holds,
-}
+use Rattle.record.specs.Slots.{rows, slotCount, emptySlot}
+use Rattle.record.specs.inside.Slots.{slotPut, withSlot, withView, fresh}
+use Rattle.layout.specs.Layout.{headSize, slotSize, sharedSize, viewPlace, partPlace, place, slotIn, slotBytes, decodeRecord}
+use Rattle.layout.specs.Size.{recordSize}
+use Rattle.layout.specs.inside.Layout.{Small, Fits, Holds}
 use Rattle.layout.proofs.Bytes.{setsOther, placedOther, numberSame, numberPut, numberZero, bytePart, numberPart}
 
 -- ---- places

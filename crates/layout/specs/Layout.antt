@@ -2,15 +2,13 @@
 -- practice's block (starting plan, all other slots). Each part has a head of 8 bytes, then its slots of 13 bytes end to end. Every
 -- string of 11,703 bytes spells one record. So it can spell a blank record and every content, and 'spells no record' is: another length.
 -- Assumes nothing.
-use Prim.Native.Nat.{ℕ, zero, suc, _+_, _-_, _*_, _^_, _≤_, _<_}
+use Prim.Native.Nat.{ℕ, zero, suc, _+_, _-_, _*_}
 use mathlib.Core.Bool.{cond}
-use mathlib.Core.Path.{_≡_}
 use mathlib.Core.List.{List, [], _∷_, _++_}
 use lib.Dec.{ltb}
-use lib.ListN.{length, getD}
+use lib.ListN.{getD}
 use Rattle.wire.specs.Digits.{numberAt, digits}
 use Rattle.frame.specs.declared.Report.{Report}
-use Rattle.settings.specs.declared.Settings.{Settings}
 use Rattle.record.specs.Slots.{rows, slotCount, emptySlot, Record}
 
 -- ---- sizes
@@ -26,14 +24,6 @@ slotSize = 13
 -- The shared part: a head, and the 64 slots of the view-changes.
 abbrev pub sharedSize : ℕ
 sharedSize = 840
-
--- A practice's block: a head, and the other 835 slots.
-abbrev pub blockSize : ℕ
-blockSize = 10863
-
--- How many bytes a record has: "A lent record of the wrong length .. is unsound and not blank."
-abbrev pub recordSize : ℕ
-recordSize = 11703
 
 -- ---- places
 
@@ -88,31 +78,3 @@ decodeRecord s =
       plan = numberAt 8 s sharedSize;
       slots = λ i. cond (ltb i slotCount) (slotIn s (place i)) emptySlot;
     }
-
--- ---- widths
-
--- A slot whose numbers have their widths.
-pub record Small (x : Report) : Type 0 where
-  pub mark : x .mark < 256
-  pub view : x .view < 256 ^ 4
-  pub plan : x .plan < 256 ^ 8
-
--- Settings of one byte each.
-pub record Narrow (s : Settings) : Type 0 where
-  pub n : s .n < 256
-  pub f : s .f < 256
-  pub id : s .id < 256
-  pub class : s .class < 256
-
--- A record whose parts fit: each number is one that its bytes can spell, and there is nothing beyond the last slot.
-pub record Fits (r : Record) : Type 0 where
-  pub set : Narrow (r .set)
-  pub view : r .view < 256 ^ 4
-  pub plan : r .plan < 256 ^ 8
-  pub slots : (i : ℕ) → Small (r .slots i)
-  pub beyond : (i : ℕ) → slotCount ≤ i → r .slots i ≡ emptySlot
-
--- Bytes of a record's length that hold this record. Since a record has one spelling, no byte is left open.
-pub record Holds (s : List ℕ) (r : Record) : Type 0 where
-  pub size : length s ≡ recordSize
-  pub is : decodeRecord s ≡ r

@@ -7,20 +7,11 @@ ghost use mathlib.Core.Path.{_≡_};
 ghost use Prim.Native.Nat.{_+_, _*_, _≤_, _<_};
 ghost use lib.ListN.{length, replicate};
 ghost use Rattle.wire.specs.Placed.{placed};
-ghost use Rattle.record.specs.Slots.{
-  firstReport,
-  firstPrevious,
-  decisionSlot,
-  slotCount,
-  frameSlot,
-  reportSlot,
-  previousSlot,
-  Place,
-  withSlot,
-  withView,
-  fresh,
-};
-ghost use Rattle.layout.specs.Layout.{slotSize, recordSize, place, slotIn, slotBytes, decodeRecord, Holds};
+ghost use Rattle.record.specs.Slots.{firstReport, firstPrevious, decisionSlot, slotCount, frameSlot, reportSlot, previousSlot};
+ghost use Rattle.record.specs.inside.Slots.{Place, withSlot, withView, fresh};
+ghost use Rattle.layout.specs.Layout.{slotSize, place, slotIn, slotBytes, decodeRecord};
+ghost use Rattle.layout.specs.Size.{recordSize};
+ghost use Rattle.layout.specs.inside.Layout.{Holds};
 
 // The senders that have a row.
 pub const ROWS: usize = 64;

@@ -7,8 +7,9 @@ use mathlib.Core.List.{List, [], _∷_, _++_, append-assoc, append-nil}
 use native.Mathlib.Omega.{arith}
 use lib.Dec.{eqb}
 use lib.ListN.{length, take, drop}
-use Rattle.lines.specs.Lines.{ended, begun, lastLine, firstLine, Program, after, prints}
-use Rattle.lines.specs.Steps.{Enough}
+use Rattle.lines.specs.Lines.{ended, begun, lastLine, Program, after, prints}
+use Rattle.lines.specs.inside.Lines.{firstLine}
+use Rattle.lines.specs.inside.Steps.{Enough}
 
 -- A test's two outcomes.
 either : (P : Bool → Type 0) → P true → P false → (t : Bool) → P t

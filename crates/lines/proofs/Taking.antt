@@ -8,8 +8,8 @@ use native.Mathlib.Omega.{arith}
 use borrow.Author.Tests.{eq-eqb, ne-eqb}
 use lib.ListN.{length, getD, take, drop, set, length-append, length-set, drop-of-length-le}
 use lib.Seq.{drop-cons, length-take-le, take-suc-set, take-all, take-at}
-use Rattle.lines.specs.Lines.{firstLine}
-use Rattle.lines.specs.Steps.{KeptOf}
+use Rattle.lines.specs.inside.Lines.{firstLine}
+use Rattle.lines.specs.inside.Steps.{KeptOf}
 use Rattle.lines.proofs.Lines.{keptMore}
 
 -- ---- one byte

@@ -8,7 +8,8 @@ use native.Mathlib.Omega.{arith}
 use lib.ListN.{length, take}
 use lib.Seq.{take-all, take-take}
 use Rattle.lines.specs.Lines.{ended, begun, lastLine, Program, after, prints, answers}
-use Rattle.lines.specs.Steps.{Enough, Fed, Finished, Reads, first, andThen, ReadsAs, AnySplit}
+use Rattle.lines.specs.Steps.{Fed, Finished, Reads, first, andThen}
+use Rattle.lines.specs.inside.Steps.{Enough, ReadsAs, AnySplit}
 use Rattle.lines.proofs.Lines.{endedMore, begunMore, afterMore, printsMore, afterSame, printsSame, begunSame, lastSame}
 
 module _ {S : Type 0} (p : Program S) (room : ℕ) (enough : Enough p room) (s : S) where

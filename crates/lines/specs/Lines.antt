@@ -24,11 +24,6 @@ lastLine (b ∷ line) = (b ∷ line) ∷ []
 abbrev pub linesOf : List ℕ → List (List ℕ)
 linesOf input = ended [] input ++ lastLine (begun [] input)
 
--- The bytes before the first 0a.
-unfoldable pub firstLine : List ℕ → List ℕ
-firstLine [] = []
-firstLine (b ∷ s) = cond (eqb b 10) [] (b ∷ firstLine s)
-
 -- A program over lines: what a line's text makes of its state, and what it prints.
 pub record Program (S : Type 0) : Type 0 where
   pub next : S → List ℕ → S

@@ -5,8 +5,8 @@ ghost use mathlib.Core.List.{[], _∷_, _++_};
 ghost use Prim.Native.Nat.{_+_, _*_, _≤_, _<_};
 ghost use lib.ListN.{length, take, drop};
 ghost use Rattle.lines.specs.Digits.{valueOf, digitOf, lineOf, refusalLine, bytesOf};
-ghost use Rattle.lines.specs.Lines.{firstLine};
-ghost use Rattle.lines.specs.Steps.{spells, countOf, Shown, KeptOf};
+ghost use Rattle.lines.specs.inside.Lines.{firstLine};
+ghost use Rattle.lines.specs.inside.Steps.{spells, countOf, Shown, KeptOf};
 
 const LINE_END: u8 = 10;
 

@@ -9,16 +9,17 @@ use native.Mathlib.Omega.{arith}
 use native.Mathlib.Numerals.{add-one}
 use lib.ListN.{length}
 use lib.Seq.{drop-cons}
-use Rattle.layout.specs.Layout.{recordSize}
+use Rattle.layout.specs.Size.{recordSize}
 use Rattle.protocol.specs.Record.{Record}
 use Rattle.protocol.specs.Pass.{Out, Step, taken, pass, fromA}
 use Rattle.protocol.proofs.Passes.{passNone, passMore}
-use Rattle.contents.specs.Contents.{contents, contentsIn, Ready}
+use Rattle.contents.specs.Contents.{contents, contentsIn}
+use Rattle.contents.specs.inside.Ready.{Ready}
 use Rattle.acts.specs.declared.Act as acts
 use Rattle.acts.specs.declared.Act.the-variants.{Nothing}
-use Rattle.acts.specs.Acts.{asAct, actAt}
-use Rattle.pass.specs.Steps.{Room, Ran}
-use Rattle.pass.specs.Passes.{stepAt, stepsFrom, Going}
+use Rattle.acts.specs.inside.Acts.{asAct, actAt}
+use Rattle.pass.specs.inside.Steps.{Room, Ran}
+use Rattle.pass.specs.inside.Passes.{stepAt, stepsFrom, Going}
 use Rattle.pass.proofs.Steps.{idleStep, stepSet}
 use Rattle.pass.proofs.Runs.{ranNothing, joined, roomFirst, sizeNext, roomNext, ranJoin}
 

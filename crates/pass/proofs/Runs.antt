@@ -12,14 +12,15 @@ use Rattle.wire.proofs.Output.{placed-none, placed-more, length-placed}
 use Rattle.entry.specs.declared.Entry.{Entry}
 use Rattle.entry.specs.Layout.{entryBytes, layout}
 use Rattle.entry.proofs.Theorems.{layout-more}
-use Rattle.layout.specs.Layout.{recordSize}
+use Rattle.layout.specs.Size.{recordSize}
 use Rattle.protocol.specs.Record.{Record}
 use Rattle.protocol.specs.Pass.{Out, Step, onward, pass}
-use Rattle.contents.specs.Contents.{contentsIn, Ready}
+use Rattle.contents.specs.Contents.{contentsIn}
+use Rattle.contents.specs.inside.Ready.{Ready}
 use Rattle.pass.specs.declared.Entries.{Entries}
 use Rattle.pass.specs.declared.Entries.the-variants.{Zero, One, Two, Three}
 use Rattle.pass.specs.declared.Stepped.{Stepped}
-use Rattle.pass.specs.Steps.{listOf, Took, Room, Ran}
+use Rattle.pass.specs.inside.Steps.{listOf, Took, Room, Ran}
 
 -- ---- a record copied
 

@@ -11,30 +11,29 @@ use mathlib.Core.Option.{Option, none, some}
 use native.Mathlib.Omega.{arith}
 use lib.ListN.{length, getD}
 use borrow.Author.Tests.{eq-eqb, ne-eqb}
-use Rattle.rules.specs.Rules.{Rule, rule1, rule3, claimVote, lockVote}
+use Rattle.rules.specs.Rules.{Rule, rule1, rule3, claimVote, lockVote, Vote}
 use Rattle.rules.specs.Options.{isNone}
-use Rattle.quorum.specs.Sets.{isBlocking}
+use Rattle.quorum.specs.Quorums.{isBlocking}
 use Rattle.settings.specs.declared.Settings.{Settings}
 use Rattle.settings.specs.Settings.{delayOf}
 use Rattle.frame.specs.declared.Report.{Report}
 use Rattle.frame.specs.declared.Body.the-variants.{Plan, Empty, Told}
 use Rattle.frame.specs.declared.Frame.{Frame}
-use Rattle.frame.specs.Format.{fits}
-use Rattle.frame.specs.Refusal.{leaderOf}
+use Rattle.frame.specs.Valid.{fits}
+use Rattle.frame.specs.Refusal.{leaderOf, badPrevious}
 use Rattle.frame.proofs.Laws.{inside}
 use Rattle.entry.specs.declared.Entry.{Entry}
 use Rattle.entry.specs.declared.Entry.the-variants.{ForAll, ForOne, Timer, Decision}
 use Rattle.record.specs.Slots as slots
-use Rattle.record.specs.Slots.{rows, slotOf, withView}
-use Rattle.layout.specs.Layout.{decodeRecord, Holds}
-use Rattle.keeping.specs.Kept.{keepFrame}
-use Rattle.keeping.specs.Keeping.{ownBroadcast}
-use Rattle.rules.specs.Rules.{Vote}
-use Rattle.frame.specs.Refusal.{badPrevious}
+use Rattle.record.specs.Slots.{rows, slotOf}
+use Rattle.record.specs.inside.Slots.{withView}
+use Rattle.layout.specs.Layout.{decodeRecord}
+use Rattle.layout.specs.inside.Layout.{Holds}
+use Rattle.keeping.specs.inside.Kept.{keepFrame}
+use Rattle.keeping.specs.inside.Keeping.{ownBroadcast}
 use Rattle.protocol.specs.Sound.{InRow}
 use Rattle.protocol.specs.Record.{Record, spelt, kindOf, highest, leads, leader, changeOf, planNow, sentNow, reportFrame}
-use Rattle.protocol.specs.Pass.{Act, ask, enter, cast, decide, does, writes, suggestEntry, taken, Out, Step}
-use Rattle.protocol.specs.Pass.{asked, isNews, canEnter, mayPropose, chosen, approves, agreed, actVote, stepA, stepB, stepC, stepD, stepVote, stepH}
+use Rattle.protocol.specs.Pass.{Act, ask, enter, cast, decide, does, writes, suggestEntry, taken, Out, Step, asked, isNews, canEnter, mayPropose, chosen, approves, agreed, actVote, stepA, stepB, stepC, stepD, stepVote, stepH}
 use Rattle.agreement.proofs.Reports.{none≢some}
 use Rattle.protocol.proofs.May.{Lawful, Sure, done, and, sureA}
 use Rattle.protocol.proofs.Tables.{whenSome, keepWas}
@@ -42,18 +41,20 @@ use Rattle.protocol.proofs.Size.{actIs}
 use Rattle.protocol.proofs.Good.{voteKept, previousBelow}
 use Rattle.protocol.proofs.Slots.{Sendable, changeSendable}
 use Rattle.protocol.proofs.Sound.{Whole, idBelow, sizeBelow, rowsBy, actWhole}
-use Rattle.contents.specs.Contents.{contents, Clean, contentsIn, Ready}
+use Rattle.contents.specs.Contents.{contents, contentsIn}
+use Rattle.contents.specs.inside.Ready.{Ready}
+use Rattle.contents.specs.Lent.{Clean}
 use Rattle.contents.proofs.Parts.{decided, cleanDecide}
 use Rattle.contents.proofs.Acts.{contentsCast, cleanCast, contentsAsk, cleanAsk, tellsAt, enteredBy, contentsEnter, cleanEnter, contentsDecided}
 use Rattle.contents.proofs.Ready.{contentsHeld, readyAllowed, readyRow}
 use Rattle.acts.specs.declared.Act as acts
 use Rattle.acts.specs.declared.Act.the-variants.{Cast}
-use Rattle.acts.specs.Acts.{asAct, actAt}
+use Rattle.acts.specs.inside.Acts.{asAct, actAt}
 use Rattle.pass.specs.declared.Entries.{Entries}
 use Rattle.pass.specs.declared.Entries.the-variants.{Zero, One, Two, Three}
 use Rattle.pass.specs.declared.Stepped.{Stepped}
-use Rattle.pass.specs.Steps.{listOf, Votes, toldFor, Did, Took}
-use Rattle.pass.specs.Passes.{stepAt}
+use Rattle.pass.specs.inside.Steps.{listOf, Votes, toldFor, Did, Took}
+use Rattle.pass.specs.inside.Passes.{stepAt}
 
 -- ---- what an act does
 

@@ -14,13 +14,14 @@ ghost use lib.ListN.{length};
 ghost use Rattle.wire.specs.Placed.{placed};
 ghost use Rattle.entry.specs.Layout.{layout};
 ghost use Rattle.record.specs.Slots.{slotOf};
-ghost use Rattle.layout.specs.Layout.{recordSize, decodeRecord};
-ghost use Rattle.protocol.specs.Pass.{ask, enter, cast, decide, taken, pass};
-ghost use Rattle.protocol.specs.Pass.{actA, actB, actC, actD, actVote, actH, stepA, stepB, stepC, stepD, stepVote, stepH};
-ghost use Rattle.contents.specs.Contents.{contentsIn, Ready};
-ghost use Rattle.acts.specs.Acts.{asAct, actAt};
-ghost use Rattle.pass.specs.Steps.{listOf, Votes, toldFor, Did, Took, Room, Ran};
-ghost use Rattle.pass.specs.Passes.{stepAt, stepsFrom};
+ghost use Rattle.layout.specs.Layout.{decodeRecord};
+ghost use Rattle.layout.specs.Size.{recordSize};
+ghost use Rattle.protocol.specs.Pass.{ask, enter, cast, decide, taken, pass, actA, actB, actC, actD, actVote, actH, stepA, stepB, stepC, stepD, stepVote, stepH};
+ghost use Rattle.contents.specs.Contents.{contentsIn};
+ghost use Rattle.contents.specs.inside.Ready.{Ready};
+ghost use Rattle.acts.specs.inside.Acts.{asAct, actAt};
+ghost use Rattle.pass.specs.inside.Steps.{listOf, Votes, toldFor, Did, Took, Room, Ran};
+ghost use Rattle.pass.specs.inside.Passes.{stepAt, stepsFrom};
 
 // A record by value: its bytes.
 pub struct Record {

@@ -8,12 +8,13 @@ use mathlib.Core.Option.{some}
 use native.Mathlib.Omega.{arith}
 use lib.Dec.{eqb}
 use borrow.Author.Tests.{eqb-true}
-use Rattle.quorum.specs.Sets.{Mostly, Quorum}
+use Rattle.quorum.specs.inside.Mostly.{Mostly}
+use Rattle.quorum.specs.Quorums.{Quorum}
 use Rattle.quorum.proofs.Laws.{groupMap, quorumsMeet, quorumBlocks, blockingKeeper, countQuorum, mostlyEquals, totalEquals}
 use Rattle.rules.specs.Options.{holds}
 use Rattle.rules.proofs.Laws.{holdsWhere}
 use Rattle.settings.specs.declared.Settings.{Settings}
-use Rattle.settings.specs.Settings.{vaultsOf}
+use Rattle.settings.specs.Vaults.{vaultsOf}
 use Rattle.protocol.specs.Record.{Record, vaults, planNow}
 use Rattle.protocol.specs.Pass.{hasQuorum, agreed}
 use Rattle.protocol.specs.OnePlan.{AtMostOnePlan, AgreedIsThePlan}

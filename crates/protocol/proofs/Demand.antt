@@ -13,11 +13,12 @@ use native.Mathlib.Omega.{arith}
 use native.Mathlib.Nat.{mod-lt}
 use lib.Dec.{leb, eqb}
 use borrow.Author.Tests.{eqb-true, eqb-false}
-use Rattle.quorum.specs.Sets.{Vaults, weigh, total, Mostly}
+use Rattle.quorum.specs.Sets.{Vaults, weigh, total}
+use Rattle.quorum.specs.inside.Mostly.{Mostly}
 use Rattle.quorum.proofs.Bools.{which}
 use Rattle.quorum.proofs.Laws.{weighNone, weighRest}
 use Rattle.rules.specs.Rules.{rule1}
-use Rattle.agreement.specs.Law.{Exact, Reason, own, found, Lawful, Led, Locked}
+use Rattle.agreement.specs.inside.Law.{Exact, Reason, own, found, Lawful, Led, Locked}
 use Rattle.agreement.proofs.Agree.{locksAgree}
 use Rattle.agreement.proofs.Valid.{lockBegan}
 use Rattle.agreement.proofs.Reports.{none≢some}
@@ -27,13 +28,15 @@ use Rattle.frame.specs.Refusal.{first, linkRows, leaderOf}
 use Rattle.frame.proofs.Laws.{neither}
 use Rattle.entry.specs.declared.Entry.{Entry}
 use Rattle.entry.specs.declared.Entry.the-variants.{ForAll, ForOne}
-use Rattle.protocol.specs.Record.{Record, put}
+use Rattle.protocol.specs.Record.{Record}
+use Rattle.protocol.specs.Tables.{put, _∈_}
 use Rattle.settings.specs.declared.Settings.{Settings}
 use Rattle.protocol.specs.Pass.{Out}
-use Rattle.protocol.specs.Calls.{recordRows, timerRows, started, heard, rung, Readable, Call, start, frame, timer, short, Answer, refused, accepted, unless, answer}
+use Rattle.protocol.specs.Calls.{recordRows, timerRows, started, heard, rung, Call, start, frame, timer, short, Answer, refused, accepted, unless, answer}
+use Rattle.protocol.specs.Fed.{Readable}
 use Rattle.settings.specs.Settings.{settingRows}
-use Rattle.protocol.specs.Runs.{_∈_, Setting, Item, leftBy, wroteBy, recordAt, written, Sent, Fair, Run, nothingYet, andThen, Decides, Started, here, earlier}
-use Rattle.protocol.specs.Claim.{Demand3}
+use Rattle.protocol.specs.inside.Runs.{Setting, Item, leftBy, wroteBy, recordAt, written, Sent, Fair, Run, nothingYet, andThen, Decides, Started, here, earlier}
+use Rattle.protocol.specs.inside.Claim.{Demand3}
 use Rattle.protocol.proofs.Tables.{putOther, putOwn}
 use Rattle.protocol.proofs.Past.{Past, Voted, ExactNow, Fine, Ground}
 use Rattle.protocol.proofs.Past as Past′

@@ -12,12 +12,13 @@ use native.Mathlib.Omega.{arith}
 use native.Mathlib.Decide.{ℕ-discrete}
 use lib.Dec.{eqb}
 use borrow.Author.Tests.{eqb-true, eq-eqb}
-use Rattle.quorum.specs.Sets.{Vaults, Quorum}
+use Rattle.quorum.specs.Sets.{Vaults}
+use Rattle.quorum.specs.Quorums.{Quorum}
 use Rattle.quorum.proofs.Bools.{which, clash, either}
 use Rattle.quorum.proofs.Laws.{groupMap}
 use Rattle.rules.specs.Rules.{Vote, Report, Rule, rule1, rule3, claimVote, lockVote, Safe, Chosen}
 use Rattle.rules.specs.Rules as Rules
-use Rattle.agreement.specs.Law.{Other, Exact, From, Reason, own, found}
+use Rattle.agreement.specs.inside.Law.{Other, Exact, From, Reason, own, found}
 use Rattle.agreement.proofs.Reports.{none≢some}
 use Rattle.frame.specs.declared.Body.{Body}
 use Rattle.frame.specs.declared.Body.the-variants.{Plan, Empty, Told}
@@ -25,12 +26,13 @@ use Rattle.frame.specs.declared.Frame.{Frame}
 use Rattle.frame.specs.Refusal.{leaderOf}
 use Rattle.entry.specs.declared.Entry.{Entry}
 use Rattle.entry.specs.declared.Entry.the-variants.{ForAll, ForOne}
-use Rattle.protocol.specs.Record.{Record, put, each, reported, spelt, voteBy, reportBy, kindOf, keeping, vaults, leader, leads, voteOf, reportsOf, sentNow, tells, changeFrame, voteFrame, reportFrame}
+use Rattle.protocol.specs.Record.{Record, each, reported, spelt, voteBy, reportBy, kindOf, keeping, vaults, leader, leads, voteOf, reportsOf, sentNow, tells, changeFrame, voteFrame, reportFrame}
+use Rattle.protocol.specs.Tables.{put, _∈_}
 use Rattle.settings.specs.declared.Settings.{Settings}
-use Rattle.settings.specs.Settings.{vaultsOf}
+use Rattle.settings.specs.Vaults.{vaultsOf}
 use Rattle.protocol.specs.Pass.{Act, ask, enter, cast, decide, shift, hasPrevious, timerEntry, entered, does, suggestEntry, writes, actC, Out, taken}
 use Rattle.protocol.specs.Calls.{keep}
-use Rattle.protocol.specs.Runs.{_∈_, Setting}
+use Rattle.protocol.specs.inside.Runs.{Setting}
 use Rattle.protocol.proofs.Tables.{putSame, putOther, keepSame, keepOtherKind, keepOtherSender, keepWas, eachSome, whenSome}
 use Rattle.protocol.proofs.Past.{Past, Voted, Later, ExactNow, Fine, fineOn, Ground, groundOn, toldOn}
 use Rattle.protocol.proofs.Past as Past′

@@ -13,12 +13,15 @@ use Rattle.quorum.proofs.Bools.{which}
 use Rattle.agreement.proofs.Reports.{none≢some}
 use Rattle.frame.specs.declared.Reading.the-variants.{Accepted, Refused}
 use Rattle.entry.specs.declared.Entry.{Entry}
-use Rattle.entry.specs.Layout.{AllValid}
-use Rattle.protocol.specs.Record.{Record, put}
+use Rattle.entry.specs.Valid.{AllValid}
+use Rattle.protocol.specs.Record.{Record}
+use Rattle.protocol.specs.Tables.{put}
 use Rattle.protocol.specs.Pass.{Out}
-use Rattle.protocol.specs.Calls.{Readable, Call, start, frame, timer, short, Answer, refused, accepted, answer}
-use Rattle.protocol.specs.Sound.{Sound, Ranged, Fed, Proper}
-use Rattle.protocol.specs.Runs.{Setting, Item, recordAt, written, Fair, Run, nothingYet, andThen}
+use Rattle.protocol.specs.Calls.{Call, start, frame, timer, short, Answer, refused, accepted, answer}
+use Rattle.protocol.specs.Fed.{Readable, Fed}
+use Rattle.protocol.specs.inside.Sound.{Ranged, Proper}
+use Rattle.protocol.specs.Sound.{Sound}
+use Rattle.protocol.specs.inside.Runs.{Setting, Item, recordAt, written, Fair, Run, nothingYet, andThen}
 use Rattle.protocol.proofs.Demand.{Inv, invariant, pastRefused, recordAccepted, pastAccepted}
 use Rattle.protocol.proofs.Past.{Past}
 use Rattle.protocol.proofs.Good.{anySeed}

@@ -10,11 +10,11 @@ use mathlib.Core.Option.{Option, none, some}
 use native.Mathlib.Omega.{arith}
 use lib.Dec.{ltb, eqb}
 use borrow.Author.Tests.{ltb-true, eqb-true, not-true}
-use Rattle.quorum.specs.Sets.{isQuorum, isBlocking, Quorum}
+use Rattle.quorum.specs.Quorums.{isQuorum, isBlocking, Quorum}
 use Rattle.quorum.proofs.Bools.{bothSplit}
 use Rattle.quorum.proofs.Laws.{groupMap, countQuorum}
 use Rattle.rules.specs.Options.{isNone, holds}
-use Rattle.rules.specs.Counts.{safe}
+use Rattle.rules.specs.inside.Counts.{safe}
 use Rattle.rules.specs.Rules.{rule1, rule3, Safe, Chosen}
 use Rattle.rules.proofs.Laws.{holdsWhere, safeIff, choiceIs}
 use Rattle.agreement.proofs.Reports.{isNoneNone}

@@ -8,17 +8,18 @@ use mathlib.Core.Bool.{true}
 use mathlib.Core.List.{List}
 use mathlib.Core.Option.{Option, some}
 use native.Mathlib.Omega.{arith}
-use Rattle.quorum.specs.Sets.{Quorum}
+use Rattle.quorum.specs.Quorums.{Quorum}
 use Rattle.quorum.proofs.Laws.{groupMap}
 use Rattle.rules.specs.Rules.{Vote, Report, Rule, rule1, rule3, claimVote, lockVote}
-use Rattle.agreement.specs.Law.{History, Highest, Exact, Vouched, Reason, own, found, Locked}
+use Rattle.agreement.specs.inside.Law.{History, Highest, Exact, Vouched, Reason, own, found, Locked}
 use Rattle.frame.specs.declared.Body.the-variants.{Plan}
 use Rattle.frame.specs.declared.Frame.{Frame}
 use Rattle.frame.specs.Refusal.{leaderOf}
 use Rattle.entry.specs.declared.Entry.{Entry}
 use Rattle.entry.specs.declared.Entry.the-variants.{ForAll, ForOne, Timer, Decision}
 use Rattle.protocol.specs.Record.{reportBy, kindOf}
-use Rattle.protocol.specs.Runs.{_∈_, Setting}
+use Rattle.protocol.specs.Tables.{_∈_}
+use Rattle.protocol.specs.inside.Runs.{Setting}
 
 pub record Past : Type 0 where
   pub wrote : ℕ → List Entry

@@ -17,14 +17,16 @@ use Rattle.frame.specs.declared.Reading.the-variants.{Accepted, Refused}
 use Rattle.frame.specs.Refusal.{first, badPrevious, linkRows}
 use Rattle.frame.proofs.Laws.{neither}
 use Rattle.entry.specs.declared.Entry.{Entry}
-use Rattle.entry.specs.Layout.{AllValid}
+use Rattle.entry.specs.Valid.{AllValid}
 use Rattle.entry.proofs.Theorems.{entriesReadBack}
 use Rattle.protocol.specs.Record.{Record, each, spelt, voteBy, voteOf}
 use Rattle.settings.specs.declared.Settings.{Settings}
 use Rattle.protocol.specs.Pass.{Act, ask, does, writes, Out, Step, taken, pass, fromA}
-use Rattle.protocol.specs.Calls.{recordRows, timerRows, fresh, started, keep, heard, wanted, rung, Readable, Call, start, frame, timer, short, accepted, answer}
+use Rattle.protocol.specs.Calls.{recordRows, timerRows, fresh, started, keep, heard, wanted, rung, Call, start, frame, timer, short, accepted, answer}
+use Rattle.protocol.specs.Fed.{Readable, Fed}
 use Rattle.settings.specs.Settings.{settingRows}
-use Rattle.protocol.specs.Sound.{InRow, Sound, Ranged, Fed, AlwaysProper}
+use Rattle.protocol.specs.inside.Sound.{Ranged, AlwaysProper}
+use Rattle.protocol.specs.Sound.{InRow, Sound}
 use Rattle.protocol.proofs.Tables.{keepOtherSender}
 use Rattle.protocol.proofs.May.{Sure, done, and, sureC, sureA}
 use Rattle.protocol.proofs.Went.{noneGiven, unlessAccepted, wantedMay}

@@ -13,7 +13,7 @@ use Rattle.frame.specs.declared.Reading.the-variants.{Accepted}
 use Rattle.frame.specs.Format.{encode, decode}
 use Rattle.frame.specs.Refusal.{first, linkRows, readFrame}
 use Rattle.frame.proofs.Theorems.{passed, accepted-valid, readBack}
-use Rattle.protocol.specs.Calls.{Readable}
+use Rattle.protocol.specs.Fed.{Readable}
 use Rattle.protocol.proofs.Went.{noneGiven}
 
 senderSaid : (s : List ℕ) → getD s 1 0 ≡ (decode s) .sender

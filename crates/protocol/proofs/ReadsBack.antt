@@ -16,7 +16,8 @@ use Rattle.quorum.proofs.Bools.{which}
 use Rattle.rules.specs.Rules.{Rule, rule1, rule3}
 use Rattle.frame.specs.declared.Frame.{Frame}
 use Rattle.frame.specs.declared.Reading.the-variants.{Accepted, Refused}
-use Rattle.frame.specs.Format.{Valid, encode}
+use Rattle.frame.specs.Format.{encode}
+use Rattle.frame.specs.Valid.{Valid}
 use Rattle.frame.specs.Refusal.{first, leaderOf, misled, linkRows, contentRows, leaderRows, readFrame}
 use Rattle.entry.specs.declared.Entry.{Entry}
 use Rattle.entry.specs.declared.Entry.the-variants.{ForAll, ForOne, Timer, Decision}
@@ -24,11 +25,13 @@ use Rattle.settings.specs.declared.Settings.{Settings}
 use Rattle.settings.specs.Settings.{settingRows}
 use Rattle.protocol.specs.Record.{Record, leader, leads, changeFrame, voteFrame, reportFrame}
 use Rattle.protocol.specs.Pass.{Act, ask, enter, cast, decide, does, timerEntry, suggestEntry, writes, Out, Step, taken, onward, pass}
-use Rattle.protocol.specs.Calls.{recordRows, timerRows, fresh, started, keep, heard, wanted, rung, Readable}
-use Rattle.protocol.specs.Calls.{Call, start, frame, timer, short, accepted, answer}
-use Rattle.protocol.specs.Sound.{Sound, Ranged, Fed}
-use Rattle.protocol.specs.Runs.{_∈_}
-use Rattle.protocol.specs.ReadsBack.{IsFor, AlwaysReadsBack}
+use Rattle.protocol.specs.Calls.{recordRows, timerRows, fresh, started, keep, heard, wanted, rung, Call, start, frame, timer, short, accepted, answer}
+use Rattle.protocol.specs.Fed.{Readable, Fed}
+use Rattle.protocol.specs.inside.Sound.{Ranged}
+use Rattle.protocol.specs.Sound.{Sound}
+use Rattle.protocol.specs.Tables.{_∈_}
+use Rattle.protocol.specs.ReadsBack.{IsFor}
+use Rattle.protocol.specs.inside.ReadsBack.{AlwaysReadsBack}
 use Rattle.protocol.proofs.May.{May, Sure, done, and, sureC, sureA}
 use Rattle.protocol.proofs.Good.{doesSet}
 use Rattle.protocol.proofs.Went.{noneGiven, unlessAccepted, wantedMay}

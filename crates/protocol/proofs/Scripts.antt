@@ -24,7 +24,8 @@ use Rattle.entry.specs.declared.Entry.{Entry}
 use Rattle.entry.specs.declared.Entry.the-variants.{ForAll, ForOne, Timer, Decision}
 use Rattle.settings.specs.declared.Settings.{Settings}
 use Rattle.protocol.specs.Calls.{Call, start, frame, timer, short}
-use Rattle.protocol.specs.Runs.{_∈_, Setting, Item, written, Fair, Run, nothingYet, andThen}
+use Rattle.protocol.specs.Tables.{_∈_}
+use Rattle.protocol.specs.inside.Runs.{Setting, Item, written, Fair, Run, nothingYet, andThen}
 use Rattle.protocol.specs.ReadsBack.{IsFor}
 use Rattle.protocol.proofs.Read.{acceptedReadable}
 use Rattle.protocol.proofs.Lasting.{Brings, Wide}

@@ -15,10 +15,12 @@ use Rattle.quorum.specs.Sets.{Vaults}
 use Rattle.quorum.proofs.Bools.{which}
 use Rattle.frame.specs.declared.Frame.{Frame}
 use Rattle.entry.specs.declared.Entry.{Entry}
-use Rattle.protocol.specs.Record.{Record, put}
+use Rattle.protocol.specs.Record.{Record}
+use Rattle.protocol.specs.Tables.{put}
 use Rattle.protocol.specs.Pass.{Out}
-use Rattle.protocol.specs.Calls.{Readable, Answer, refused, accepted, answer}
-use Rattle.protocol.specs.Runs.{Setting, Item, recordAt, written, Run, nothingYet, andThen}
+use Rattle.protocol.specs.Calls.{Answer, refused, accepted, answer}
+use Rattle.protocol.specs.Fed.{Readable}
+use Rattle.protocol.specs.inside.Runs.{Setting, Item, recordAt, written, Run, nothingYet, andThen}
 use Rattle.protocol.specs.ReadsBack.{IsFor}
 use Rattle.protocol.proofs.Tables.{putSame}
 use Rattle.protocol.proofs.Past.{Past}

@@ -12,7 +12,7 @@ use native.Mathlib.Omega.{arith}
 use native.Mathlib.Decide.{ℕ-discrete}
 use lib.Dec.{leb, ltb, eqb}
 use borrow.Author.Tests.{eqb-true, eq-eqb, le-leb, lt-ltb, le-ltb, ltb-true, ltb-false}
-use Rattle.quorum.specs.Sets.{isQuorum, isBlocking}
+use Rattle.quorum.specs.Quorums.{isQuorum, isBlocking}
 use Rattle.quorum.proofs.Bools.{which, bothSplit, bothJoin}
 use Rattle.quorum.proofs.Laws.{enoughMono, blockingByWeight}
 use Rattle.rules.specs.Options.{isNone, holds}

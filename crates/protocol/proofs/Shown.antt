@@ -10,10 +10,11 @@ use mathlib.Core.List.{List, [], _∷_, _++_}
 use mathlib.Core.Option.{Option, none, some}
 use lib.Dec.{eqb}
 use Rattle.wire.specs.Digits.{numberAt, digits}
-use Rattle.quorum.specs.Sets.{Set, weigh, isQuorum, isBlocking}
-use Rattle.quorum.specs.Bools.{any}
+use Rattle.quorum.specs.Sets.{Set, weigh}
+use Rattle.quorum.specs.Quorums.{isQuorum, isBlocking}
+use Rattle.quorum.specs.inside.Bools.{any}
 use Rattle.rules.specs.Rules.{reach, claims, unlocked, allows}
-use Rattle.rules.specs.Counts.{claimed, free, allowed, twoSets, backed, safe, smallest, choice}
+use Rattle.rules.specs.inside.Counts.{claimed, free, allowed, twoSets, backed, safe, smallest, choice}
 use Rattle.frame.specs.declared.Body.the-variants.{Plan}
 use Rattle.frame.specs.declared.Frame.{Frame}
 use Rattle.frame.specs.Format.{within, lengthOf, encode, bodyAs, decode}
@@ -24,7 +25,7 @@ use Rattle.settings.specs.Settings.{delayOf}
 use Rattle.protocol.specs.Record.{Record, highest}
 use Rattle.protocol.specs.Pass.{does, writes, agreed, pass, stepA, stepB, stepC, stepD, stepVote, stepH}
 use Rattle.protocol.specs.Calls.{answer, started, keep, heard, rung}
-use Rattle.protocol.specs.Runs.{recordAt, written}
+use Rattle.protocol.specs.inside.Runs.{recordAt, written}
 use Rattle.protocol.proofs.Scripts.{Move, begin, hear, ring, lie, pick, calls, allFair}
 
 -- ---- moves

@@ -8,9 +8,9 @@ use mathlib.Core.List.{List, [], _∷_, _++_}
 use mathlib.Core.Option.{Option, none, some}
 use native.Mathlib.Omega.{arith}
 use lib.ListN.{length, length-append}
-use Rattle.quorum.specs.Sets.{isBlocking}
+use Rattle.quorum.specs.Quorums.{isBlocking}
 use Rattle.rules.specs.Options.{isNone}
-use Rattle.wire.specs.Fields.{widths, total}
+use Rattle.wire.specs.inside.Widths.{widths, total}
 use Rattle.wire.proofs.Laws.{length-spell}
 use Rattle.frame.specs.declared.Reading.the-variants.{Accepted, Refused}
 use Rattle.frame.specs.Format.{fieldsOf, encode}

@@ -18,12 +18,13 @@ use Rattle.frame.specs.declared.Report as Slot
 use Rattle.frame.specs.declared.Body.{Body}
 use Rattle.frame.specs.declared.Body.the-variants.{Plan, Empty, Told}
 use Rattle.frame.specs.declared.Frame.{Frame}
-use Rattle.frame.specs.Format.{within, headFields, reportFields, bodyFields, Valid}
+use Rattle.frame.specs.Format.{within, headFields, reportFields, bodyFields}
+use Rattle.frame.specs.Valid.{Valid}
 use Rattle.frame.specs.Refusal.{first, badForm, tooHigh, badPrevious, viewMissing, misled, reportRows, contentRows, leaderRows, leaderOf}
 use Rattle.frame.proofs.Laws.{neither}
 use Rattle.protocol.specs.Record.{reported, spelt, voteBy, reportBy, kindOf}
 use Rattle.protocol.specs.Pass.{shift}
-use Rattle.protocol.specs.Sound.{Fits}
+use Rattle.protocol.specs.inside.Sound.{Fits}
 
 -- ---- row 14 of spelt votes
 

@@ -12,24 +12,26 @@ use native.Mathlib.Omega.{arith}
 use native.Mathlib.Nat.{mod-lt}
 use lib.Dec.{ltb, eqb}
 use borrow.Author.Tests.{eqb-true, eqb-false, leb-false, ltb-false}
-use Rattle.quorum.specs.Sets.{Quorum}
+use Rattle.quorum.specs.Quorums.{Quorum}
 use Rattle.quorum.proofs.Bools.{which, clash, either}
 use Rattle.rules.specs.Options.{holds}
 use Rattle.rules.specs.Rules.{Vote, Report, Rule, rule1, rule3, claimVote, lockVote, Chosen}
 use Rattle.rules.specs.Rules as Rules
-use Rattle.rules.specs.Counts.{names}
+use Rattle.rules.specs.inside.Counts.{names}
 use Rattle.rules.proofs.Laws.{holdsWhere, safeNamed}
 use Rattle.agreement.proofs.Reports.{none≢some}
 use Rattle.frame.specs.declared.Frame.{Frame}
 use Rattle.frame.specs.Refusal.{first, leaderOf}
 use Rattle.frame.proofs.Laws.{neither}
-use Rattle.entry.specs.Layout.{AllValid}
+use Rattle.entry.specs.Valid.{AllValid}
 use Rattle.settings.specs.Settings.{settingRows, delayOf}
-use Rattle.protocol.specs.Record.{Record, put, kindOf, keeping, vaults, leader, leads, voteOf, reportsOf, sentNow, changeFrame, voteFrame, reportFrame}
+use Rattle.protocol.specs.Record.{Record, kindOf, keeping, vaults, leader, leads, voteOf, reportsOf, sentNow, changeFrame, voteFrame, reportFrame}
+use Rattle.protocol.specs.Tables.{put}
 use Rattle.settings.specs.declared.Settings.{Settings}
 use Rattle.protocol.specs.Pass.{Act, ask, enter, cast, decide, shift, hasPrevious, entered, does, suggestEntry, writes}
 use Rattle.protocol.specs.Calls.{start}
-use Rattle.protocol.specs.Sound.{InRow, Sound, Fits, Ranged}
+use Rattle.protocol.specs.inside.Sound.{Fits, Ranged}
+use Rattle.protocol.specs.Sound.{InRow, Sound}
 use Rattle.protocol.proofs.Tables.{keepWas, eachSome, whenSome}
 use Rattle.protocol.proofs.May.{Held, Reached, Wished, May, proposedChosen}
 use Rattle.protocol.proofs.Good.{voteByPlan, isCast, voteKept, voteCast, previousKept, previousCast, previousBelow}

@@ -15,7 +15,8 @@ use Rattle.rules.specs.Options.{holds}
 use Rattle.rules.proofs.Laws.{holdsWhere}
 use Rattle.agreement.proofs.Reports.{none≢some}
 use Rattle.frame.specs.declared.Frame.{Frame}
-use Rattle.protocol.specs.Record.{put, when, each, higher, highest, keeping}
+use Rattle.protocol.specs.Record.{when, each, higher, highest, keeping}
+use Rattle.protocol.specs.Tables.{put}
 
 -- ---- tables
 

@@ -10,13 +10,13 @@ use mathlib.Core.Option.{Option, none, some}
 use native.Mathlib.Omega.{arith}
 use lib.Dec.{leb, ltb, eqb}
 use borrow.Author.Tests.{eqb-true, eq-eqb, ltb-true, lt-ltb, leb-true, le-leb, not-true, not-false, eqb-false}
-use Rattle.quorum.specs.Bools.{any}
+use Rattle.quorum.specs.inside.Bools.{any}
 use Rattle.quorum.proofs.Bools.{which, clash, bothSplit, bothJoin, orLeft, orRight, either, anyWhere, noneAt}
 use Rattle.agreement.proofs.Reports.{none≢some}
 use Rattle.frame.specs.declared.Frame.{Frame}
 use Rattle.frame.specs.declared.Body.{Body}
 use Rattle.frame.specs.declared.Body.the-variants.{Plan, Empty, Told}
-use Rattle.frame.specs.Format.{fits, Valid}
+use Rattle.frame.specs.Valid.{fits, Valid}
 use Rattle.frame.proofs.Laws.{bounds}
 use Rattle.frame.specs.Refusal.{first, badPrevious, contentRows, leaderRows}
 use Rattle.protocol.specs.Record.{Record, spelt, voteOf}
@@ -24,7 +24,8 @@ use Rattle.protocol.specs.Pass.{hasPrevious}
 use Rattle.settings.specs.Settings.{settingRows}
 use Rattle.protocol.proofs.Good.{previousThird}
 use Rattle.protocol.proofs.Sound.{sizeBelow}
-use Rattle.protocol.specs.Sound.{InRow, Sound, every, ifAny, passesRow, previousStands, isSound, Tabled}
+use Rattle.protocol.specs.inside.Sound.{every, ifAny, passesRow, previousStands, isSound, Tabled}
+use Rattle.protocol.specs.Sound.{InRow, Sound}
 
 everyAt : (test : ℕ → Bool) (n i : ℕ) → every test n ≡ true → i < n → test i ≡ true
 everyAt test n i h low = not-false (test i) (noneAt (λ i. not (test i)) n i (not-true (any (λ i. not (test i)) n) h) low)

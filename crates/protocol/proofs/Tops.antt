@@ -11,7 +11,7 @@ use native.Mathlib.Omega.{arith}
 use lib.Dec.{eqb}
 use borrow.Author.Tests.{eqb-true, eqb-false}
 use Rattle.rules.specs.Rules.{Vote, Report, Rule, rule1, rule3, claimVote, lockVote}
-use Rattle.agreement.specs.Law.{Highest, Other, Exact}
+use Rattle.agreement.specs.inside.Law.{Highest, Other, Exact}
 use Rattle.agreement.proofs.Reports.{none≢some}
 use Rattle.protocol.specs.Pass.{shift, hasPrevious}
 

@@ -18,12 +18,14 @@ use Rattle.frame.specs.declared.Frame.{Frame}
 use Rattle.frame.specs.Refusal.{Row, row, first}
 use Rattle.frame.proofs.Laws.{neither}
 use Rattle.entry.specs.declared.Entry.{Entry}
-use Rattle.protocol.specs.Record.{Record, put, changeOf}
+use Rattle.protocol.specs.Record.{Record, changeOf}
+use Rattle.protocol.specs.Tables.{put, _∈_}
 use Rattle.settings.specs.declared.Settings.{Settings}
 use Rattle.protocol.specs.Pass.{Act, ask, timerEntry, does, Out, Step, taken, onward, pass, fromC, fromA}
 use Rattle.protocol.specs.Calls.{fresh, started, keep, heard, wantedFrom, wanted, rung, accepted, unless}
-use Rattle.settings.specs.Settings.{vaultsOf, settingRows}
-use Rattle.protocol.specs.Runs.{_∈_, Setting}
+use Rattle.settings.specs.Settings.{settingRows}
+use Rattle.settings.specs.Vaults.{vaultsOf}
+use Rattle.protocol.specs.inside.Runs.{Setting}
 use Rattle.protocol.proofs.Tables.{putSame, putAgain, putOwn}
 use Rattle.protocol.proofs.Past.{Past, Voted, Later, laterTrans, Fine}
 use Rattle.protocol.proofs.Past as Past′

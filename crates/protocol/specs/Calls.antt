@@ -2,7 +2,6 @@
 -- Rows 9 to 15 are in frame's table, and 1 and 3 are tests on bytes; the rest is here.
 -- Assumes nothing.
 use Prim.Native.Nat.{ℕ, zero, suc}
-use mathlib.Core.Path.{_≡_}
 use mathlib.Core.Bool.{Bool, cond, not}
 use mathlib.Core.List.{List, [], _∷_}
 use mathlib.Core.Option.{Option, none, some}
@@ -11,8 +10,7 @@ use Rattle.rules.specs.Options.{holds}
 use Rattle.frame.specs.declared.Frame.{Frame}
 use Rattle.frame.specs.declared.Reading.{Reading}
 use Rattle.frame.specs.declared.Reading.the-variants.{Accepted, Refused}
-use Rattle.frame.specs.Format.{Valid}
-use Rattle.frame.specs.Refusal.{Row, row, first, linkRows, contentRows, leaderRows}
+use Rattle.frame.specs.Refusal.{Row, row, first}
 use Rattle.settings.specs.Settings.{settingRows}
 use Rattle.protocol.specs.Record.{Record, changed, keeping, changeOf}
 use Rattle.settings.specs.declared.Settings.{Settings}
@@ -57,13 +55,6 @@ wanted r = wantedFrom (r .view) (changeOf r (r .set .id))
 -- 'An accepted timer broadcasts view-change .., then goes from A.'
 unfoldable pub rung : Record → Out
 rung r = onward (writes r (ask (wanted r))) (pass fromA (does r (ask (wanted r))))
-
--- What the frame reader of vault i of n accepts: a frame that has bytes, to which no row from 11 to 15 applies.
-pub record Readable (n i : ℕ) (x : Frame) : Type 0 where
-  pub valid : Valid x
-  pub link : first (linkRows (x .sender) (x .sender) n i) ≡ 0
-  pub content : first (contentRows x) ≡ 0
-  pub leader : first (leaderRows x n i) ≡ 0
 
 -- A call: start with settings and a plan; a frame call, with what the frame reader answers; a timer for a view; and any
 -- call with output space below 256 bytes.

@@ -2,9 +2,9 @@ pub mod Record
 pub mod Pass
 pub mod OnePlan
 pub mod Calls
-pub mod Example
-pub mod Sound
 pub mod Settled
-pub mod Runs
 pub mod ReadsBack
-pub mod Claim
+pub mod Fed
+pub mod Tables
+pub mod Sound
+pub mod inside

@@ -5,15 +5,17 @@ use mathlib.Core.Bool.{Bool, true, false, cond, not, _&&_, _||_}
 use mathlib.Core.List.{List, [], _∷_, _++_}
 use mathlib.Core.Option.{Option, none, some}
 use lib.Dec.{leb, ltb, eqb}
-use Rattle.quorum.specs.Sets.{Vaults, Set, isQuorum, isBlocking}
+use Rattle.quorum.specs.Sets.{Vaults, Set}
+use Rattle.quorum.specs.Quorums.{isQuorum, isBlocking}
 use Rattle.rules.specs.Options.{isNone, holds}
 use Rattle.rules.specs.Rules.{Vote, rule1, rule3}
-use Rattle.rules.specs.Counts.{safe, choice}
+use Rattle.rules.specs.inside.Counts.{safe, choice}
 use Rattle.frame.specs.declared.Frame.{Frame}
 use Rattle.entry.specs.declared.Entry.{Entry}
 use Rattle.entry.specs.declared.Entry.the-variants.{ForAll, ForOne, Timer, Decision}
 use Rattle.settings.specs.Settings.{delayOf}
-use Rattle.protocol.specs.Record.{Record, changed, put, when, each, highest, keeping, vaults, leader, leads, voteOf, changeOf, reportsOf, planNow, sentNow, changeFrame, voteFrame, reportFrame}
+use Rattle.protocol.specs.Record.{Record, changed, when, each, highest, keeping, vaults, leader, leads, voteOf, changeOf, reportsOf, planNow, sentNow, changeFrame, voteFrame, reportFrame}
+use Rattle.protocol.specs.Tables.{put}
 
 -- ---- what a step does, and writes
 

@@ -5,19 +5,14 @@ use Prim.Native.Nat.{ℕ, _<_}
 use mathlib.Core.Path.{_≡_}
 use mathlib.Core.Logic.{_≢_, _⊎_}
 use mathlib.Core.List.{List}
-use mathlib.Core.Option.{Option, some}
 use Rattle.frame.specs.declared.Frame.{Frame}
 use Rattle.frame.specs.declared.Reading.the-variants.{Accepted}
 use Rattle.frame.specs.Format.{encode}
 use Rattle.frame.specs.Refusal.{readFrame}
 use Rattle.entry.specs.declared.Entry.{Entry}
 use Rattle.entry.specs.declared.Entry.the-variants.{ForAll, ForOne}
-use Rattle.protocol.specs.Record.{Record}
 use Rattle.settings.specs.declared.Settings.{Settings}
-use Rattle.protocol.specs.Pass.{Out}
-use Rattle.protocol.specs.Calls.{Call, accepted, answer}
-use Rattle.protocol.specs.Sound.{Sound, Ranged, Fed}
-use Rattle.protocol.specs.Runs.{_∈_}
+use Rattle.protocol.specs.Tables.{_∈_}
 
 -- 'in an entry for all or for this vault': frame x, for vault j.
 abbrev pub IsFor : ℕ → Frame → List Entry → Type 0
@@ -26,8 +21,3 @@ IsFor j x es = (ForAll x ∈ es) ⊎ (ForOne j x ∈ es)
 -- 'ff all vaults, else a vault's number': every other vault j below n that a frame is for reads it as that frame, with the own number as link.
 abbrev pub ReadBy : Settings → List Entry → Type 0
 ReadBy s es = (j : ℕ) (x : Frame) → j < s .n → j ≢ s .id → IsFor j x es → readFrame (encode x) (s .id) (s .n) j ≡ Accepted x
-
--- Of every accepted call on a blank record or a sound one. Proved as `callReadsBack` in proofs/ReadsBack.
-abbrev pub AlwaysReadsBack : Type 0
-AlwaysReadsBack = (b : Option Record) (a : Call) → ((r : Record) → b ≡ some r → Sound r × Ranged r) → Fed b a
-    → (o : Out) → answer b a ≡ accepted o → ReadBy (o .left .set) (o .wrote)

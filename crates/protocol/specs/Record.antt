@@ -1,7 +1,7 @@
 -- What a vault keeps, by contents (document 01, 'What a vault keeps'), and what it reads off that.
 -- Assumes nothing.
 use Prim.Native.Nat.{ℕ, zero, suc}
-use mathlib.Core.Bool.{Bool, true, false, cond, not, _&&_}
+use mathlib.Core.Bool.{Bool, true, false, cond, not}
 use mathlib.Core.Option.{Option, none, some}
 use lib.Dec.{ltb, eqb}
 use Rattle.quorum.specs.Sets.{Vaults}
@@ -14,7 +14,8 @@ use Rattle.frame.specs.declared.Body.the-variants.{Plan, Empty, Told}
 use Rattle.frame.specs.declared.Frame.{Frame}
 use Rattle.frame.specs.Refusal.{leaderOf}
 use Rattle.settings.specs.declared.Settings.{Settings}
-use Rattle.settings.specs.Settings.{vaultsOf}
+use Rattle.settings.specs.Vaults.{vaultsOf}
+use Rattle.protocol.specs.Tables.{put₂}
 
 -- 'For each sender and kind it keeps one frame': kept k j is that of kind k from sender j.
 -- 'its own previous vote-1 and vote-2': previous 1 and previous 2.
@@ -30,15 +31,7 @@ pub record Record : Type 0 where
 abbrev pub changed : Record → ℕ → (ℕ → ℕ → Option Frame) → (ℕ → Option Vote) → Option Vote → Record
 changed r v t q d = record { set = r .set; start = r .start; view = v; kept = t; previous = q; decision = d }
 
--- ---- tables, and what may be missing
-
--- A table with one entry changed.
-abbrev pub put {ℓ} : {A : Type ℓ} → ℕ → A → (ℕ → A) → ℕ → A
-put k x t j = cond (eqb k j) x (t j)
-
--- The same for a table of two arguments.
-abbrev pub put₂ {ℓ} : {A : Type ℓ} → ℕ → ℕ → A → (ℕ → ℕ → A) → ℕ → ℕ → A
-put₂ k i x t h j = cond (eqb k h && eqb i j) x (t h j)
+-- ---- what may be missing
 
 -- The option, where the test passes.
 abbrev pub when : {A : Type 0} → Bool → Option A → Option A

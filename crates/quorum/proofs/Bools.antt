@@ -7,7 +7,7 @@ use mathlib.Core.Bool.{Bool, true, false, _&&_, _||_, false≢true}
 use mathlib.Core.Logic.{_⊎_, inl, inr}
 use native.Mathlib.Omega.{arith}
 use native.Mathlib.Decide.{decLt}
-use Rattle.quorum.specs.Bools.{any}
+use Rattle.quorum.specs.inside.Bools.{any}
 
 pub which : (b : Bool) → (b ≡ true) ⊎ (b ≡ false)
 which true = inl refl

@@ -12,7 +12,9 @@ use native.Mathlib.Numerals.{add-one}
 use native.Mathlib.Decide.{decLe}
 use lib.Dec.{leb}
 use borrow.Author.Tests.{leb-true, le-leb, not-true, not-false}
-use Rattle.quorum.specs.Sets.{Vaults, equals, Set, weigh, size, total, isQuorum, isBlocking, Group, Quorum, Blocking, Mostly}
+use Rattle.quorum.specs.Sets.{Vaults, equals, Set, weigh, size, total}
+use Rattle.quorum.specs.Quorums.{isQuorum, isBlocking, Group, Quorum, Blocking}
+use Rattle.quorum.specs.inside.Mostly.{Mostly}
 use Rattle.quorum.proofs.Bools.{clash, notTrue, sameTest, bothSplit}
 
 -- ---- what a set weighs

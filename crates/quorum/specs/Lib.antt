@@ -1,2 +1,3 @@
-pub mod Bools
 pub mod Sets
+pub mod Quorums
+pub mod inside

@@ -1,9 +1,7 @@
 -- A record by slots. Everything that has a mark, a view and a plan is a slot: where each stands, what it holds, and the record with
 -- one of them changed. How the slots lie in bytes is crate layout's.
 -- Assumes nothing.
-use Prim.Native.Nat.{ℕ, _+_, _-_, _*_, _%_, _≤_, _<_}
-use mathlib.Core.Bool.{cond}
-use lib.Dec.{eqb}
+use Prim.Native.Nat.{ℕ, _+_, _-_, _*_, _%_}
 use Rattle.frame.specs.declared.Report.{Report}
 use Rattle.settings.specs.declared.Settings.{Settings}
 
@@ -52,12 +50,6 @@ reportSlot kind which sender = firstReport + (kind - 7) * reportRows + which * r
 abbrev pub previousSlot : ℕ → ℕ
 previousSlot kind = firstPrevious + (kind - 2)
 
--- "For each sender and kind": a kind, and a sender that a record has a row for.
-pub record Place (kind sender : ℕ) : Type 0 where
-  pub low : 1 ≤ kind
-  pub high : kind ≤ kinds
-  pub row : sender < rows
-
 -- ---- what
 
 -- "Absent means all 13 bytes zero": a slot that holds nothing.
@@ -74,19 +66,3 @@ pub record Record : Type 0 where
 -- What stands at a slot of a record.
 abbrev pub slotOf : Record → ℕ → Report
 slotOf r at = r .slots at
-
--- Slots of which one has another content.
-unfoldable pub slotPut : (ℕ → Report) → ℕ → Report → ℕ → Report
-slotPut slots at slot i = cond (eqb at i) slot (slots i)
-
--- The record with another content in one slot.
-abbrev pub withSlot : Record → ℕ → Report → Record
-withSlot r at slot = record { set = r .set; view = r .view; plan = r .plan; slots = slotPut (r .slots) at slot }
-
--- The record at another current view.
-abbrev pub withView : Record → ℕ → Record
-withView r view = record { set = r .set; view = view; plan = r .plan; slots = r .slots }
-
--- "it enters view 0 with .. no kept frames and no reports"
-unfoldable pub fresh : Settings → ℕ → Record
-fresh set plan = record { set = set; view = 0; plan = plan; slots = λ i. emptySlot }

@@ -1,8 +1,8 @@
 // Export of the record for the tests outside: what lent bytes are.
 use sound::Lent;
 ghost use mathlib.Core.Path.{_≡_};
-ghost use Rattle.sound.specs.Sound.{lentIs};
-ghost use Rattle.record_c.specs.Class.{classNumber};
+ghost use Rattle.sound.specs.inside.Sound.{lentIs};
+ghost use Rattle.record_c.specs.inside.Class.{classNumber};
 
 // What lent bytes are: 0 a blank record, 1 a sound one, 2 neither.
 #[no_mangle]

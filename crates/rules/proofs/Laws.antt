@@ -13,13 +13,14 @@ use native.Mathlib.Omega.{arith}
 use native.Mathlib.Decide.{ℕ-discrete}
 use lib.Dec.{ltb, eqb}
 use borrow.Author.Tests.{ltb-true, lt-ltb, le-ltb, eqb-true, eqb-false, eq-eqb, ne-eqb, not-true}
-use Rattle.quorum.specs.Bools.{any}
-use Rattle.quorum.specs.Sets.{Vaults, Set, isBlocking, Quorum, Blocking}
+use Rattle.quorum.specs.inside.Bools.{any}
+use Rattle.quorum.specs.Sets.{Vaults, Set}
+use Rattle.quorum.specs.Quorums.{isBlocking, Quorum, Blocking}
 use Rattle.quorum.proofs.Bools.{which, clash, notTrue, bothSplit, bothJoin, orLeft, orRight, either, anyAt, anyWhere}
 use Rattle.quorum.proofs.Laws.{ByWeight, blockingByWeight, enoughMono, groupMap, countQuorum, countBlocking}
 use Rattle.rules.specs.Options.{holds}
 use Rattle.rules.specs.Rules.{Vote, Report, Reports, Rule, rule1, rule3, claims, unlocked, allows, reporting, Claimed, TwoSets, Backed, Safe, atStart, noLock, since, IsSmallest, Chosen, own, other}
-use Rattle.rules.specs.Counts.{claimed, free, allowed, planOr, planBy, votedPlan, twoClaimed, twoSets, backed, safe, names, namedPlan, smaller, smallest, choice}
+use Rattle.rules.specs.inside.Counts.{claimed, free, allowed, planOr, planBy, votedPlan, twoClaimed, twoSets, backed, safe, names, namedPlan, smaller, smallest, choice}
 use Rattle.rules.specs.Sentences.{CountingIsTheRule, ChoiceIsTheRule}
 use Rattle.rules.proofs.Single.{claimsFall, claimsUnnamed, allowsUnnamed, namesSplit}
 

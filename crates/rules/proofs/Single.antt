@@ -14,8 +14,8 @@ use borrow.Author.Tests.{leb-true, le-leb, eqb-true, eq-eqb, ne-eqb}
 use Rattle.quorum.proofs.Bools.{which, clash, notTrue, bothSplit, bothJoin, orLeft, orRight, either}
 use Rattle.rules.specs.Options.{isNone, holds}
 use Rattle.rules.specs.Rules.{Vote, Report, viewOf, viewFor, reach, claims, fits, allows}
-use Rattle.rules.specs.Counts.{names}
-use Rattle.rules.specs.Views.{under}
+use Rattle.rules.specs.inside.Counts.{names}
+use Rattle.rules.specs.inside.Views.{under}
 use Rattle.rules.specs.Sentences.{Says, always, forIt, forAny, ClaimIsSaid}
 
 -- A vote is there, or its view counts as 0.

@@ -11,14 +11,15 @@ use native.Mathlib.Omega.{arith}
 use native.Mathlib.Decide.{ℕ-discrete, decLt, decLe}
 use lib.Dec.{leb, ltb, eqb}
 use borrow.Author.Tests.{ltb-true, le-leb, lt-leb, lt-ltb, le-ltb, eqb-true, not-true}
-use Rattle.quorum.specs.Bools.{any}
-use Rattle.quorum.specs.Sets.{Vaults, weigh, isQuorum}
+use Rattle.quorum.specs.inside.Bools.{any}
+use Rattle.quorum.specs.Sets.{Vaults, weigh}
+use Rattle.quorum.specs.Quorums.{isQuorum}
 use Rattle.quorum.proofs.Bools.{which, clash, notTrue, sameTest, bothSplit, bothJoin, orLeft, orRight, either, anyAt, anyWhere}
 use Rattle.quorum.proofs.Laws.{quorumByWeight, enoughMono, weighMost}
 use Rattle.rules.specs.Rules.{Report, Reports, Rule, rule1, rule3, viewOf, allows, reporting, TwoSets}
 use Rattle.rules.specs.Options.{holds}
-use Rattle.rules.specs.Counts.{claimed, free, allowed, twoSets, backed, safe}
-use Rattle.rules.specs.Views.{views, under, cleared, lockSpan, lowestView, Lowest}
+use Rattle.rules.specs.inside.Counts.{claimed, free, allowed, twoSets, backed, safe}
+use Rattle.rules.specs.inside.Views.{views, under, cleared, lockSpan, lowestView, Lowest}
 use Rattle.rules.proofs.Single.{allowsUnder, underAllows, underRises}
 use Rattle.rules.proofs.Laws.{enoughReports, claimedIff, claimedFalls, twoIff}
 

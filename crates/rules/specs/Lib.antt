@@ -1,5 +1,4 @@
-pub mod Counts
 pub mod Options
 pub mod Rules
 pub mod Sentences
-pub mod Views
+pub mod inside

@@ -8,7 +8,7 @@ use mathlib.Core.Bool.{true}
 use mathlib.Core.Option.{Option, some}
 use Rattle.quorum.specs.Sets.{Vaults}
 use Rattle.rules.specs.Rules.{Vote, Report, Reports, Rule, claims, Safe, Chosen}
-use Rattle.rules.specs.Counts.{safe, choice}
+use Rattle.rules.specs.inside.Counts.{safe, choice}
 
 -- 'A reporter claims p at v' if v' is 0, or its highest vote is for p at v' or later, or its previous vote is at v' or later (Rules 2 and 4).'
 pub data Says (r : Report) (p u : ℕ) : Type 0 where

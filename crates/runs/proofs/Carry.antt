@@ -18,22 +18,26 @@ use Rattle.frame.specs.declared.Reading.{Reading}
 use Rattle.frame.specs.declared.Reading.the-variants.{Accepted, Refused}
 use Rattle.frame.specs.Refusal.{readFrame}
 use Rattle.entry.specs.declared.Entry.{Entry}
-use Rattle.entry.specs.Layout.{layout, AllValid, entriesOf}
+use Rattle.entry.specs.Layout.{layout}
+use Rattle.entry.specs.Valid.{AllValid}
+use Rattle.entry.specs.Reading.{entriesOf}
 use Rattle.entry.proofs.Theorems.{entriesReadBack}
 use Rattle.layout.specs.Layout.{decodeRecord}
-use Rattle.sound.specs.Sound.{lentIs}
+use Rattle.sound.specs.inside.Sound.{lentIs}
 use Rattle.protocol.specs.Record.{Record}
 use Rattle.protocol.specs.Pass.{Out}
 use Rattle.protocol.specs.Calls as by
-use Rattle.protocol.specs.Calls.{Readable, Answer, refused, accepted, answer}
-use Rattle.protocol.specs.Sound.{Fed}
+use Rattle.protocol.specs.Calls.{Answer, refused, accepted, answer}
+use Rattle.protocol.specs.Fed.{Readable, Fed}
 use Rattle.protocol.proofs.Read.{acceptedReadable}
 use Rattle.protocol.proofs.Proper.{callProper}
 use Rattle.contents.specs.Contents.{contents}
-use Rattle.contents.specs.Calls.{Left, gave, after, onLent, called, startLeft, frameLeft, timerLeft}
+use Rattle.contents.specs.Calls.{after, onLent, called, startLeft, frameLeft, timerLeft}
+use Rattle.contents.specs.Left.{Left, gave}
 use Rattle.contents.specs.Spelling.{Holds, Spells}
 use Rattle.contents.proofs.Spelling.{Fine, callFine, fineSpells, onSpelled, calledRoom}
-use Rattle.runs.specs.Runs.{Call, start, frame, timer, InWidth, leaves, recordIn, entriesIn}
+use Rattle.runs.specs.Runs.{Call, start, frame, timer, InWidth, recordIn, entriesIn}
+use Rattle.runs.specs.Fixed.{leaves}
 
 -- ---- the call that bytes say
 

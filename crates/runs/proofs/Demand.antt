@@ -16,34 +16,37 @@ use Rattle.agreement.proofs.Reports.{none≢some}
 use Rattle.frame.specs.declared.Frame.{Frame}
 use Rattle.frame.specs.declared.Reading.{Reading}
 use Rattle.frame.specs.declared.Reading.the-variants.{Accepted, Refused}
-use Rattle.frame.specs.Format.{Valid, decode}
+use Rattle.frame.specs.Format.{decode}
+use Rattle.frame.specs.Valid.{Valid}
 use Rattle.frame.specs.Refusal.{readFrame}
 use Rattle.frame.proofs.Theorems.{passed, decode-encode}
 use Rattle.entry.specs.declared.Entry.{Entry}
 use Rattle.entry.specs.declared.Entry.the-variants.{ForAll, ForOne, Decision}
-use Rattle.entry.specs.Layout.{ValidEntry, AllValid}
+use Rattle.entry.specs.Valid.{ValidEntry, AllValid}
 use Rattle.layout.specs.Layout.{decodeRecord}
 use Rattle.sound.specs.declared.Lent.the-variants.{Unsound}
-use Rattle.sound.specs.Sound.{lentIs}
-use Rattle.protocol.specs.Record.{Record, put}
+use Rattle.sound.specs.inside.Sound.{lentIs}
+use Rattle.protocol.specs.Record.{Record}
+use Rattle.protocol.specs.Tables.{put, _∈_}
 use Rattle.settings.specs.declared.Settings.{Settings}
-use Rattle.settings.specs.Settings.{vaultsOf}
+use Rattle.settings.specs.Vaults.{vaultsOf}
 use Rattle.protocol.specs.Pass.{Out}
 use Rattle.protocol.specs.Calls as by
-use Rattle.protocol.specs.Calls.{Readable, Answer, refused, accepted, answer}
-use Rattle.protocol.specs.Sound.{Fed}
-use Rattle.protocol.specs.Runs as model
-use Rattle.protocol.specs.Runs.{_∈_}
-use Rattle.protocol.specs.Claim as whole
+use Rattle.protocol.specs.Calls.{Answer, refused, accepted, answer}
+use Rattle.protocol.specs.Fed.{Readable, Fed}
+use Rattle.protocol.specs.inside.Runs as model
+use Rattle.protocol.specs.inside.Claim as whole
 use Rattle.protocol.proofs.Read.{acceptedReadable}
 use Rattle.protocol.proofs.Demand as protocol
-use Rattle.contents.specs.Calls.{Left, gave, after}
+use Rattle.contents.specs.Calls.{after}
+use Rattle.contents.specs.Left.{Left, gave}
 use Rattle.contents.specs.Spelling.{Spells}
 use Rattle.contents.proofs.Stays.{From, callSet}
 use Rattle.contents.proofs.Spelling.{Fine}
-use Rattle.runs.specs.Runs.{Call, start, frame, timer, InWidth, leaves, Rules, Fixed, Item, recordIn, entriesIn, isAccepted, Setting, recordAt, written, Sent, Fair, Run, nothingYet, andThen, Decides, Started, here, earlier}
+use Rattle.runs.specs.Runs.{Call, start, frame, timer, InWidth, Rules, Item, recordIn, entriesIn, isAccepted, Setting, recordAt, written, Sent, Fair, Run, nothingYet, andThen, Decides, Started, here, earlier}
+use Rattle.runs.specs.Fixed.{leaves, Fixed}
 use Rattle.runs.specs.Claim.{Demand3}
-use Rattle.runs.proofs.Blank.{blankIsLent}
+use Rattle.contents.proofs.Lent.{blankIsLent}
 use Rattle.runs.proofs.Carry.{said, carried, fedSaid, LeftWell, leftWell}
 
 -- ---- lists of entries, and tables

@@ -17,24 +17,28 @@ use Rattle.wire.specs.Fields.{Bytes}
 use Rattle.wire.specs.Placed.{placed}
 use Rattle.wire.proofs.Output.{length-placed}
 use Rattle.entry.specs.declared.Entry.{Entry}
-use Rattle.entry.specs.Layout.{layout, AllValid, entriesOf}
+use Rattle.entry.specs.Layout.{layout}
+use Rattle.entry.specs.Valid.{AllValid}
+use Rattle.entry.specs.Reading.{entriesOf}
 use Rattle.settings.specs.declared.Settings.{Settings}
 use Rattle.layout.specs.Layout.{decodeRecord}
 use Rattle.sound.specs.declared.Lent.{Lent}
 use Rattle.sound.specs.declared.Lent.the-variants.{Blank, Unsound, Sound}
-use Rattle.sound.specs.Sound.{lentIs}
+use Rattle.sound.specs.inside.Sound.{lentIs}
 use Rattle.protocol.specs.Record.{Record}
 use Rattle.protocol.specs.Pass.{Out}
 use Rattle.protocol.specs.Calls as by
 use Rattle.protocol.specs.Calls.{accepted, answer}
-use Rattle.protocol.specs.Sound.{Fed}
+use Rattle.protocol.specs.Fed.{Fed}
 use Rattle.protocol.specs.ReadsBack.{ReadBy}
 use Rattle.protocol.proofs.ReadsBack as protocol
 use Rattle.contents.specs.Contents.{contents}
-use Rattle.contents.specs.Calls.{gave, after, onLent, called, startLeft, frameLeft, timerLeft}
+use Rattle.contents.specs.Calls.{after, onLent, called, startLeft, frameLeft, timerLeft}
+use Rattle.contents.specs.Left.{gave}
 use Rattle.contents.specs.Spelling.{Spells}
 use Rattle.contents.proofs.Spelling.{Fine, spelledFine}
-use Rattle.runs.specs.Runs.{Call, start, frame, timer, InWidth, leaves, recordIn, entriesIn}
+use Rattle.runs.specs.Runs.{Call, start, frame, timer, InWidth, recordIn, entriesIn}
+use Rattle.runs.specs.Fixed.{leaves}
 use Rattle.runs.specs.Left.{Kept, LeavesWell, AlwaysLeavesWell, ReadsBack, AlwaysReadsBack}
 use Rattle.runs.proofs.Carry.{said, carried, fedSaid, LeftWell, leftWell}
 

@@ -1,4 +1,3 @@
-pub mod Blank
 pub mod Carry
 pub mod Demand
 pub mod Left

@@ -14,11 +14,10 @@ use Rattle.frame.specs.declared.Frame.{Frame}
 use Rattle.entry.specs.declared.Entry.{Entry}
 use Rattle.entry.specs.declared.Entry.the-variants.{Decision}
 use Rattle.protocol.specs.Record.{Record}
-use Rattle.protocol.specs.Runs as model
-use Rattle.protocol.specs.Runs.{_∈_}
+use Rattle.protocol.specs.inside.Runs as model
+use Rattle.protocol.specs.Tables.{_∈_}
 use Rattle.protocol.proofs.Scripts.{Move, pickIn, calls, allFair, ofFour, scriptRuns}
-use Rattle.protocol.proofs.Shown.{everyone, wrote, keptIn, plain, plainFair, plainDecides}
-use Rattle.protocol.proofs.Shown.{butOne, lied, liedFair, liedKept, liedDecides, later, laterFair, laterDecides}
+use Rattle.protocol.proofs.Shown.{everyone, wrote, keptIn, plain, plainFair, plainDecides, butOne, lied, liedFair, liedKept, liedDecides, later, laterFair, laterDecides}
 use Rattle.contents.specs.Spelling.{Spells}
 use Rattle.runs.specs.Runs.{recordAt}
 use Rattle.runs.specs.Shown.{Shown, DecidesIn, KeepsFrame, voteOf3, AllDecide, OneLies, LaterDecide}

@@ -21,18 +21,19 @@ use Rattle.protocol.specs.Record.{Record}
 use Rattle.protocol.specs.Pass.{Out}
 use Rattle.protocol.specs.Calls as by
 use Rattle.protocol.specs.Calls.{Answer, refused, accepted, answer}
-use Rattle.protocol.specs.Runs as model
+use Rattle.protocol.specs.inside.Runs as model
 use Rattle.protocol.specs.ReadsBack.{IsFor}
 use Rattle.protocol.proofs.Read.{readableAccepted}
 use Rattle.protocol.proofs.Good.{anySeed}
 use Rattle.protocol.proofs.Demand.{Inv, invariant, pastRefused}
 use Rattle.protocol.proofs.Lasting.{Brings, Wide, feeds}
-use Rattle.contents.specs.Calls.{Left, after}
+use Rattle.contents.specs.Calls.{after}
+use Rattle.contents.specs.Left.{Left}
 use Rattle.contents.specs.Spelling.{Spells}
 use Rattle.contents.proofs.Spelling.{Fine, losesNothing}
-use Rattle.runs.specs.Runs.{Call, start, frame, timer, InWidth, leaves, Fixed, Item, recordIn, entriesIn}
-use Rattle.runs.specs.Runs.{Setting, recordAt, written, Fair, Run, nothingYet, andThen}
-use Rattle.runs.proofs.Blank.{blankIsLent}
+use Rattle.runs.specs.Runs.{Call, start, frame, timer, InWidth, Item, recordIn, entriesIn, Setting, recordAt, written, Fair, Run, nothingYet, andThen}
+use Rattle.runs.specs.Fixed.{leaves, Fixed}
+use Rattle.contents.proofs.Lent.{blankIsLent}
 use Rattle.runs.proofs.Carry.{said, leavesRoom, saidFrame, LeftWell, leftWell}
 use Rattle.runs.proofs.Demand.{putFour, never}
 

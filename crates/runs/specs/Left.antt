@@ -2,17 +2,19 @@
 -- Assumes nothing.
 use Prim.Native.Nat.{ℕ, _≤_}
 use mathlib.Core.Path.{_≡_}
-use mathlib.Core.Logic.{_↔_}
 use mathlib.Core.List.{List}
 use lib.ListN.{length, take, drop}
 use Rattle.wire.specs.Fields.{Bytes}
-use Rattle.entry.specs.Layout.{layout, AllValid, entriesOf}
+use Rattle.entry.specs.Layout.{layout}
+use Rattle.entry.specs.Valid.{AllValid}
+use Rattle.entry.specs.Reading.{entriesOf}
 use Rattle.layout.specs.Layout.{decodeRecord}
-use Rattle.sound.specs.declared.Lent.the-variants.{Blank, Sound}
-use Rattle.sound.specs.Sound.{lentIs}
+use Rattle.sound.specs.declared.Lent.the-variants.{Sound}
+use Rattle.sound.specs.inside.Sound.{lentIs}
 use Rattle.protocol.specs.ReadsBack.{ReadBy}
-use Rattle.contents.specs.Calls.{Left, wrote, gave}
-use Rattle.runs.specs.Runs.{Call, InWidth, leaves, IsBlank}
+use Rattle.contents.specs.Left.{Left, wrote, gave}
+use Rattle.runs.specs.Runs.{Call, InWidth}
+use Rattle.runs.specs.Fixed.{leaves}
 
 -- After an accepted call: a sound record, that refusal 3 never meets; written bytes that are entries end to end and nothing besides; and the rest of the
 -- output as it was.
@@ -42,7 +44,3 @@ ReadsBack (gave number rec′ out′) = Unit {0}
 -- Proved as `callReadsBack` in proofs/Left.
 abbrev pub AlwaysReadsBack : Type 0
 AlwaysReadsBack = (rec out : List ℕ) (a : Call) → Bytes rec → InWidth a → ReadsBack (leaves rec a out)
-
--- 'It is blank when its n is 0': the blank records of a run are those that the calls take for blank. Proved as `blankIsLent` in proofs/Blank.
-abbrev pub BlankIsLent : Type 0
-BlankIsLent = (s : List ℕ) → IsBlank s ↔ (lentIs s ≡ Blank)

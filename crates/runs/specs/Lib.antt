@@ -2,3 +2,4 @@ pub mod Runs
 pub mod Claim
 pub mod Left
 pub mod Shown
+pub mod Fixed

@@ -13,13 +13,12 @@ use Rattle.frame.specs.declared.Frame.{Frame}
 use Rattle.frame.specs.Format.{encode}
 use Rattle.entry.specs.declared.Entry.{Entry}
 use Rattle.entry.specs.declared.Entry.the-variants.{ForAll, ForOne, Decision}
-use Rattle.entry.specs.Layout.{entriesOf}
+use Rattle.entry.specs.Reading.{entriesOf}
 use Rattle.settings.specs.declared.Settings.{Settings}
-use Rattle.settings.specs.Settings.{vaultsOf}
-use Rattle.layout.specs.Layout.{recordSize}
-use Rattle.protocol.specs.Record.{put}
-use Rattle.protocol.specs.Runs.{_∈_}
-use Rattle.contents.specs.Calls.{Left, wrote, gave, startLeft, frameLeft, timerLeft}
+use Rattle.settings.specs.Vaults.{vaultsOf}
+use Rattle.layout.specs.Size.{recordSize}
+use Rattle.protocol.specs.Tables.{put, _∈_}
+use Rattle.contents.specs.Left.{Left, wrote, gave}
 
 -- A start brings settings and a plan; a frame call a link's sender and bytes; a timer a view.
 pub data Call : Type 0 where
@@ -33,18 +32,9 @@ InWidth (start set plan) = plan < 2 ^ 64
 InWidth (frame link bytes) = Bytes bytes
 InWidth (timer view) = Unit {0}
 
--- What a call at a record leaves, down to each byte, 'as this paper fixes': crate contents' definitions.
-abbrev pub leaves : List ℕ → Call → List ℕ → Left
-leaves rec (start set plan) out = startLeft rec set plan out
-leaves rec (frame link bytes) out = frameLeft rec link bytes out
-leaves rec (timer view) out = timerLeft rec view out
-
 -- Which calls keep the rules: record before, call, output space before, and what is left. By the paper it is just this one.
 abbrev pub Rules : Type 1
 Rules = List ℕ → Call → List ℕ → Left → Type 0
-
-abbrev pub Fixed : Rules
-Fixed rec a out left = left ≡ leaves rec a out
 
 -- 'Each item is one start, frame or timer call at one of them, accepted or refused, with output space of any size and contents',
 -- and what it leaves.
@@ -78,7 +68,7 @@ abbrev pub Sent : List Item → ℕ → ℕ → List ℕ → Type 0
 Sent l i link bytes = (x : Frame) × (bytes ≡ encode x) × ((ForAll x ∈ written l link) ⊎ (ForOne i x ∈ written l link))
 
 -- 'A lent record of the wrong length .. is .. not blank. Otherwise it is blank when its n is 0': n is the first byte. The calls' contracts
--- say the same of it (`BlankIsLent` in specs/Left).
+-- say the same of it (`LentIsSaid` in crates/contents/specs/Lent).
 abbrev pub IsBlank : List ℕ → Type 0
 IsBlank s = (length s ≡ recordSize) × (getD s 0 0 ≡ 0)
 

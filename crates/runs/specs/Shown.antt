@@ -10,9 +10,10 @@ use Rattle.quorum.specs.Sets.{Set, equals}
 use Rattle.frame.specs.declared.Body.the-variants.{Plan}
 use Rattle.frame.specs.declared.Frame.{Frame}
 use Rattle.entry.specs.declared.Entry.the-variants.{Decision}
-use Rattle.protocol.specs.Runs.{_∈_}
+use Rattle.protocol.specs.Tables.{_∈_}
 use Rattle.contents.specs.Contents.{contentsIn}
-use Rattle.runs.specs.Runs.{Fixed, Item, Setting, recordAt, written, Run}
+use Rattle.runs.specs.Runs.{Item, Setting, recordAt, written, Run}
+use Rattle.runs.specs.Fixed.{Fixed}
 
 -- A run of four vaults of which one may break the rules: n = 4, f = 1. Those of the set keep them, 'as this paper fixes'.
 pub record Shown (keeps : Set) : Type 0 where

@@ -13,17 +13,18 @@ use native.Mathlib.Decide.{ℕ-discrete}
 use lib.Dec.{leb, ltb, eqb}
 use lib.ListN.{getD}
 use borrow.Author.Tests.{le-leb, lt-leb, leb-true, eqb-true, eqb-false, eq-eqb, ne-eqb, not-true}
-use Rattle.quorum.specs.Sets.{Vaults, equals, isQuorum}
+use Rattle.quorum.specs.Sets.{Vaults, equals}
+use Rattle.quorum.specs.Quorums.{isQuorum}
 use Rattle.quorum.proofs.Bools.{which, clash, notTrue, bothSplit, either}
 use Rattle.quorum.proofs.Laws.{blockingRest, quorumByWeight}
 use Rattle.rules.specs.Options.{isNone, holds}
 use Rattle.rules.specs.Rules.{Vote, Report, Reports, viewOf, fits, allows, unlocked, reporting}
-use Rattle.rules.specs.Counts.{free, allowed, planOr, planBy}
-use Rattle.rules.specs.Views.{under, cleared, lockSpan, lowestView, Lowest}
+use Rattle.rules.specs.inside.Counts.{free, allowed, planOr, planBy}
+use Rattle.rules.specs.inside.Views.{under, cleared, lockSpan, lowestView, Lowest}
 use Rattle.rules.proofs.Single.{underRises}
 use Rattle.rules.proofs.Laws.{enoughReports}
 use Rattle.rules.proofs.Views.{Falls, viewsIff, clearedSpans}
-use Rattle.claims.specs.Spans.{AreSpans, coveredViews}
+use Rattle.claims.specs.inside.Spans.{AreSpans, coveredViews}
 use Rattle.claims.specs.Table.{column, voteOf, reporter, reportsIn}
 use Rattle.claims.proofs.Rows.{viewIn}
 use Rattle.claims.proofs.Spans.{spansReach}

@@ -1,10 +1,8 @@
--- What the search finds on the way: a plan that passes a test, and the smallest safe plan so far.
+-- The rule that a call asks for, and the plan of its answer.
 -- Assumes nothing.
 use Prim.Native.Nat.{ℕ}
-use mathlib.Core.Path.{_≡_}
-use mathlib.Core.Bool.{Bool, true, false, not}
+use mathlib.Core.Bool.{Bool, true, false}
 use mathlib.Core.Option.{Option, none, some}
-use lib.Dec.{ltb, eqb}
 use Rattle.rules.specs.Rules.{Rule, rule1, rule3}
 use Rattle.safe.specs.declared.Choice.{Choice}
 use Rattle.safe.specs.declared.Choice.the-variants.{Plan, Nothing}
@@ -18,18 +16,3 @@ ruleOf false = rule1
 abbrev pub chosen : Choice → Option ℕ
 chosen (Plan p) = some p
 chosen Nothing = none
-
--- Plan x is not the one that is left out, if any.
-abbrev pub apart : ℕ → Option ℕ → Bool
-apart x none = true
-apart x (some m) = not (eqb x m)
-
--- The plan found passes the test; where none is found, none does.
-abbrev pub Found : (ℕ → Bool) → Option ℕ → Type 0
-Found test none = (x : ℕ) → test x ≡ false
-Found test (some x) = test x ≡ true
-
--- Plan x is smaller than the one found so far, if any.
-abbrev pub better : ℕ → Option ℕ → Bool
-better x none = true
-better x (some y) = ltb x y

@@ -9,16 +9,17 @@ ghost use mathlib.Core.Bool.{cond, not, true, false, _&&_};
 ghost use mathlib.Core.Option.{none};
 ghost use lib.ListN.{length, getD};
 ghost use Rattle.quorum.specs.Sets.{equals};
-ghost use Rattle.settings.specs.Settings.{vaultsOf};
+ghost use Rattle.settings.specs.Vaults.{vaultsOf};
 ghost use Rattle.rules.specs.Options.{isNone};
 ghost use Rattle.rules.specs.Rules.{reporting, unlocked, allows, rule1, rule3};
-ghost use Rattle.rules.specs.Counts.{free, twoSets, safe, smaller, choice};
-ghost use Rattle.rules.specs.Views.{lockSpan, lowestView, Lowest};
-ghost use Rattle.claims.specs.Rows.{rowsSize, Stance, Tells, SameBelow, claimedIn, endOf};
-ghost use Rattle.claims.specs.Spans.{AreSpans};
+ghost use Rattle.rules.specs.inside.Counts.{free, twoSets, safe, smaller, choice};
+ghost use Rattle.rules.specs.inside.Views.{lockSpan, lowestView, Lowest};
+ghost use Rattle.claims.specs.inside.Rows.{rowsSize, Stance, Tells, SameBelow, claimedIn, endOf};
+ghost use Rattle.claims.specs.inside.Spans.{AreSpans};
 ghost use Rattle.claims.specs.Table.{column, tableSize, reportsIn};
-ghost use Rattle.safe.specs.Choices.{ruleOf, chosen, better, apart, Found};
-ghost use Rattle.safe.specs.Searches.{lockRow, allowedIn, servedFrom, safeIn, passesIn, triedAt, triedCount, smallestFrom, smallestOf, Pair, Falling, Laid, Prepared};
+ghost use Rattle.safe.specs.Choices.{ruleOf, chosen};
+ghost use Rattle.safe.specs.inside.Choices.{better, apart, Found};
+ghost use Rattle.safe.specs.inside.Searches.{lockRow, allowedIn, servedFrom, safeIn, passesIn, triedAt, triedCount, smallestFrom, smallestOf, Pair, Falling, Laid, Prepared};
 
 // Where the row of locks begins, and the places of all rows.
 const LOCKS: usize = 2 * claims::COLUMN;

@@ -11,10 +11,10 @@ use lib.ListN.{length}
 use borrow.Author.Tests.{leb-true, ltb-true, eqb-true, lt-ltb, le-ltb}
 use Rattle.quorum.specs.Sets.{equals}
 use Rattle.quorum.proofs.Bools.{bothSplit}
-use Rattle.rules.specs.Counts.{safe, choice}
+use Rattle.rules.specs.inside.Counts.{safe, choice}
 use Rattle.claims.specs.Table.{column, tableSize, reportsIn}
 use Rattle.safe.specs.Choices.{ruleOf}
-use Rattle.safe_c.specs.Answers.{laid, safePlan, answered, choosePlan}
+use Rattle.safe_c.specs.inside.Answers.{laid, safePlan, answered, choosePlan}
 
 module _ (table : List ℕ) (n f : ℕ) where
   -- n and f of the settings.

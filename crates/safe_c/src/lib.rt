@@ -3,7 +3,7 @@ use safe::Choice;
 use settings::Settings;
 ghost use Prim.Native.Nat.{_≤_, _<_};
 ghost use mathlib.Core.Path.{_≡_};
-ghost use Rattle.safe_c.specs.Answers.{laid, safePlan, choosePlan};
+ghost use Rattle.safe_c.specs.inside.Answers.{laid, safePlan, choosePlan};
 
 // Whether the table has its size, n is at most 64, and f is below n.
 fn is_laid<'a>(table: &'a [u64], n: u8, f: u8) -> bool

@@ -11,7 +11,8 @@ use lib.Dec.{leb, ltb, eqb}
 use Rattle.frame.specs.Refusal.{row, first}
 use Rattle.frame.proofs.Laws.{none, neither}
 use Rattle.settings.specs.declared.Settings.{Settings}
-use Rattle.settings.specs.Settings.{settingRows, Allowed}
+use Rattle.settings.specs.Settings.{settingRows}
+use Rattle.settings.specs.inside.Allowed.{Allowed}
 
 pub allowed : (s : Settings) → first (settingRows s) ≡ 0 → Allowed s
 allowed s e =

@@ -1,17 +1,12 @@
 -- The settings of a vault: when they are refused, and the delay of the link class.
 -- Assumes nothing.
-use Prim.Native.Nat.{ℕ, _*_, _≤_, _<_}
+use Prim.Native.Nat.{ℕ, _*_}
 use mathlib.Core.Bool.{_||_}
 use mathlib.Core.List.{List, [], _∷_}
 use lib.ListN.{getD}
 use lib.Dec.{leb, ltb, eqb}
-use Rattle.quorum.specs.Sets.{Vaults, equals}
 use Rattle.frame.specs.Refusal.{Row, row}
 use Rattle.settings.specs.declared.Settings.{Settings}
-
--- "n is 4 to 64; f is at least 1": the vaults that the settings speak of, each of weight 1.
-abbrev pub vaultsOf : Settings → Vaults
-vaultsOf s = equals (s .n) (s .f)
 
 -- "n below 4 or above 64"; "f is 0 or 3f ≥ n"; "id ≥ n"; "class above 7"
 abbrev pub settingRows : Settings → List Row
@@ -29,12 +24,3 @@ delays = 20 ∷ 50 ∷ 100 ∷ 200 ∷ 500 ∷ 1000 ∷ 2000 ∷ 5000 ∷ []
 -- The delay of a class; 0 where there is no such class.
 unfoldable pub delayOf : ℕ → ℕ
 delayOf class = getD delays class 0
-
--- Settings that pass 5 to 8: "n is 4 to 64; f is at least 1 with 3f below n"; "id, 0 to n - 1"; "The link class, 0 to 7".
-pub record Allowed (s : Settings) : Type 0 where
-  pub least : 4 ≤ s .n
-  pub most : s .n ≤ 64
-  pub liars : 1 ≤ s .f
-  pub third : 3 * s .f < s .n
-  pub own : s .id < s .n
-  pub link : s .class ≤ 7

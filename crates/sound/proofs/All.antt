@@ -14,7 +14,7 @@ use lib.Dec.{eqb}
 use lib.ListN.{getD}
 use Rattle.wire.specs.Digits.{numberAt}
 use Rattle.frame.proofs.Laws.{both}
-use Rattle.sound.specs.Sound.{all}
+use Rattle.sound.specs.inside.Sound.{all}
 
 andAssoc : (a b c : Bool) → ((a && b) && c) ≡ (a && (b && c))
 andAssoc true b c = refl

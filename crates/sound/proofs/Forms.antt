@@ -18,8 +18,8 @@ use Rattle.record.specs.Slots.{frameSlot}
 use Rattle.keeping.specs.Kept.{reportsIn, frameIn}
 use Rattle.keeping.proofs.Forms.{bodyPlan, bodyBare, bodyReports}
 use Rattle.sound.specs.declared.Head.{Head}
-use Rattle.sound.specs.Sound.{noPlan, ahead, frameSound, placeSound}
-use Rattle.sound.specs.Bulk.{Marked, planFrame, bareFrame, toldFrame, reportFits}
+use Rattle.sound.specs.inside.Sound.{noPlan, ahead, frameSound, placeSound}
+use Rattle.sound.specs.inside.Bulk.{Marked, planFrame, bareFrame, toldFrame, reportFits}
 use Rattle.sound.proofs.Laws.{place-plan, place-frame, formed-other}
 use Rattle.sound.proofs.All.{andTrue, andFalse}
 

@@ -17,10 +17,10 @@ use Rattle.frame.specs.Refusal.{first, absent, badForm, badPrevious, contentRow
 use Rattle.settings.specs.declared.Settings.{Settings}
 use Rattle.settings.specs.Settings.{settingRows}
 use Rattle.record.specs.Slots.{frameSlot, reportSlot, decisionSlot}
-use Rattle.layout.specs.Layout.{recordSize, decodeRecord}
+use Rattle.layout.specs.Layout.{decodeRecord}
+use Rattle.layout.specs.Size.{recordSize}
 use Rattle.keeping.specs.Kept.{frameIn}
-use Rattle.sound.specs.Sound.{all, reportsAbsent, emptyAt, noPlan, ahead, frameSound, placeSound}
-use Rattle.sound.specs.Sound.{stands, previousSound, votesSound, rowsSound, soundIn, sound, lentIs}
+use Rattle.sound.specs.inside.Sound.{all, reportsAbsent, emptyAt, noPlan, ahead, frameSound, placeSound, stands, previousSound, votesSound, rowsSound, soundIn, sound, lentIs}
 use Rattle.sound.specs.declared.Lent.the-variants.{Blank, Unsound, Sound}
 
 -- ---- flags

@@ -10,12 +10,14 @@ use lib.Dec.{eqb, ltb}
 use lib.ListN.{length, getD, take, drop, length-drop}
 use lib.Seq.{length-take-le}
 use Rattle.frame.specs.Refusal.{absent}
-use Rattle.record.specs.Slots.{rows, slotCount, frameSlot, reportSlot, slotOf, Place}
-use Rattle.layout.specs.Layout.{slotSize, recordSize, place, slotIn, decodeRecord}
+use Rattle.record.specs.Slots.{rows, slotCount, frameSlot, reportSlot, slotOf}
+use Rattle.record.specs.inside.Slots.{Place}
+use Rattle.layout.specs.Layout.{slotSize, place, slotIn, decodeRecord}
+use Rattle.layout.specs.Size.{recordSize}
 use Rattle.layout.proofs.Bytes.{bytePart}
 use Rattle.layout.proofs.Laws.{placeShared, placeBlock, slotThere}
-use Rattle.sound.specs.Sound.{all}
-use Rattle.sound.specs.Bulk.{groupSize, zeroIn, zeroFrom, absentFrom, Run}
+use Rattle.sound.specs.inside.Sound.{all}
+use Rattle.sound.specs.inside.Bulk.{groupSize, zeroIn, zeroFrom, absentFrom, Run}
 use Rattle.sound.proofs.All.{allSame, allSplit, allPieces, numberZero}
 
 -- ---- places

@@ -12,8 +12,8 @@ use Rattle.frame.proofs.Laws.{both}
 use Rattle.settings.specs.declared.Settings.{Settings}
 use Rattle.record.specs.Slots.{rows, frameSlot, reportSlot}
 use Rattle.keeping.specs.Kept.{frameIn}
-use Rattle.sound.specs.Sound.{all, reportsAbsent, emptyAt, noPlan, placeSound, kindSound}
-use Rattle.sound.specs.Bulk.{absentFrom, toldAbsent, emptyFrom}
+use Rattle.sound.specs.inside.Sound.{all, reportsAbsent, emptyAt, noPlan, placeSound, kindSound}
+use Rattle.sound.specs.inside.Bulk.{absentFrom, toldAbsent, emptyFrom}
 use Rattle.sound.proofs.Laws.{place-empty, place-plan, place-frame, empty-frame, frame-row}
 use Rattle.sound.proofs.All.{allSame, allBoth, allSplit, allAt, andTrue, andFalse}
 

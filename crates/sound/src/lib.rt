@@ -9,11 +9,13 @@ ghost use lib.ListN.{length};
 ghost use lib.Dec.{eqb, ltb};
 ghost use Rattle.frame.specs.Format.{within, threeReports};
 ghost use Rattle.frame.specs.Refusal.{first, absent, badForm, badPrevious, reportRows};
-ghost use Rattle.record.specs.Slots.{rows, slotCount, frameSlot, reportSlot, slotOf, Place};
-ghost use Rattle.layout.specs.Layout.{slotSize, recordSize, place, slotIn, decodeRecord};
+ghost use Rattle.record.specs.Slots.{rows, slotCount, frameSlot, reportSlot, slotOf};
+ghost use Rattle.record.specs.inside.Slots.{Place};
+ghost use Rattle.layout.specs.Layout.{slotSize, place, slotIn, decodeRecord};
+ghost use Rattle.layout.specs.Size.{recordSize};
 ghost use Rattle.keeping.specs.Kept.{reportsIn};
-ghost use Rattle.sound.specs.Sound.{all, reportsAbsent, emptyAt, frameSound, placeSound, kindSound, rowsSound, stands, previousSound, votesSound, soundIn, lentIs};
-ghost use Rattle.sound.specs.Bulk.{groupSize, zeroIn, absentFrom, toldAbsent, emptyFrom, Run, Marked, PlanSound, toldFrame, reportFits};
+ghost use Rattle.sound.specs.inside.Sound.{all, reportsAbsent, emptyAt, frameSound, placeSound, kindSound, rowsSound, stands, previousSound, votesSound, soundIn, lentIs};
+ghost use Rattle.sound.specs.inside.Bulk.{groupSize, zeroIn, absentFrom, toldAbsent, emptyFrom, Run, Marked, PlanSound, toldFrame, reportFits};
 
 // What lent bytes are.
 pub enum Lent {

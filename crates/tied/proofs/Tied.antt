@@ -11,8 +11,9 @@ use Rattle.vault.proofs.timer.Statement as ofTimer
 use Rattle.vault.proofs.start.Met as ownStart
 use Rattle.vault.proofs.frame.Met as ownFrame
 use Rattle.vault.proofs.timer.Met as ownTimer
-use Rattle.contents.specs.Calls.{Left, wrote, gave}
-use Rattle.runs.specs.Runs.{Call, start, frame, timer, leaves}
+use Rattle.contents.specs.Left.{Left, wrote, gave}
+use Rattle.runs.specs.Runs.{Call, start, frame, timer}
+use Rattle.runs.specs.Fixed.{leaves}
 use Rattle.runs.specs.Claim.{Demand3}
 use Rattle.runs.proofs.Demand.{demand3By}
 use Rattle.tied.specs.Tied.{Contract, byStart, byFrame, byTimer}

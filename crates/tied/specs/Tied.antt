@@ -10,7 +10,7 @@ use Rattle.vault.specs.Answers.{leftBy}
 use Rattle.vault.proofs.start.Reads as ofStart
 use Rattle.vault.proofs.frame.Reads as ofFrame
 use Rattle.vault.proofs.timer.Reads as ofTimer
-use Rattle.contents.specs.Calls.{Left}
+use Rattle.contents.specs.Left.{Left}
 use Rattle.runs.specs.Runs.{Call, start, frame, timer}
 
 -- Record r and output space o are lent, and have the bytes rec′ and out′ when the call is back.

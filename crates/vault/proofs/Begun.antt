@@ -15,21 +15,25 @@ use Rattle.entry.specs.Layout.{entryBytes}
 use Rattle.settings.specs.declared.Settings.{Settings}
 use Rattle.settings.specs.Settings.{settingRows}
 use Rattle.record.specs.Slots as slots
-use Rattle.record.specs.Slots.{fresh}
-use Rattle.layout.specs.Layout.{recordSize, decodeRecord, Holds}
+use Rattle.record.specs.inside.Slots.{fresh}
+use Rattle.layout.specs.Layout.{decodeRecord}
+use Rattle.layout.specs.Size.{recordSize}
+use Rattle.layout.specs.inside.Layout.{Holds}
 use Rattle.sound.specs.declared.Lent.the-variants.{Blank, Unsound, Sound}
-use Rattle.sound.specs.Sound.{sound, lentIs}
+use Rattle.sound.specs.inside.Sound.{sound, lentIs}
 use Rattle.sound.proofs.Laws.{lent-length, lent-blank, lent-other}
 use Rattle.protocol.specs.Pass.{Out, pass, fromC, timerEntry}
 use Rattle.protocol.specs.Calls as calls
 use Rattle.protocol.specs.Calls.{started, start, unless, accepted, answer}
 use Rattle.protocol.proofs.Sound.{Whole}
 use Rattle.protocol.proofs.Proper.{freshWhole}
-use Rattle.contents.specs.Contents.{contentsIn, Ready}
-use Rattle.contents.specs.Calls.{gave, after, startLeft}
+use Rattle.contents.specs.Contents.{contentsIn}
+use Rattle.contents.specs.inside.Ready.{Ready}
+use Rattle.contents.specs.Calls.{after, startLeft}
+use Rattle.contents.specs.Left.{gave}
 use Rattle.contents.proofs.Parts.{contentsFresh, cleanFresh}
 use Rattle.contents.proofs.Ready.{contentsHeld, readyAs}
-use Rattle.pass.specs.Steps.{Room, Ran}
+use Rattle.pass.specs.inside.Steps.{Room, Ran}
 use Rattle.pass.proofs.Runs.{roomNext, ranJoin}
 use Rattle.vault.proofs.Laws.{acceptedRoom, refusedBy, acceptedBy, calledShort, calledLent}
 

@@ -17,32 +17,40 @@ use Rattle.wire.specs.Fields.{Bytes}
 use Rattle.frame.specs.declared.Frame.{Frame}
 use Rattle.frame.specs.declared.Reading.{Reading}
 use Rattle.frame.specs.declared.Reading.the-variants.{Accepted, Refused}
-use Rattle.frame.specs.Format.{fits}
-use Rattle.frame.specs.Refusal.{first, present, linkRows, readFrame, refusalOf}
+use Rattle.frame.specs.Valid.{fits}
+use Rattle.frame.specs.Refusal.{first, present, linkRows, readFrame}
+use Rattle.frame.specs.inside.Reading.{refusalOf}
 use Rattle.frame.proofs.Laws.{neither}
 use Rattle.settings.specs.declared.Settings.{Settings}
 use Rattle.record.specs.Slots as slots
-use Rattle.record.specs.Slots.{rows, frameSlot, slotOf, Place}
-use Rattle.layout.specs.Layout.{recordSize, decodeRecord, Holds}
-use Rattle.keeping.specs.Kept.{frameIn, keptIn, keepFrame}
-use Rattle.keeping.specs.Keeping.{stale, outdone, keepRows}
+use Rattle.record.specs.Slots.{rows, frameSlot, slotOf}
+use Rattle.record.specs.inside.Slots.{Place}
+use Rattle.layout.specs.Layout.{decodeRecord}
+use Rattle.layout.specs.Size.{recordSize}
+use Rattle.layout.specs.inside.Layout.{Holds}
+use Rattle.keeping.specs.Kept.{frameIn, keptIn}
+use Rattle.keeping.specs.inside.Kept.{keepFrame}
+use Rattle.keeping.specs.inside.Keeping.{stale, outdone, keepRows}
 use Rattle.keeping.proofs.Forms.{fitsKind}
 use Rattle.sound.specs.declared.Lent.the-variants.{Sound}
-use Rattle.sound.specs.Sound.{lentIs}
+use Rattle.sound.specs.inside.Sound.{lentIs}
 use Rattle.protocol.specs.Record.{Record}
 use Rattle.protocol.specs.Pass.{pass, fromA}
-use Rattle.protocol.specs.Calls.{recordRows, keep, heard, Readable, frame, unless, accepted, answer}
+use Rattle.protocol.specs.Calls.{recordRows, keep, heard, frame, unless, accepted, answer}
+use Rattle.protocol.specs.Fed.{Readable}
 use Rattle.protocol.proofs.Sound.{Whole}
 use Rattle.protocol.proofs.Went.{noneGiven}
 use Rattle.protocol.proofs.Proper.{heardWhole}
 use Rattle.protocol.proofs.Read.{acceptedReadable}
-use Rattle.contents.specs.Contents.{contents, contentsIn, Ready}
-use Rattle.contents.specs.Calls.{gave, after, frameLeft}
+use Rattle.contents.specs.Contents.{contents, contentsIn}
+use Rattle.contents.specs.inside.Ready.{Ready}
+use Rattle.contents.specs.Calls.{after, frameLeft}
+use Rattle.contents.specs.Left.{gave}
 use Rattle.contents.proofs.Kept.{contentsKeep}
 use Rattle.contents.proofs.Clean.{keptAt, cleanKeep}
 use Rattle.contents.proofs.Ready.{contentsHeld, readyAs, readyAllowed, readyLent}
-use Rattle.pass.specs.Steps.{Room, Ran}
-use Rattle.vault.specs.Answers.{wayIn, Read, readLeft}
+use Rattle.pass.specs.inside.Steps.{Room, Ran}
+use Rattle.vault.specs.inside.Answers.{wayIn, Read, readLeft}
 use Rattle.vault.proofs.Laws.{acceptedRoom, refusedBy, acceptedBy, calledLent, wayRefused}
 
 -- ---- rows 16 and 17

@@ -15,16 +15,17 @@ use Rattle.entry.specs.Layout.{layout}
 use Rattle.layout.specs.Layout.{encodeRecord, decodeRecord}
 use Rattle.sound.specs.declared.Lent.{Lent}
 use Rattle.sound.specs.declared.Lent.the-variants.{Blank, Unsound, Sound}
-use Rattle.sound.specs.Sound.{lentIs}
+use Rattle.sound.specs.inside.Sound.{lentIs}
 use Rattle.protocol.specs.Record.{Record}
 use Rattle.protocol.specs.Pass.{Out}
 use Rattle.protocol.specs.Calls.{Call, unless, refused, accepted, answer}
 use Rattle.protocol.proofs.Size.{outputShort}
 use Rattle.contents.specs.Contents.{contents, slotted}
-use Rattle.contents.specs.Calls.{wrote, gave, after, onLent, called}
+use Rattle.contents.specs.Calls.{after, onLent, called}
+use Rattle.contents.specs.Left.{wrote, gave}
 use Rattle.contents.proofs.Ready.{readySpells}
-use Rattle.pass.specs.Steps.{Room, Ran}
-use Rattle.vault.specs.Answers.{byLent, wayIn}
+use Rattle.pass.specs.inside.Steps.{Room, Ran}
+use Rattle.vault.specs.inside.Answers.{byLent, wayIn}
 
 -- ---- the accepted call
 

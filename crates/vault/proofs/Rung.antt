@@ -19,19 +19,21 @@ use Rattle.record.specs.Slots.{rows, frameSlot, slotOf}
 use Rattle.layout.specs.Layout.{decodeRecord}
 use Rattle.keeping.specs.Kept.{keptIn, frameIn}
 use Rattle.sound.specs.declared.Lent.the-variants.{Sound}
-use Rattle.sound.specs.Sound.{lentIs}
+use Rattle.sound.specs.inside.Sound.{lentIs}
 use Rattle.protocol.specs.Record.{Record, each, changeOf}
 use Rattle.protocol.specs.Pass.{Out, ask, taken, pass, fromA}
 use Rattle.protocol.specs.Calls.{timerRows, wantedFrom, wanted, rung, timer, accepted, unless, answer}
 use Rattle.protocol.proofs.Good.{doesSet}
 use Rattle.protocol.proofs.Went.{noneGiven, wantedMay}
-use Rattle.contents.specs.Contents.{contents, contentsIn, Ready}
-use Rattle.contents.specs.Calls.{gave, after, timerLeft}
+use Rattle.contents.specs.Contents.{contents, contentsIn}
+use Rattle.contents.specs.inside.Ready.{Ready}
+use Rattle.contents.specs.Calls.{after, timerLeft}
+use Rattle.contents.specs.Left.{gave}
 use Rattle.contents.proofs.Clean.{keptAt}
 use Rattle.contents.proofs.Ready.{readyRow}
-use Rattle.pass.specs.Steps.{Room, Ran}
+use Rattle.pass.specs.inside.Steps.{Room, Ran}
 use Rattle.pass.proofs.Runs.{joined, roomFirst, roomNext, ranJoin}
-use Rattle.vault.specs.Answers.{wayIn, Held, TimerGives}
+use Rattle.vault.specs.inside.Answers.{wayIn, Held, TimerGives}
 use Rattle.vault.proofs.Laws.{acceptedRoom, refusedBy, acceptedBy, calledLent, wayRefused}
 
 -- ---- the view that is asked for

@@ -11,15 +11,17 @@ ghost use lib.ListN.{length};
 ghost use Rattle.frame.specs.Refusal.{first};
 ghost use Rattle.settings.specs.Settings.{settingRows};
 ghost use Rattle.record.specs.Slots.{rows};
-ghost use Rattle.layout.specs.Layout.{recordSize, decodeRecord};
+ghost use Rattle.layout.specs.Layout.{decodeRecord};
+ghost use Rattle.layout.specs.Size.{recordSize};
 ghost use Rattle.sound.specs.declared.Lent.the-variants.{Sound};
-ghost use Rattle.sound.specs.Sound.{lentIs};
+ghost use Rattle.sound.specs.inside.Sound.{lentIs};
 ghost use Rattle.protocol.specs.Record.{changeOf};
 ghost use Rattle.protocol.specs.Calls.{recordRows, wantedFrom, started, heard, rung};
 ghost use Rattle.contents.specs.Contents.{contentsIn};
 ghost use Rattle.contents.specs.Calls.{startLeft, frameLeft, timerLeft};
-ghost use Rattle.pass.specs.Steps.{Ran};
-ghost use Rattle.vault.specs.Answers.{leftBy, wayIn, Held, Read, readLeft, TimerGives};
+ghost use Rattle.pass.specs.inside.Steps.{Ran};
+ghost use Rattle.vault.specs.Answers.{leftBy};
+ghost use Rattle.vault.specs.inside.Answers.{wayIn, Held, Read, readLeft, TimerGives};
 
 // What a call answers: how many bytes it wrote, or the number of a refusal.
 pub enum Answer {

@@ -13,7 +13,7 @@ use Rattle.settings.specs.declared.Settings.{Settings}
 use Rattle.layout.specs.Layout.{decodeRecord}
 use Rattle.sound.specs.declared.Lent.{Lent}
 use Rattle.sound.specs.declared.Lent.the-variants.{Blank, Unsound, Sound}
-use Rattle.sound.specs.Sound.{lentIs}
+use Rattle.sound.specs.inside.Sound.{lentIs}
 use Rattle.frame.specs.Refusal.{readFrame}
 use Rattle.protocol.specs.Record.{Record}
 use Rattle.protocol.specs.Calls.{Call, start, frame, timer, Answer, refused, accepted, answer}
@@ -21,9 +21,11 @@ use Rattle.protocol.proofs.Size.{outputShort}
 use Rattle.vault.specs.declared.Answer.{Answer as Given}
 use Rattle.vault.specs.declared.Answer.the-variants.{Written, Refused}
 use Rattle.vault.specs.Answers.{leftBy}
-use Rattle.vault_c.specs.Numbers.{code, Short, seen, numbered}
+use Rattle.vault_c.specs.Numbers.{seen, numbered}
+use Rattle.vault_c.specs.inside.Numbers.{code, Short}
 use Rattle.contents.specs.Contents.{contents}
-use Rattle.contents.specs.Calls.{Left, wrote, gave, after, onLent, called, startLeft, frameLeft, timerLeft}
+use Rattle.contents.specs.Calls.{after, onLent, called, startLeft, frameLeft, timerLeft}
+use Rattle.contents.specs.Left.{Left, wrote, gave}
 
 abbrev pub Small : Left → Type 0
 Small (wrote count rec out) = count ≤ 205

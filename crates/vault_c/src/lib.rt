@@ -1,8 +1,9 @@
 // The vault for Rust and C hosts: start, frame and timer over lent bytes, with one number as the answer (include/vault.h).
 ghost use mathlib.Core.Path.{_≡_};
-ghost use Rattle.layout.specs.Layout.{recordSize};
+ghost use Rattle.layout.specs.Size.{recordSize};
 ghost use Rattle.contents.specs.Calls.{startLeft, frameLeft, timerLeft};
-ghost use Rattle.vault_c.specs.Numbers.{code, Short, seen, numbered};
+ghost use Rattle.vault_c.specs.Numbers.{seen, numbered};
+ghost use Rattle.vault_c.specs.inside.Numbers.{code, Short};
 use settings::Settings;
 use vault::Answer;
 

@@ -10,8 +10,8 @@ use native.Mathlib.Omega.{arith}
 use lib.ListN.{length, take, length-replicate}
 use lib.Seq.{length-take-le}
 use Rattle.wire.specs.Fields.{Bytes}
-use Rattle.entry.specs.Layout.{entriesOf}
-use Rattle.contents.specs.Calls.{Left, gave}
+use Rattle.entry.specs.Reading.{entriesOf}
+use Rattle.contents.specs.Left.{Left, gave}
 use Rattle.runs.specs.Runs.{recordIn}
 use Rattle.runs.specs.Left.{Kept, LeavesWell}
 use Rattle.vault.specs.declared.Answer.{Answer}
@@ -20,11 +20,12 @@ use Rattle.vault.specs.Answers.{leftBy}
 use Rattle.lines.specs.declared.Spelling.{Spelling}
 use Rattle.lines.specs.declared.Spelling.the-variants.{Count, Bad}
 use Rattle.lines.specs.Digits.{lineOf, refusalLine, bytesOf}
-use Rattle.lines.specs.Steps.{spells, countOf, Shown, Enough, Answered}
+use Rattle.lines.specs.inside.Steps.{spells, countOf, Shown, Enough, Answered}
 use Rattle.lines.proofs.Digits.{lengthLine}
 use Rattle.lines.proofs.Spelled.{keptSpells, spelledShort}
 use Rattle.vaultlines.specs.Lines.{entryLines, callOf, callLeft, zeroed, spelledLeft, digitLimit, lineLeft, printed, vaultLines}
-use Rattle.vaultlines.specs.Steps.{outputSize, keptSize, answerSize, lineShare, Laid, Printable, Put}
+use Rattle.vaultlines.specs.Steps.{keptSize}
+use Rattle.vaultlines.specs.inside.Steps.{outputSize, answerSize, lineShare, Laid, Printable, Put}
 use Rattle.vaultlines.proofs.Entries.{laidShort}
 use Rattle.vaultlines.proofs.Calls.{callWell, Alike, outputUnread, shortRefused}
 

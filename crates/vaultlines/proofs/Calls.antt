@@ -21,15 +21,17 @@ use Rattle.frame.specs.declared.Reading.the-variants.{Refused}
 use Rattle.frame.specs.Refusal.{first, formRows, readFrame}
 use Rattle.frame.proofs.Laws.{formed, head-there}
 use Rattle.frame.proofs.Steps.{by-form}
-use Rattle.entry.specs.Layout.{layout, entriesOf}
+use Rattle.entry.specs.Layout.{layout}
+use Rattle.entry.specs.Reading.{entriesOf}
 use Rattle.layout.specs.Layout.{decodeRecord}
 use Rattle.sound.specs.declared.Lent.{Lent}
 use Rattle.sound.specs.declared.Lent.the-variants.{Blank, Unsound, Sound}
-use Rattle.sound.specs.Sound.{lentIs}
+use Rattle.sound.specs.inside.Sound.{lentIs}
 use Rattle.protocol.specs.Calls as by
 use Rattle.protocol.specs.Calls.{answer}
 use Rattle.contents.specs.Contents.{contents}
-use Rattle.contents.specs.Calls.{Left, gave, after, onLent, called, startLeft, frameLeft, timerLeft}
+use Rattle.contents.specs.Calls.{after, onLent, called, startLeft, frameLeft, timerLeft}
+use Rattle.contents.specs.Left.{Left, gave}
 use Rattle.runs.specs.Runs.{Call, start, frame, timer, InWidth, recordIn}
 use Rattle.runs.specs.Left.{LeavesWell}
 use Rattle.runs.proofs.Left.{callLeavesWell}

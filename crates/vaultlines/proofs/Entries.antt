@@ -18,13 +18,15 @@ use Rattle.frame.proofs.Theorems.{encode-head}
 use Rattle.wire.proofs.Laws.{length-spell}
 use Rattle.entry.specs.declared.Entry.{Entry}
 use Rattle.entry.specs.declared.Entry.the-variants.{ForAll, ForOne, Timer, Decision}
-use Rattle.entry.specs.Layout.{hostFields, entryBytes, layout, AllValid, sizeAt, entriesWithin, entriesOf}
+use Rattle.entry.specs.Layout.{hostFields, entryBytes, layout}
+use Rattle.entry.specs.Valid.{AllValid}
+use Rattle.entry.specs.Reading.{sizeAt, entriesWithin, entriesOf}
 use Rattle.entry.proofs.Theorems.{entry-says, entriesReadBack}
 use Rattle.lines.specs.Digits.{lineOf}
-use Rattle.lines.specs.Steps.{Shown}
+use Rattle.lines.specs.inside.Steps.{Shown}
 use Rattle.lines.proofs.Digits.{lengthLine}
 use Rattle.vaultlines.specs.Lines.{entryLines}
-use Rattle.vaultlines.specs.Steps.{Laid}
+use Rattle.vaultlines.specs.inside.Steps.{Laid}
 
 -- ---- the size of an entry
 

@@ -9,9 +9,10 @@ use mathlib.Core.Option.{Option, none, some}
 use native.Mathlib.Omega.{arith}
 use Rattle.wire.specs.Digits.{numberAt, digits}
 use Rattle.wire.specs.Fields.{Bytes}
-use Rattle.quorum.specs.Sets.{weigh, isQuorum, isBlocking}
-use Rattle.quorum.specs.Bools.{any}
-use Rattle.rules.specs.Counts.{safe, choice}
+use Rattle.quorum.specs.Sets.{weigh}
+use Rattle.quorum.specs.Quorums.{isQuorum, isBlocking}
+use Rattle.quorum.specs.inside.Bools.{any}
+use Rattle.rules.specs.inside.Counts.{safe, choice}
 use Rattle.frame.specs.declared.Body.the-variants.{Plan}
 use Rattle.frame.specs.declared.Frame.{Frame}
 use Rattle.frame.specs.Format.{within, lengthOf, encode, decode, bodyAs}
@@ -21,15 +22,17 @@ use Rattle.frame.specs.Refusal.{readFrame, refusal, viewMissing, misled}
 use Rattle.entry.specs.Layout.{entryBytes}
 use Rattle.settings.specs.Settings.{delayOf}
 use Rattle.layout.specs.Layout.{decodeRecord}
-use Rattle.sound.specs.Sound.{lentIs}
+use Rattle.sound.specs.inside.Sound.{lentIs}
 use Rattle.protocol.specs.Record.{Record, highest}
 use Rattle.settings.specs.declared.Settings.{Settings}
 use Rattle.protocol.specs.Pass.{Out, does, writes, agreed, pass, stepA, stepB, stepC, stepD, stepVote, stepH}
 use Rattle.protocol.specs.Calls as by
 use Rattle.protocol.specs.Calls.{refused, accepted, answer, started, keep, heard}
 use Rattle.contents.specs.Contents.{contents}
-use Rattle.contents.specs.Calls.{Left, after}
-use Rattle.runs.specs.Runs.{Call, start, frame, timer, InWidth, leaves, recordIn}
+use Rattle.contents.specs.Calls.{after}
+use Rattle.contents.specs.Left.{Left}
+use Rattle.runs.specs.Runs.{Call, start, frame, timer, InWidth, recordIn}
+use Rattle.runs.specs.Fixed.{leaves}
 use Rattle.contents.specs.Spelling.{Spells}
 use Rattle.contents.proofs.Spelling.{Fine}
 use Rattle.runs.proofs.Carry.{said, leavesRoom, saidFrame, fedSaid, LeftWell, leftWell}

@@ -7,8 +7,9 @@ use mathlib.Core.List.{List, [], _++_}
 use native.Mathlib.Omega.{arith}
 use lib.ListN.{length, take, drop, length-append, length-drop}
 use lib.Seq.{length-take-le}
-use Rattle.lines.specs.Lines.{firstLine}
-use Rattle.lines.specs.Steps.{KeptOf, Answered, Fed, Finished, Reads, first, andThen}
+use Rattle.lines.specs.inside.Lines.{firstLine}
+use Rattle.lines.specs.Steps.{Fed, Finished, Reads, first, andThen}
+use Rattle.lines.specs.inside.Steps.{KeptOf, Answered}
 use Rattle.lines.proofs.Lines.{firstShort}
 use Rattle.lines.proofs.Taking.{takeShort, keptShort}
 use Rattle.lines.proofs.Feeding.{FedTo, fedNone, fedLine, fedEnd, fedDone, finishedNone, finishedLine}
@@ -16,7 +17,8 @@ use Rattle.lines.proofs.Whole.{anySplit}
 use Rattle.vaultlines.specs.Lines.{digitLimit, vaultLines, blank}
 use Rattle.vaultlines.specs.declared.Ended.{Ended}
 use Rattle.vaultlines.specs.declared.Ended.the-variants.{Dry}
-use Rattle.vaultlines.specs.Steps.{keptSize, answerSize, lineShare, pieceSize, pageSize, EndedWell, Whole, WholeInput}
+use Rattle.vaultlines.specs.Steps.{keptSize, Whole, WholeInput}
+use Rattle.vaultlines.specs.inside.Steps.{answerSize, lineShare, pieceSize, pageSize, EndedWell}
 use Rattle.vaultlines.proofs.Answers.{keptEnough}
 
 pub wholeInput : WholeInput

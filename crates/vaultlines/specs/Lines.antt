@@ -9,11 +9,13 @@ use lib.ListN.{length, getD, take, replicate}
 use lib.Dec.{eqb}
 use Rattle.wire.specs.Digits.{numberAt}
 use Rattle.entry.specs.declared.Entry.{Entry}
-use Rattle.entry.specs.Layout.{entryBytes, entriesOf}
+use Rattle.entry.specs.Layout.{entryBytes}
+use Rattle.entry.specs.Reading.{entriesOf}
 use Rattle.settings.specs.declared.Settings.{Settings}
-use Rattle.layout.specs.Layout.{recordSize}
-use Rattle.contents.specs.Calls.{Left, wrote, gave}
-use Rattle.runs.specs.Runs.{Call, start, frame, timer, leaves, recordIn}
+use Rattle.layout.specs.Size.{recordSize}
+use Rattle.contents.specs.Left.{Left, wrote, gave}
+use Rattle.runs.specs.Runs.{Call, start, frame, timer, recordIn}
+use Rattle.runs.specs.Fixed.{leaves}
 use Rattle.lines.specs.Digits.{bytesOf, lineOf, refusalLine}
 use Rattle.lines.specs.Lines.{Program, answers}
 

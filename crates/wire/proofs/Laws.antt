@@ -12,8 +12,10 @@ use native.Mathlib.Omega.{arith}
 use lib.ListN.{length, getD, take, drop, length-append, length-drop}
 use lib.Arith.{digits-div, digits-mod}
 use lib.Seq.{getD-at, take-add, take-suc, drop-drop, getD-drop, take-all}
-use Rattle.wire.specs.Digits.{numberAt, digits, Reversed}
-use Rattle.wire.specs.Fields.{Field, field, spell, widths, total, fieldsAt, Sized, Bytes}
+use Rattle.wire.specs.Digits.{numberAt, digits}
+use Rattle.wire.specs.inside.Reversed.{Reversed}
+use Rattle.wire.specs.Fields.{Field, field, spell, Sized, Bytes}
+use Rattle.wire.specs.inside.Widths.{widths, total, fieldsAt}
 
 pub length-digits : (w n : ℕ) → length (digits w n) ≡ w
 unfolding digits

@@ -12,7 +12,8 @@ use native.Mathlib.Omega.{arith}
 use lib.ListN.{length, take, drop, set, length-append, length-drop, take-append-drop, drop-of-length-le}
 use lib.Seq.{sets, set-comm, set-split, length-take-le, length-sets, take-all, take-at, drop-at, drop-drop, sets-eq}
 use Rattle.wire.specs.Digits.{digits}
-use Rattle.wire.specs.Fields.{Field, field, spell, widths, total}
+use Rattle.wire.specs.Fields.{Field, field, spell}
+use Rattle.wire.specs.inside.Widths.{widths, total}
 use Rattle.wire.specs.Placed.{placed}
 use Rattle.wire.proofs.Laws.{length-digits, length-spell, spell-append}
 

@@ -3,7 +3,7 @@
 use Prim.Native.Nat.{ℕ, _+_, _^_, _<_}
 use mathlib.Core.List.{List, [], _∷_, _++_}
 use lib.ListN.{getD}
-use Rattle.wire.specs.Digits.{numberAt, digits}
+use Rattle.wire.specs.Digits.{digits}
 
 -- A number and the count of bytes that it is written in: "plan, 8 bytes" is `field 8 plan`.
 pub data Field : Type 0 where
@@ -13,21 +13,6 @@ pub data Field : Type 0 where
 abbrev pub spell : List Field → List ℕ
 spell [] = []
 spell (field w v ∷ fs) = digits w v ++ spell fs
-
--- How many bytes each field takes.
-abbrev pub widths : List Field → List ℕ
-widths [] = []
-widths (field w v ∷ fs) = w ∷ widths fs
-
--- How many bytes fields of these widths take together.
-abbrev pub total : List ℕ → ℕ
-total [] = 0
-total (w ∷ ws) = w + total ws
-
--- The fields of the given widths that stand at a place.
-abbrev pub fieldsAt : List ℕ → List ℕ → ℕ → List Field
-fieldsAt [] s at = []
-fieldsAt (w ∷ ws) s at = field w (numberAt w s at) ∷ fieldsAt ws s (at + w)
 
 -- Each number is one that its bytes can spell.
 abbrev pub Sized : List Field → Type 0

@@ -2,7 +2,8 @@
 ghost use mathlib.Core.Path.{_≡_};
 ghost use Prim.Native.Nat.{_+_, _≤_, _<_};
 ghost use lib.ListN.{length};
-ghost use Rattle.wire.specs.Digits.{numberAt, digits, Reversed};
+ghost use Rattle.wire.specs.Digits.{numberAt, digits};
+ghost use Rattle.wire.specs.inside.Reversed.{Reversed};
 ghost use Rattle.wire.specs.Placed.{placed};
 
 fn wide(x: u8) -> u64

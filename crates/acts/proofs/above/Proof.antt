@@ -3,7 +3,7 @@
 use Prim.Native.Nat.{ℕ, _+_}
 use mathlib.Core.Path.{ap}
 use borrow.Author.Tests.{eq-eqb, ne-eqb}
-use Rattle.acts.specs.Reports.{aboveOf}
+use Rattle.acts.specs.inside.Reports.{aboveOf}
 use borrow.Author.Needs.{needs}
 use Rattle.acts.proofs.above.Statement.{statement}
 use Rattle.acts.proofs.above.Tie as tie

@@ -2,7 +2,7 @@
 -- Assumes nothing.
 use Prim.Native.Nat.{_+_, _-_, _≤_}
 use mathlib.Core.Path.{_≡_, _∙_}
-use Rattle.acts.specs.Acts.{actAt}
+use Rattle.acts.specs.inside.Acts.{actAt}
 use Rattle.acts.proofs.Numbers.{actVotes, numbered}
 use borrow.Author.Needs.{needs}
 use native.Mathlib.Omega.{arith}

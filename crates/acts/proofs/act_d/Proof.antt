@@ -4,7 +4,7 @@ use mathlib.Core.Path.{sym, _∙_, ap}
 use mathlib.Core.Bool.{true, false}
 use Rattle.protocol.specs.Record.{Record}
 use Rattle.protocol.specs.Pass.{actD}
-use Rattle.acts.specs.Reports.{approvedBy}
+use Rattle.acts.specs.inside.Reports.{approvedBy}
 use Rattle.acts.proofs.Parts.{blockLength, seen, seat, contentsSeen, reads}
 use Rattle.acts.proofs.Proposals.{votedOnce, unproposed, votesOne}
 use borrow.Author.Needs.{needs}

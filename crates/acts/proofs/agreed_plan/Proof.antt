@@ -1,7 +1,7 @@
 -- `acts::agreed_plan` meets its contract: the plan that leads, where a quorum is for it.
 -- Assumes nothing.
 use Prim.Native.Nat.{_<_}
-use Rattle.acts.specs.Votes.{votes}
+use Rattle.acts.specs.inside.Votes.{votes}
 use Rattle.acts.proofs.Votes.{agreedFew, agreedOther, agreedOn}
 use borrow.Author.Needs.{needs}
 use native.Mathlib.Omega.{arith}

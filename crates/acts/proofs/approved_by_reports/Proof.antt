@@ -3,7 +3,7 @@
 use mathlib.Core.Path.{_∙_, ap}
 use Rattle.protocol.specs.Record.{Record}
 use Rattle.acts.proofs.Parts.{blockLength, seen, seat, contentsSeen, reads}
-use Rattle.acts.specs.Reports.{approvedBy}
+use Rattle.acts.specs.inside.Reports.{approvedBy}
 use Rattle.acts.proofs.Proposals.{approvedIs}
 use borrow.Author.Needs.{needs}
 use native.Mathlib.Omega.{arith}

@@ -2,7 +2,7 @@
 -- Assumes nothing.
 use Prim.Native.Nat.{ℕ, _-_, _≤_}
 use mathlib.Core.Path.{_≡_, subst}
-use Rattle.acts.specs.Reports.{reportsBy, Filled}
+use Rattle.acts.specs.inside.Reports.{reportsBy, Filled}
 use Rattle.acts.proofs.Reports.{filledNone}
 use borrow.Author.Needs.{needs}
 use native.Mathlib.Omega.{arith}

@@ -3,8 +3,8 @@
 use Prim.Native.Nat.{ℕ, _+_}
 use mathlib.Core.Path.{refl, sym, _∙_, ap, subst}
 use mathlib.Core.List.{List}
-use Rattle.acts.specs.Parts.{blockPlace}
-use Rattle.acts.specs.Reports.{reportsBy, Filled}
+use Rattle.acts.specs.inside.Parts.{blockPlace}
+use Rattle.acts.specs.inside.Reports.{reportsBy, Filled}
 use Rattle.acts.proofs.Reports.{filledSkip, filledMore, untold, toldThere}
 use borrow.Author.Needs.{needs}
 use Rattle.acts.proofs.gather_from.Statement.{statement}

@@ -4,7 +4,7 @@ use Prim.Native.Nat.{ℕ, _-_, _≤_}
 use mathlib.Core.Path.{_≡_}
 use mathlib.Core.List.{List}
 use lib.ListN.{length}
-use Rattle.acts.specs.Changes.{changeIn}
+use Rattle.acts.specs.inside.Changes.{changeIn}
 use Rattle.acts.proofs.Changes.{highestOfAll}
 use borrow.Author.Needs.{needs}
 use native.Mathlib.Omega.{arith}

@@ -2,7 +2,7 @@
 -- Assumes nothing.
 use Prim.Native.Nat.{_-_, _≤_}
 use mathlib.Core.Path.{_≡_}
-use Rattle.acts.specs.Votes.{votes, leading}
+use Rattle.acts.specs.inside.Votes.{votes, leading}
 use Rattle.acts.proofs.Votes.{leadNone, leadMore, leadLow, leadAll, leadFew}
 use borrow.Author.Needs.{needs}
 use native.Mathlib.Omega.{arith}

@@ -1,7 +1,7 @@
 -- `acts::met` meets its contract: each branch is one case of the definition.
 -- Assumes nothing.
 use borrow.Author.Tests.{eq-eqb, ne-eqb}
-use Rattle.acts.specs.Votes.{meet}
+use Rattle.acts.specs.inside.Votes.{meet}
 use borrow.Author.Needs.{needs}
 use Rattle.acts.proofs.met.Statement.{statement}
 use Rattle.acts.proofs.met.Tie as tie

@@ -5,7 +5,7 @@ use mathlib.Core.Path.{sym, _∙_, ap}
 use mathlib.Core.Logic.{_≢_}
 use mathlib.Core.Option.{Option}
 use Rattle.layout.specs.Layout.{slotIn}
-use Rattle.acts.specs.Votes.{meet, after}
+use Rattle.acts.specs.inside.Votes.{meet, after}
 use Rattle.acts.proofs.Votes.{votedNone, votedOther, votedSome}
 use borrow.Author.Needs.{needs}
 use Rattle.acts.proofs.met_at.Statement.{statement}

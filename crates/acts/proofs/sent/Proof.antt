@@ -5,7 +5,7 @@ use mathlib.Core.Path.{_∙_, ap}
 use mathlib.Core.Bool.{not}
 use Rattle.rules.specs.Options.{isNone}
 use Rattle.layout.specs.Layout.{slotIn}
-use Rattle.acts.specs.Votes.{voted}
+use Rattle.acts.specs.inside.Votes.{voted}
 use borrow.Author.Needs.{needs}
 use Rattle.acts.proofs.sent.Statement.{statement}
 use Rattle.acts.proofs.sent.Tie as tie

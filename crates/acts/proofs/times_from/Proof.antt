@@ -5,7 +5,7 @@ use mathlib.Core.Path.{_≡_, _∙_, ap}
 use lib.Dec.{eqb}
 use lib.ListN.{length, getD}
 use Rattle.quorum.proofs.Laws.{shareMost}
-use Rattle.acts.specs.Changes.{times}
+use Rattle.acts.specs.inside.Changes.{times}
 use Rattle.acts.proofs.Changes.{timesStep}
 use borrow.Author.Needs.{needs}
 use native.Mathlib.Omega.{arith}

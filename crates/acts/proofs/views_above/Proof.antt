@@ -5,7 +5,7 @@ use mathlib.Core.Path.{_≡_, sym, _∙_}
 use lib.Dec.{ltb}
 use lib.ListN.{length, length-set}
 use Rattle.quorum.proofs.Laws.{shareMost}
-use Rattle.acts.specs.Changes.{changeIn}
+use Rattle.acts.specs.inside.Changes.{changeIn}
 use Rattle.acts.proofs.Changes.{Passed, passNone, passMore, gathered, gatheredFew}
 use borrow.Author.Needs.{needs}
 use native.Mathlib.Omega.{arith}

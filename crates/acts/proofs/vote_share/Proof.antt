@@ -8,7 +8,7 @@ use lib.Dec.{eqb}
 use borrow.Author.Tests.{eq-eqb, ne-eqb}
 use Rattle.rules.specs.Options.{holds}
 use Rattle.layout.specs.Layout.{slotIn}
-use Rattle.acts.specs.Votes.{voted}
+use Rattle.acts.specs.inside.Votes.{voted}
 use Rattle.acts.proofs.Votes.{votedPlan, toldNone}
 use borrow.Author.Needs.{needs}
 use Rattle.acts.proofs.vote_share.Statement.{statement}

@@ -5,7 +5,7 @@ use mathlib.Core.Path.{_≡_, sym, _∙_, ap}
 use lib.Dec.{eqb}
 use Rattle.quorum.proofs.Laws.{weighNone, weighStep, shareMost}
 use Rattle.rules.specs.Options.{holds}
-use Rattle.acts.specs.Votes.{votes}
+use Rattle.acts.specs.inside.Votes.{votes}
 use Rattle.acts.proofs.Votes.{tally}
 use borrow.Author.Needs.{needs}
 use native.Mathlib.Omega.{arith}

@@ -4,7 +4,7 @@
 use mathlib.Core.Path.{refl, sym, _∙_}
 use borrow.Author.Needs.{needs}
 use Rattle.claims.proofs.Rows.{claimsEvery, claimsOne, claimsNone, silent}
-use Rattle.claims.specs.Rows.{forAll, forOne, forNone}
+use Rattle.claims.specs.inside.Rows.{forAll, forOne, forNone}
 use Rattle.rules.specs.Rules.{claims}
 use Rattle.claims.proofs.claim_share.Statement.{statement}
 use Rattle.claims.proofs.claim_share.Tie as tie

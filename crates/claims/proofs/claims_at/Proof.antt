@@ -8,7 +8,7 @@ use borrow.Author.Needs.{needs}
 use lib.ListN.{length, length-set, getD, set}
 use Rattle.claims.proofs.Rows.{rowNone, rowMore, shareFits, writtenAbove}
 use Rattle.claims.specs.declared.Tally.{Tally}
-use Rattle.claims.specs.Rows.{rowsSize, Tells, SameBelow}
+use Rattle.claims.specs.inside.Rows.{rowsSize, Tells, SameBelow}
 use Rattle.claims.specs.Table.{column, reportsIn}
 use Rattle.rules.specs.Rules.{claims, reporting}
 use Rattle.claims.proofs.claims_at.Statement.{statement}

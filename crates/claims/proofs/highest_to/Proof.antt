@@ -6,7 +6,7 @@ use mathlib.Core.Path.{_≡_, sym, _∙_, ap}
 use native.Mathlib.Omega.{arith}
 use borrow.Author.Needs.{needs}
 use Rattle.claims.proofs.Spans.{highestMore, highestNone}
-use Rattle.claims.specs.Spans.{highestTo}
+use Rattle.claims.specs.inside.Spans.{highestTo}
 use Rattle.claims.proofs.highest_to.Statement.{statement}
 use Rattle.claims.proofs.highest_to.Tie as tie
 

@@ -9,7 +9,7 @@ use native.Mathlib.Omega.{arith}
 use borrow.Author.Needs.{needs}
 use borrow.Author.Tests.{leb-true, leb-false}
 use Rattle.claims.proofs.Spans.{covers, highestLow, nobodyAt, searchFound, searchNone}
-use Rattle.claims.specs.Spans.{covering}
+use Rattle.claims.specs.inside.Spans.{covering}
 use Rattle.quorum.proofs.Laws.{weighNone, weighStep, shareMost}
 use Rattle.quorum.specs.Sets.{weigh}
 use Rattle.claims.proofs.lowest_cleared.Statement.{statement}

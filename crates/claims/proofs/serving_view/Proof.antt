@@ -9,7 +9,7 @@ use borrow.Author.Needs.{needs}
 use lib.Dec.{eqb}
 use lib.ListN.{getD}
 use Rattle.claims.proofs.Rows.{countNone, countStep, rowFits, Below, walkOver, walkFound, walkOn}
-use Rattle.claims.specs.Rows.{countOf, claimedIn, endOf, servingView}
+use Rattle.claims.specs.inside.Rows.{countOf, claimedIn, endOf, servingView}
 use Rattle.claims.specs.Table.{column}
 use Rattle.quorum.proofs.Laws.{shareMost}
 use Rattle.claims.proofs.serving_view.Statement.{statement}

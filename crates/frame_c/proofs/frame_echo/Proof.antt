@@ -7,8 +7,8 @@ use native.Mathlib.Omega.{arith}
 use lib.ListN.{length}
 use denote.Ref.{now}
 use borrow.Author.Tests.{lt-ltb, le-ltb}
-use Rattle.frame.specs.Refusal.{refusalOf}
-use Rattle.frame_c.specs.Echo.{left, echo}
+use Rattle.frame.specs.inside.Reading.{refusalOf}
+use Rattle.frame_c.specs.inside.Echo.{left, echo}
 use Rattle.frame_c.proofs.Laws.{counted}
 use borrow.Author.Needs.{needs}
 use Rattle.frame_c.proofs.frame_echo.Statement.{statement}

@@ -6,7 +6,7 @@ use lib.ListN.{length-append}
 use denote.Ref.{now}
 use Rattle.entry.specs.declared.Entry.the-variants.{ForAll, Timer, Decision}
 use Rattle.entry.proofs.Theorems.{entry-length, lays-layout}
-use Rattle.frame_c.specs.Echo.{echoEntries}
+use Rattle.frame_c.specs.inside.Echo.{echoEntries}
 use Rattle.frame_c.proofs.Laws.{echo-short}
 use borrow.Author.Needs.{needs}
 use Rattle.frame_c.proofs.put_echo.Statement.{statement}

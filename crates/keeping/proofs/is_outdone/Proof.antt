@@ -2,7 +2,7 @@
 -- Assumes nothing.
 use mathlib.Core.Path.{refl}
 use borrow.Author.Tests.{eq-eqb, ne-eqb}
-use Rattle.keeping.specs.Keeping.{outdone}
+use Rattle.keeping.specs.inside.Keeping.{outdone}
 use Rattle.keeping.proofs.is_outdone.Statement.{statement}
 use Rattle.keeping.proofs.is_outdone.Tie as tie
 

@@ -1,7 +1,7 @@
 -- `keeping::is_stale` meets its contract: each branch decides one part.
 -- Assumes nothing.
 use Rattle.frame.proofs.Laws.{tests}
-use Rattle.keeping.specs.Keeping.{stale}
+use Rattle.keeping.specs.inside.Keeping.{stale}
 use Rattle.keeping.proofs.is_stale.Statement.{statement}
 use Rattle.keeping.proofs.is_stale.Tie as tie
 

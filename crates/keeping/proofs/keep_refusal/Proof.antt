@@ -5,7 +5,7 @@ use Rattle.frame.specs.declared.Report.{Report}
 use Rattle.frame.proofs.Laws.{told}
 use Rattle.record.specs.Slots.{slotOf}
 use Rattle.layout.specs.Layout.{decodeRecord}
-use Rattle.keeping.specs.Keeping.{outdone}
+use Rattle.keeping.specs.inside.Keeping.{outdone}
 use Rattle.keeping.proofs.Laws.{refused-stale, refused-outdone, taken}
 use borrow.Author.Needs.{needs}
 use Rattle.keeping.proofs.keep_refusal.Statement.{statement}

@@ -3,9 +3,10 @@
 use mathlib.Core.Path.{ap, sym, _∙_}
 use borrow.Author.Tests.{not-true, not-false}
 use Rattle.frame.specs.declared.Report.{Report}
-use Rattle.record.specs.Slots.{frameSlot, slotOf, withSlot}
+use Rattle.record.specs.Slots.{frameSlot, slotOf}
+use Rattle.record.specs.inside.Slots.{withSlot}
 use Rattle.layout.specs.Layout.{decodeRecord}
-use Rattle.keeping.specs.Keeping.{moves}
+use Rattle.keeping.specs.inside.Keeping.{moves}
 use Rattle.keeping.proofs.Laws.{shifted-moves, shifted-stays, moves-kind}
 use Rattle.keeping.proofs.Put.{heldAs}
 use borrow.Author.Needs.{needs}

@@ -3,7 +3,7 @@
 use mathlib.Core.Path.{refl}
 use borrow.Author.Tests.{eq-eqb, ne-eqb, le-leb, lt-leb}
 use Rattle.frame.specs.Format.{within}
-use Rattle.keeping.specs.Keeping.{moves}
+use Rattle.keeping.specs.inside.Keeping.{moves}
 use Rattle.keeping.proofs.vote_moves.Statement.{statement}
 use Rattle.keeping.proofs.vote_moves.Tie as tie
 

@@ -5,8 +5,8 @@ use mathlib.Core.Path.{_≡_, ap, sym, subst, _∙_}
 use mathlib.Core.List.{List}
 use native.Mathlib.Omega.{arith}
 use lib.ListN.{length, getD, length-set}
-use Rattle.record.specs.Slots.{fresh}
-use Rattle.layout.specs.Layout.{Holds}
+use Rattle.record.specs.inside.Slots.{fresh}
+use Rattle.layout.specs.inside.Layout.{Holds}
 use Rattle.layout.proofs.Bytes.{zerosAt}
 use Rattle.layout.proofs.Laws.{holdsFresh}
 use borrow.Author.Needs.{needs}

@@ -4,8 +4,9 @@ use Prim.Native.Nat.{ℕ}
 use mathlib.Core.Path.{ap, sym, subst, _∙_}
 use mathlib.Core.List.{List}
 use Rattle.wire.specs.Placed.{placed}
-use Rattle.record.specs.Slots.{withSlot}
-use Rattle.layout.specs.Layout.{slotBytes, decodeRecord, Holds}
+use Rattle.record.specs.inside.Slots.{withSlot}
+use Rattle.layout.specs.Layout.{slotBytes, decodeRecord}
+use Rattle.layout.specs.inside.Layout.{Holds}
 use Rattle.layout.proofs.Laws.{holdsThere}
 use borrow.Author.Needs.{needs}
 use Rattle.layout.proofs.put_slot.Statement.{statement}

@@ -5,8 +5,9 @@ use mathlib.Core.Path.{ap, sym, subst, _∙_}
 use mathlib.Core.List.{List}
 use Rattle.wire.specs.Digits.{digits}
 use Rattle.wire.specs.Placed.{placed}
-use Rattle.record.specs.Slots.{withView}
-use Rattle.layout.specs.Layout.{viewPlace, decodeRecord, Holds}
+use Rattle.record.specs.inside.Slots.{withView}
+use Rattle.layout.specs.Layout.{viewPlace, decodeRecord}
+use Rattle.layout.specs.inside.Layout.{Holds}
 use Rattle.layout.proofs.Laws.{holdsView}
 use borrow.Author.Needs.{needs}
 use Rattle.layout.proofs.put_view.Statement.{statement}

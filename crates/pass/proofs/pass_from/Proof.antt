@@ -3,7 +3,7 @@
 use Prim.Native.Nat.{_-_}
 use mathlib.Core.Path.{sym, _∙_}
 use native.Mathlib.Omega.{arith}
-use Rattle.pass.specs.Passes.{Going}
+use Rattle.pass.specs.inside.Passes.{Going}
 use Rattle.pass.proofs.Passes.{goingFirst, roomStep, goingStep, goingDone, goingSize}
 use Rattle.pass.proofs.pass_from.Statement.{statement}
 use Rattle.pass.proofs.pass_from.Tie as tie

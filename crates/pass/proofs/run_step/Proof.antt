@@ -4,9 +4,10 @@ use mathlib.Core.Path.{sym, _∙_, ap, subst}
 use mathlib.Core.List.{List}
 use Prim.Native.Nat.{ℕ}
 use denote.Ref.{now}
-use Rattle.contents.specs.Contents.{contentsIn, Ready}
-use Rattle.acts.specs.Acts.{actAt}
-use Rattle.pass.specs.Passes.{stepAt}
+use Rattle.contents.specs.Contents.{contentsIn}
+use Rattle.contents.specs.inside.Ready.{Ready}
+use Rattle.acts.specs.inside.Acts.{actAt}
+use Rattle.pass.specs.inside.Passes.{stepAt}
 use Rattle.pass.proofs.Runs.{tookFrom, roomWritten, ranStored}
 use borrow.Author.Needs.{needs}
 use Rattle.pass.proofs.run_step.Statement.{statement}

@@ -1,7 +1,7 @@
 -- `record_c::record_class` meets its contract: each answer has its number.
 -- Assumes nothing.
 use mathlib.Core.Path.{sym, ap, _∙_}
-use Rattle.record_c.specs.Class.{classNumber}
+use Rattle.record_c.specs.inside.Class.{classNumber}
 use borrow.Author.Needs.{needs}
 use Rattle.record_c.proofs.record_class.Statement.{statement}
 use Rattle.record_c.proofs.record_class.Tie as tie

@@ -4,7 +4,7 @@
 use mathlib.Core.Path.{refl, sym, _∙_}
 use borrow.Author.Needs.{needs}
 use Rattle.claims.proofs.Rows.{silent}
-use Rattle.claims.specs.Rows.{forAll, forOne, forNone}
+use Rattle.claims.specs.inside.Rows.{forAll, forOne, forNone}
 use Rattle.rules.specs.Rules.{allows}
 use Rattle.safe.proofs.Locks.{allowsEvery, allowsOne, allowsNone}
 use Rattle.safe.proofs.allow_share.Statement.{statement}

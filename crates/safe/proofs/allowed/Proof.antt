@@ -8,9 +8,9 @@ use lib.Dec.{leb, eqb}
 use lib.ListN.{getD}
 use borrow.Author.Needs.{needs}
 use Rattle.claims.proofs.Rows.{countNone, countStep}
-use Rattle.claims.specs.Rows.{countOf}
+use Rattle.claims.specs.inside.Rows.{countOf}
 use Rattle.quorum.proofs.Laws.{shareMost}
-use Rattle.safe.specs.Searches.{lockRow, allowedIn}
+use Rattle.safe.specs.inside.Searches.{lockRow, allowedIn}
 use Rattle.safe.proofs.allowed.Statement.{statement}
 use Rattle.safe.proofs.allowed.Tie as tie
 

@@ -8,7 +8,7 @@ use Rattle.claims.specs.Table.{reportsIn}
 use Rattle.quorum.specs.Sets.{equals}
 use Rattle.rules.proofs.Views.{neverSafe}
 use Rattle.rules.specs.Rules.{rule1}
-use Rattle.rules.specs.Views.{Lowest}
+use Rattle.rules.specs.inside.Views.{Lowest}
 use Rattle.safe.proofs.Searches.{safeStart, safeFree, choiceStart, choiceNone, lowestIn, oneSame, unsafePasses, choiceSame}
 use Rattle.safe.proofs.choose_among.Statement.{statement}
 use Rattle.safe.proofs.choose_among.Tie as tie

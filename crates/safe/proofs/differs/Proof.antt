@@ -3,7 +3,8 @@
 -- Assumes nothing.
 use mathlib.Core.Path.{sym, ap}
 use borrow.Author.Needs.{needs}
-use Rattle.safe.specs.Choices.{chosen, apart}
+use Rattle.safe.specs.Choices.{chosen}
+use Rattle.safe.specs.inside.Choices.{apart}
 use Rattle.safe.specs.declared.Choice.{Choice}
 use Rattle.safe.proofs.differs.Statement.{statement}
 use Rattle.safe.proofs.differs.Tie as tie

@@ -8,7 +8,7 @@ use native.Mathlib.Omega.{arith}
 use lib.ListN.{getD}
 use borrow.Author.Needs.{needs}
 use Rattle.claims.proofs.Rows.{rowFits}
-use Rattle.claims.specs.Rows.{placeAt}
+use Rattle.claims.specs.inside.Rows.{placeAt}
 use Rattle.claims.specs.Table.{column}
 use Rattle.claims.specs.declared.Tally.{Tally}
 use Rattle.quorum.proofs.Bools.{bothJoin}

@@ -8,7 +8,7 @@ use borrow.Author.Needs.{needs}
 use Rattle.claims.specs.Table.{reportsIn}
 use Rattle.quorum.proofs.Laws.{weighNone, weighStep, shareMost, quorumCount}
 use Rattle.quorum.specs.Sets.{weigh}
-use Rattle.rules.specs.Counts.{free}
+use Rattle.rules.specs.inside.Counts.{free}
 use Rattle.rules.specs.Rules.{unlocked, reporting}
 use Rattle.safe.proofs.free.Statement.{statement}
 use Rattle.safe.proofs.free.Tie as tie

@@ -3,7 +3,8 @@
 -- Assumes nothing.
 use mathlib.Core.Path.{sym, ap}
 use borrow.Author.Needs.{needs}
-use Rattle.safe.specs.Choices.{chosen, better}
+use Rattle.safe.specs.Choices.{chosen}
+use Rattle.safe.specs.inside.Choices.{better}
 use Rattle.safe.specs.declared.Choice.{Choice}
 use Rattle.safe.proofs.improves.Statement.{statement}
 use Rattle.safe.proofs.improves.Tie as tie

@@ -7,9 +7,9 @@ use native.Mathlib.Omega.{arith}
 use lib.ListN.{length, length-set}
 use borrow.Author.Needs.{needs}
 use Rattle.claims.proofs.Spans.{spansMore}
-use Rattle.claims.specs.Spans.{AreSpans}
+use Rattle.claims.specs.inside.Spans.{AreSpans}
 use Rattle.claims.specs.Table.{column, reportsIn}
-use Rattle.rules.specs.Views.{lockSpan}
+use Rattle.rules.specs.inside.Views.{lockSpan}
 use Rattle.safe.proofs.lock_spans.Statement.{statement}
 use Rattle.safe.proofs.lock_spans.Tie as tie
 

@@ -7,11 +7,11 @@ use native.Mathlib.Omega.{arith}
 use lib.ListN.{length, length-set, getD}
 use borrow.Author.Needs.{needs}
 use Rattle.claims.proofs.Rows.{rowNone, rowMore, shareFits, writtenAbove}
-use Rattle.claims.specs.Rows.{rowsSize, Tells, SameBelow}
+use Rattle.claims.specs.inside.Rows.{rowsSize, Tells, SameBelow}
 use Rattle.claims.specs.Table.{column, reportsIn}
 use Rattle.claims.specs.declared.Tally.{Tally}
 use Rattle.rules.specs.Rules.{allows, reporting}
-use Rattle.safe.specs.Searches.{lockRow}
+use Rattle.safe.specs.inside.Searches.{lockRow}
 use Rattle.safe.proofs.locks_at.Statement.{statement}
 use Rattle.safe.proofs.locks_at.Tie as tie
 

@@ -5,7 +5,7 @@ use mathlib.Core.Path.{_∙_}
 use borrow.Author.Needs.{needs}
 use Rattle.claims.proofs.Spans.{spansWithin}
 use Rattle.claims.specs.Table.{reportsIn}
-use Rattle.rules.specs.Views.{lockSpan}
+use Rattle.rules.specs.inside.Views.{lockSpan}
 use Rattle.safe.proofs.Locks.{lockMost, spansLock}
 use Rattle.safe.proofs.lowest_view.Statement.{statement}
 use Rattle.safe.proofs.lowest_view.Tie as tie

@@ -5,8 +5,9 @@ use Prim.Native.Nat.{ℕ}
 use mathlib.Core.Bool.{false, _&&_}
 use mathlib.Core.Path.{_≡_, sym, _∙_, subst}
 use borrow.Author.Needs.{needs}
-use Rattle.safe.specs.Choices.{chosen, apart}
-use Rattle.safe.specs.Searches.{servedFrom}
+use Rattle.safe.specs.Choices.{chosen}
+use Rattle.safe.specs.inside.Choices.{apart}
+use Rattle.safe.specs.inside.Searches.{servedFrom}
 use Rattle.safe.proofs.other_claimed.Statement.{statement}
 use Rattle.safe.proofs.other_claimed.Tie as tie
 

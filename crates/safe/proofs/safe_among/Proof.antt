@@ -9,7 +9,7 @@ use borrow.Author.Needs.{needs}
 use Rattle.claims.specs.Table.{column, reportsIn}
 use Rattle.quorum.specs.Sets.{equals}
 use Rattle.rules.proofs.Views.{neverSafe}
-use Rattle.rules.specs.Views.{Lowest}
+use Rattle.rules.specs.inside.Views.{Lowest}
 use Rattle.safe.proofs.Searches.{safeStart, safeFree, byRule, lowestIn, oneSame, threeSame}
 use Rattle.safe.proofs.safe_among.Statement.{statement}
 use Rattle.safe.proofs.safe_among.Tie as tie

@@ -4,7 +4,7 @@
 use Prim.Native.Nat.{ℕ}
 use mathlib.Core.Path.{ap}
 use lib.Dec.{ltb}
-use Rattle.safe.specs.Searches.{servedFrom}
+use Rattle.safe.specs.inside.Searches.{servedFrom}
 use Rattle.safe.proofs.served.Statement.{statement}
 use Rattle.safe.proofs.served.Tie as tie
 

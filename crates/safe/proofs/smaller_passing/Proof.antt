@@ -5,10 +5,10 @@
 use Prim.Native.Nat.{ℕ}
 use mathlib.Core.Path.{_≡_, sym, _∙_, subst}
 use borrow.Author.Needs.{needs}
-use Rattle.rules.specs.Counts.{smaller}
+use Rattle.rules.specs.inside.Counts.{smaller}
 use Rattle.safe.proofs.Searches.{smallerTaken, smallerKept}
 use Rattle.safe.specs.Choices.{chosen}
-use Rattle.safe.specs.Searches.{passesIn}
+use Rattle.safe.specs.inside.Searches.{passesIn}
 use Rattle.safe.proofs.smaller_passing.Statement.{statement}
 use Rattle.safe.proofs.smaller_passing.Tie as tie
 

@@ -8,10 +8,10 @@ use native.Mathlib.Omega.{arith}
 use lib.ListN.{getD}
 use borrow.Author.Needs.{needs}
 use Rattle.claims.specs.Table.{column}
-use Rattle.rules.specs.Counts.{smaller}
+use Rattle.rules.specs.inside.Counts.{smaller}
 use Rattle.safe.proofs.Searches.{smallestStart, smallestStep, smallerTwice, triedFits}
 use Rattle.safe.specs.Choices.{chosen}
-use Rattle.safe.specs.Searches.{lockRow, passesIn, triedAt, triedCount, smallestFrom}
+use Rattle.safe.specs.inside.Searches.{lockRow, passesIn, triedAt, triedCount, smallestFrom}
 use Rattle.safe.proofs.smallest_in.Statement.{statement}
 use Rattle.safe.proofs.smallest_in.Tie as tie
 

@@ -7,7 +7,7 @@ use mathlib.Core.Option.{Option}
 use mathlib.Core.Path.{_≡_, refl, sym, _∙_, ap, subst}
 use lib.ListN.{getD}
 use Rattle.claims.specs.Table.{column}
-use Rattle.safe.specs.Searches.{passesIn, smallestFrom}
+use Rattle.safe.specs.inside.Searches.{passesIn, smallestFrom}
 use Rattle.safe.proofs.smallest_safe.Statement.{statement}
 use Rattle.safe.proofs.smallest_safe.Tie as tie
 

@@ -5,7 +5,7 @@ use mathlib.Core.Path.{sym, _∙_, ap}
 use borrow.Author.Needs.{needs}
 use Rattle.safe.specs.Choices.{chosen}
 use Rattle.safe_c.proofs.Laws.{laidParts, chooseSaid, chooseFull, chooseUnlaid}
-use Rattle.safe_c.specs.Answers.{Answer}
+use Rattle.safe_c.specs.inside.Answers.{Answer}
 use Rattle.safe_c.proofs.choose_plan.Statement.{statement}
 use Rattle.safe_c.proofs.choose_plan.Tie as tie
 

@@ -2,7 +2,7 @@
 -- The three tests of `laid`, in its order.
 -- Assumes nothing.
 use borrow.Author.Tests.{eq-eqb, ne-eqb, le-leb, lt-leb}
-use Rattle.safe_c.specs.Answers.{laid}
+use Rattle.safe_c.specs.inside.Answers.{laid}
 use Rattle.safe_c.proofs.is_laid.Statement.{statement}
 use Rattle.safe_c.proofs.is_laid.Tie as tie
 

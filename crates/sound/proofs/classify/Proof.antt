@@ -5,7 +5,7 @@ use mathlib.Core.Bool.{Bool, cond}
 use Rattle.record.specs.Slots.{slotOf}
 use Rattle.layout.specs.Layout.{decodeRecord}
 use Rattle.sound.specs.declared.Lent.the-variants.{Unsound, Sound}
-use Rattle.sound.specs.Sound.{soundIn}
+use Rattle.sound.specs.inside.Sound.{soundIn}
 use Rattle.sound.proofs.Laws.{lent-length, lent-blank, lent-other}
 use borrow.Author.Needs.{needs}
 use Rattle.sound.proofs.classify.Statement.{statement}

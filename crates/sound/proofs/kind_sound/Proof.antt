@@ -7,8 +7,8 @@ use Prim.Native.Nat.{ℕ, _<_}
 use Rattle.record.specs.Slots.{rows, slotOf}
 use Rattle.layout.specs.Layout.{decodeRecord}
 use Rattle.frame.proofs.Laws.{told}
-use Rattle.sound.specs.Sound.{all}
-use Rattle.sound.specs.Bulk.{absentFrom}
+use Rattle.sound.specs.inside.Sound.{all}
+use Rattle.sound.specs.inside.Bulk.{absentFrom}
 use Rattle.sound.proofs.Laws.{off, on}
 use Rattle.sound.proofs.Rows.{kindAbsent, kindRest, kindPlaces}
 use borrow.Author.Needs.{needs}

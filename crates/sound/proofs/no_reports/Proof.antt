@@ -5,8 +5,8 @@ use native.Mathlib.Omega.{arith}
 use Prim.Native.Nat.{ℕ, _*_, _<_}
 use Rattle.record.specs.Slots.{rows, slotOf}
 use Rattle.layout.specs.Layout.{decodeRecord}
-use Rattle.sound.specs.Sound.{all}
-use Rattle.sound.specs.Bulk.{absentFrom}
+use Rattle.sound.specs.inside.Sound.{all}
+use Rattle.sound.specs.inside.Bulk.{absentFrom}
 use Rattle.sound.proofs.Rows.{reportsShort, toldWhole}
 use borrow.Author.Needs.{needs}
 use Rattle.sound.proofs.no_reports.Statement.{statement}

@@ -6,7 +6,7 @@ use mathlib.Core.Bool.{Bool, true}
 use native.Mathlib.Omega.{arith}
 use Rattle.record.specs.Slots.{slotOf}
 use Rattle.layout.specs.Layout.{decodeRecord}
-use Rattle.sound.specs.Sound.{all, placeSound}
+use Rattle.sound.specs.inside.Sound.{all, placeSound}
 use Rattle.sound.proofs.Laws.{off, on, all-none, all-more, all-stop}
 use borrow.Author.Needs.{needs}
 use Rattle.sound.proofs.places_sound.Statement.{statement}

@@ -1,7 +1,7 @@
 -- `sound::previous_stands` meets its contract: its form, then the rest of 14.
 -- Assumes nothing.
 use mathlib.Core.Path.{sym, _∙_}
-use Rattle.sound.specs.Sound.{stands}
+use Rattle.sound.specs.inside.Sound.{stands}
 use Rattle.sound.proofs.Laws.{off, on}
 use borrow.Author.Needs.{needs}
 use Rattle.sound.proofs.previous_stands.Statement.{statement}

@@ -6,7 +6,7 @@ use native.Mathlib.Omega.{arith}
 use Rattle.frame.specs.Refusal.{absent}
 use Rattle.record.specs.Slots.{reportSlot, slotOf}
 use Rattle.layout.specs.Layout.{place, decodeRecord}
-use Rattle.sound.specs.Bulk.{groupSize}
+use Rattle.sound.specs.inside.Bulk.{groupSize}
 use Rattle.sound.proofs.Laws.{off, on, reports-highest, reports-previous, reports-lock}
 use Rattle.sound.proofs.Places.{reportThere}
 use borrow.Author.Needs.{needs}

@@ -8,7 +8,7 @@ use Rattle.frame.specs.Refusal.{badPrevious}
 use Rattle.record.specs.Slots.{reportSlot, slotOf}
 use Rattle.layout.specs.Layout.{place, decodeRecord}
 use Rattle.keeping.specs.Kept.{reportsIn}
-use Rattle.sound.specs.Bulk.{groupSize, reportFits}
+use Rattle.sound.specs.inside.Bulk.{groupSize, reportFits}
 use Rattle.sound.proofs.Laws.{off, on}
 use Rattle.sound.proofs.Places.{reportThere}
 use Rattle.sound.proofs.Forms.{fitsHighest, fitsPrevious, fitsLock, fitsAll}

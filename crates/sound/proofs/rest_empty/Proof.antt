@@ -5,8 +5,8 @@ use mathlib.Core.Path.{sym, _∙_}
 use native.Mathlib.Omega.{arith}
 use Rattle.record.specs.Slots.{rows, slotOf}
 use Rattle.layout.specs.Layout.{decodeRecord}
-use Rattle.sound.specs.Sound.{all}
-use Rattle.sound.specs.Bulk.{absentFrom, toldAbsent}
+use Rattle.sound.specs.inside.Sound.{all}
+use Rattle.sound.specs.inside.Bulk.{absentFrom, toldAbsent}
 use Rattle.sound.proofs.Laws.{off, on}
 use Rattle.sound.proofs.Rows.{restFrames, restShort, restTold}
 use borrow.Author.Needs.{needs}

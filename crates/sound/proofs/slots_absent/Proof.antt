@@ -5,8 +5,8 @@ use mathlib.Core.Path.{_≡_, ap, _∙_}
 use native.Mathlib.Omega.{arith}
 use lib.ListN.{length, take, drop}
 use Rattle.layout.specs.Layout.{slotSize}
-use Rattle.sound.specs.Sound.{all}
-use Rattle.sound.specs.Bulk.{zeroIn, zeroFrom}
+use Rattle.sound.specs.inside.Sound.{all}
+use Rattle.sound.specs.inside.Bulk.{zeroIn, zeroFrom}
 use Rattle.sound.proofs.Places.{runAbsent, runFits, zeroPart}
 use borrow.Author.Needs.{needs}
 use Rattle.sound.proofs.slots_absent.Statement.{statement}

@@ -6,8 +6,8 @@ use mathlib.Core.Bool.{Bool, _&&_}
 use native.Mathlib.Omega.{arith}
 use lib.Dec.{eqb}
 use lib.ListN.{length}
-use Rattle.sound.specs.Sound.{all}
-use Rattle.sound.specs.Bulk.{zeroIn}
+use Rattle.sound.specs.inside.Sound.{all}
+use Rattle.sound.specs.inside.Bulk.{zeroIn}
 use Rattle.sound.proofs.Laws.{all-none}
 use Rattle.sound.proofs.All.{allOne}
 use borrow.Author.Needs.{needs}

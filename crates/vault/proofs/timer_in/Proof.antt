@@ -3,7 +3,8 @@
 use mathlib.Core.Path.{_∙_}
 use denote.Ref.{now}
 use Rattle.protocol.specs.Calls.{rung}
-use Rattle.contents.specs.Contents.{contentsIn, Ready}
+use Rattle.contents.specs.Contents.{contentsIn}
+use Rattle.contents.specs.inside.Ready.{Ready}
 use Rattle.contents.proofs.Sound.{sizeSound}
 use Rattle.contents.proofs.Ready.{readyLent}
 use Rattle.vault.proofs.Laws.{acceptedLeft}

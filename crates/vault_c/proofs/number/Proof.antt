@@ -3,7 +3,7 @@
 use Prim.Native.Nat.{_≤_}
 use mathlib.Core.Path.{sym, ap, subst}
 use native.Mathlib.Omega.{arith}
-use Rattle.vault_c.specs.Numbers.{code, Short}
+use Rattle.vault_c.specs.inside.Numbers.{code, Short}
 use borrow.Author.Needs.{needs}
 use Rattle.vault_c.proofs.number.Statement.{statement}
 use Rattle.vault_c.proofs.number.Tie as tie

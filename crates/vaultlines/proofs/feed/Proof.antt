@@ -5,7 +5,8 @@ use mathlib.Core.Path.{_≡_, refl, _∙_}
 use native.Mathlib.Omega.{arith}
 use denote.Ref.{now}
 use lib.ListN.{length, take}
-use Rattle.vaultlines.specs.Steps.{outputSize, keptSize, pageSize}
+use Rattle.vaultlines.specs.Steps.{keptSize}
+use Rattle.vaultlines.specs.inside.Steps.{outputSize, pageSize}
 use Rattle.vaultlines.proofs.Whole.{FeedTo, feedNone, feedEnd, feedLine, feedDone, roomThere, endWithin}
 use Rattle.vaultlines.proofs.feed.Statement.{statement}
 use Rattle.vaultlines.proofs.feed.Tie as tie

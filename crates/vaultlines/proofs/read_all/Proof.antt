@@ -6,7 +6,8 @@ use denote.Ref.{now}
 use borrow.Author.Needs.{needs}
 use lib.ListN.{length}
 use Rattle.vaultlines.specs.declared.Ended.the-variants.{Dry}
-use Rattle.vaultlines.specs.Steps.{outputSize, keptSize, pageSize, pieceSize, EndedWell}
+use Rattle.vaultlines.specs.Steps.{keptSize}
+use Rattle.vaultlines.specs.inside.Steps.{outputSize, pageSize, pieceSize, EndedWell}
 use Rattle.vaultlines.proofs.Whole.{endedNone, endedMore, pieceSmall}
 use Rattle.vaultlines.proofs.read_all.Statement.{statement}
 use Rattle.vaultlines.proofs.read_all.Tie as tie

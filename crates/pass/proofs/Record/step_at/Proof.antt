@@ -4,7 +4,7 @@ use Prim.Native.Nat.{ℕ, _<_}
 use mathlib.Core.Path.{_≡_, _∙_}
 use mathlib.Core.Logic.{_≢_}
 use Rattle.contents.specs.Contents.{contentsIn}
-use Rattle.acts.specs.Acts.{actAt}
+use Rattle.acts.specs.inside.Acts.{actAt}
 use Rattle.pass.proofs.Steps.{fromE, isH, numbered, tookAs}
 use Rattle.pass.proofs.Record.step_at.Statement.{statement}
 use Rattle.pass.proofs.Record.step_at.Tie as tie

@@ -1,0 +1,16 @@
+-- Demand 3, by contents: 'a single claim about the whole list, and not one for each call'. Proved as `demand3` in proofs/Demand.
+-- Assumes nothing.
+use Prim.Native.Nat.{ℕ, _<_}
+use mathlib.Core.Path.{_≡_}
+use mathlib.Core.Bool.{true}
+use mathlib.Core.List.{List}
+use Rattle.protocol.specs.inside.Runs.{Setting, Item, Run, Decides, Started}
+
+pub record Claim (c : Setting) (l : List Item) : Type 0 where
+  -- 'Any two decisions in the list, of one vault or of two, are for the same plan.'
+  pub agreement : (i j p q : ℕ) → Decides l i p → Decides l j q → p ≡ q
+  -- 'If the set is all n numbers, each decision's plan is that of an accepted start in the list.'
+  pub validity : ((i : ℕ) → i < c .vaults .n → c .keeps i ≡ true) → (i p : ℕ) → Decides l i p → Started p l
+
+abbrev pub Demand3 : Type 0
+Demand3 = (c : Setting) (l : List Item) → Run c l → Claim c l
