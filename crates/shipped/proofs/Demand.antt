@@ -1,22 +1,17 @@
--- Demand 3 of the program's own calls: what their contracts say is what the paper fixes.
+-- Demand 3 of the calls of crate vault: what their contracts say is what the paper fixes, and back.
 -- Assumes nothing.
 use Prim.Native.Nat.{ℕ}
 use mathlib.Core.Path.{_≡_}
 use mathlib.Core.List.{List, []}
 use denote.Ref.{RefT}
 use Rattle.vault.specs.declared.Answer.the-variants.{Written, Refused}
-use Rattle.vault.proofs.start.Statement as ofStart
-use Rattle.vault.proofs.frame.Statement as ofFrame
-use Rattle.vault.proofs.timer.Statement as ofTimer
-use Rattle.vault.proofs.start.Met as ownStart
-use Rattle.vault.proofs.frame.Met as ownFrame
-use Rattle.vault.proofs.timer.Met as ownTimer
 use Rattle.contents.specs.Calls.{Left, wrote, gave}
 use Rattle.runs.specs.Runs.{Call, start, frame, timer, leaves}
 use Rattle.runs.specs.Claim.{Demand3}
 use Rattle.runs.proofs.Demand.{demand3By}
-use Rattle.tied.specs.Tied.{Contract, byStart, byFrame, byTimer}
+use Rattle.shipped.specs.Contracts.{Contract, byStart, byFrame, byTimer}
 
+-- A run by the contracts is a run by what the paper fixes.
 contractFixed : (rec : List ℕ) (a : Call) (out : List ℕ) (left : Left) → Contract rec a out left → left ≡ leaves rec a out
 contractFixed rec a out left (byStart κs r o set plan answer rec′ out′ learnt) = learnt
 contractFixed rec a out left (byFrame κs r s o link answer rec′ out′ learnt) = learnt
@@ -25,19 +20,9 @@ contractFixed rec a out left (byTimer κs r o view answer rec′ out′ learnt) 
 pub demand3 : Demand3 Contract
 demand3 = demand3By contractFixed
 
--- The functions' own routines meet the contracts that `Contract` reads.
-pub startMet : {M : Type 1} → ofStart.statement M
-startMet = ownStart.met
-
-pub frameMet : {M : Type 1} → ofFrame.statement M
-frameMet = ownFrame.met
-
-pub timerMet : {M : Type 1} → ofTimer.statement M
-timerMet = ownTimer.met
-
 -- ---- and what the paper fixes is what the contracts let be: these runs leave no call out
 
-lent : List ℕ → RefT (List ℕ)
+unfoldable pub lent : List ℕ → RefT (List ℕ)
 lent xs = record { ptr = (0, 0); name = 0; now = xs }
 
 fixedContract : (rec : List ℕ) (a : Call) (out : List ℕ) (left : Left) → left ≡ leaves rec a out → Contract rec a out left
