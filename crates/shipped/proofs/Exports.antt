@@ -1,7 +1,7 @@
 -- Demand 3 of the exports. Their contracts say `numbered` of what the call leaves, and a number tells what that is: refusals are 1 to 19
 -- and counts stand above 256. So a run by the exports is a run by what the paper fixes, and back.
 -- Assumes nothing.
-use Prim.Native.Nat.{ℕ, _+_, _-_, _≤_}
+use Prim.Native.Nat.{ℕ, _+_, _-_}
 use mathlib.Core.Path.{_≡_, sym, ap, subst, _∙_}
 use mathlib.Core.Bool.{Bool, true, false, cond}
 use mathlib.Core.List.{List, []}
@@ -11,19 +11,22 @@ use borrow.Author.Tests.{lt-ltb, le-ltb}
 use Rattle.vault_c.specs.Numbers.{Seen, seen, numbered}
 use Rattle.vault_c.proofs.Small.{Small, small-start, small-frame, small-timer}
 use Rattle.contents.specs.Calls.{Left, wrote, gave, startLeft, frameLeft, timerLeft}
-use Rattle.runs.specs.Runs.{Call, start, frame, timer, leaves}
+use Rattle.runs.specs.Runs.{Call, start, frame, timer, leaves, Fixed}
 use Rattle.runs.specs.Claim.{Demand3}
 use Rattle.runs.proofs.Demand.{demand3By}
+use Rattle.shipped.specs.Contracts.{AsFixed}
 use Rattle.shipped.specs.Exports.{leftOf, NumbersTell, ExportContract, byStart, byFrame, byTimer}
 use Rattle.shipped.proofs.Demand.{lent}
 
 -- ---- a number tells what the call gave
 
+-- Of what is small; of what every call leaves.
 smallTells : (left : Left) → Small left → leftOf (numbered left) ≡ left
 unfolding leftOf
 smallTells (wrote count rec out) small =
-    ap (λ (b : Bool). cond b (gave (256 + count) rec out) (wrote (256 + count - 256) rec out)) (le-ltb (256 + count) 256 (omega arith))
-    ∙ ap (λ (k : ℕ). wrote k rec out) (omega arith)
+    let high : ltb (256 + count) 256 ≡ false = le-ltb (256 + count) 256 (omega arith) in
+    let less : 256 + count - 256 ≡ count = omega arith in
+    ap (λ (b : Bool). cond b (gave (256 + count) rec out) (wrote (256 + count - 256) rec out)) high ∙ ap (λ (k : ℕ). wrote k rec out) less
 smallTells (gave number rec out) small =
     let low : ltb number 256 ≡ true = lt-ltb number 256 (omega arith) in
     ap (λ (b : Bool). cond b (gave number rec out) (wrote (number - 256) rec out)) low
@@ -35,17 +38,18 @@ numbersTell rec (timer view) out = smallTells (timerLeft rec view out) (small-ti
 
 -- ---- the exports' runs are those that the paper fixes
 
-exportFixed : (rec : List ℕ) (a : Call) (out : List ℕ) (left : Left) → ExportContract rec a out left → left ≡ leaves rec a out
+exportFixed : (rec : List ℕ) (a : Call) (out : List ℕ) (left : Left) → ExportContract rec a out left → Fixed rec a out left
 exportFixed rec a out left (byStart κs r o n f id class plan number rec′ out′ learnt) = ap leftOf learnt ∙ numbersTell rec a out
 exportFixed rec a out left (byFrame κs r s o link number rec′ out′ learnt) = ap leftOf learnt ∙ numbersTell rec a out
 exportFixed rec a out left (byTimer κs r o view number rec′ out′ learnt) = ap leftOf learnt ∙ numbersTell rec a out
 
+-- The theorem of the exports.
 pub demand3 : Demand3 ExportContract
 demand3 = demand3By exportFixed
 
--- ---- and back: these runs leave no call out
+-- ---- and back: what the paper fixes is what the contracts let be
 
-fixedExport : (rec : List ℕ) (a : Call) (out : List ℕ) (left : Left) → left ≡ leaves rec a out → ExportContract rec a out left
+fixedExport : (rec : List ℕ) (a : Call) (out : List ℕ) (left : Left) → Fixed rec a out left → ExportContract rec a out left
 unfolding lent
 fixedExport rec a out left e =
     subst (ExportContract rec a out) (ap (λ (l : Left). leftOf (numbered l)) e ∙ numbersTell rec a out ∙ sym e) (by a (numbered left) (ap numbered e))
@@ -55,3 +59,6 @@ fixedExport rec a out left e =
         byStart ([], ([], tt)) (lent rec) (lent out) (set .n) (set .f) (set .id) (set .class) plan number rec′ out′ is
     by (frame link bytes) (seen number rec′ out′) is = byFrame ([], ([], ([], tt))) (lent rec) (lent bytes) (lent out) link number rec′ out′ is
     by (timer view) (seen number rec′ out′) is = byTimer ([], ([], tt)) (lent rec) (lent out) view number rec′ out′ is
+
+pub exportAsFixed : AsFixed ExportContract
+exportAsFixed rec a out left = (exportFixed rec a out left, fixedExport rec a out left)

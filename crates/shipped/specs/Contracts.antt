@@ -1,6 +1,7 @@
 -- The calls of a run, as the contracts of `start`, `frame` and `timer` of crate vault have them: whoever calls learns this and no more.
 -- Assumes nothing.
 use Prim.Native.Nat.{ℕ}
+use mathlib.Core.Logic.{_↔_}
 use mathlib.Core.List.{List}
 use contract.Lifetimes.{Lfts}
 use denote.Ref.{RefT, now, at-last}
@@ -11,7 +12,7 @@ use Rattle.vault.proofs.start.Reads as ofStart
 use Rattle.vault.proofs.frame.Reads as ofFrame
 use Rattle.vault.proofs.timer.Reads as ofTimer
 use Rattle.contents.specs.Calls.{Left}
-use Rattle.runs.specs.Runs.{Call, start, frame, timer}
+use Rattle.runs.specs.Runs.{Call, start, frame, timer, Rules, Fixed}
 
 -- Record r and output space o are lent, and have the bytes rec′ and out′ when the call is back.
 pub data Contract : List ℕ → Call → List ℕ → Left → Type 0 where
@@ -24,3 +25,8 @@ pub data Contract : List ℕ → Call → List ℕ → Left → Type 0 where
   byTimer : (κs : Lfts 2) (r o : RefT (List ℕ)) (view : ℕ) (a : Answer) (rec′ out′ : List ℕ)
       → ofTimer.Learnt κs (r, (view, (o, tt))) a (at-last r rec′, (view, (at-last o out′, tt)))
       → Contract (now r) (timer view) (now o) (leftBy a rec′ out′)
+
+-- 'They answer every call as this paper fixes, and so as the program's own calls do': calls by these rules are the calls that the paper fixes, with none left
+-- out. Proved as `contractAsFixed` and `exportAsFixed`.
+abbrev pub AsFixed : Rules → Type 0
+AsFixed keepsRules = (rec : List ℕ) (a : Call) (out : List ℕ) (left : Left) → keepsRules rec a out left ↔ Fixed rec a out left

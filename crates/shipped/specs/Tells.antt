@@ -72,12 +72,12 @@ TimerTells = Tells 2 timerKinds.ps timerKinds.r timer.routine
 abbrev pub ExportStartTells : Type 2
 ExportStartTells = Tells 2 exportStartKinds.ps exportStartKinds.r exportStart.routine
     (λ κs (rec, (n, (f, (id, (class, (plan, (out, _))))))) number (rec′, (_, (_, (_, (_, (_, (out′, _))))))).
-        seen number (now rec′) (now out′) ≡ numbered (startLeft (now rec) (record { n = n; f = f; id = id; class = class }) plan (now out)))
+    seen number (now rec′) (now out′) ≡ numbered (startLeft (now rec) (record { n = n; f = f; id = id; class = class }) plan (now out)))
 
 abbrev pub ExportFrameTells : Type 2
 ExportFrameTells = Tells 3 exportFrameKinds.ps exportFrameKinds.r exportFrame.routine
     (λ κs (rec, (link, (bytes, (out, _)))) number (rec′, (_, (_, (out′, _)))).
-        seen number (now rec′) (now out′) ≡ numbered (frameLeft (now rec) link (now bytes) (now out)))
+    seen number (now rec′) (now out′) ≡ numbered (frameLeft (now rec) link (now bytes) (now out)))
 
 abbrev pub ExportTimerTells : Type 2
 ExportTimerTells = Tells 2 exportTimerKinds.ps exportTimerKinds.r exportTimer.routine
