@@ -31,8 +31,10 @@ fixedContract : (rec : List ℕ) (a : Call) (out : List ℕ) (left : Left) → F
 unfolding lent
 fixedContract rec (start set plan) out (wrote count rec′ out′) e = byStart ([], ([], tt)) (lent rec) (lent out) set plan (Written count) rec′ out′ e
 fixedContract rec (start set plan) out (gave number rec′ out′) e = byStart ([], ([], tt)) (lent rec) (lent out) set plan (Refused number) rec′ out′ e
-fixedContract rec (frame link bytes) out (wrote count rec′ out′) e = byFrame ([], ([], ([], tt))) (lent rec) (lent bytes) (lent out) link (Written count) rec′ out′ e
-fixedContract rec (frame link bytes) out (gave number rec′ out′) e = byFrame ([], ([], ([], tt))) (lent rec) (lent bytes) (lent out) link (Refused number) rec′ out′ e
+fixedContract rec (frame link bytes) out (wrote count rec′ out′) e =
+    byFrame ([], ([], ([], tt))) (lent rec) (lent bytes) (lent out) link (Written count) rec′ out′ e
+fixedContract rec (frame link bytes) out (gave number rec′ out′) e =
+    byFrame ([], ([], ([], tt))) (lent rec) (lent bytes) (lent out) link (Refused number) rec′ out′ e
 fixedContract rec (timer view) out (wrote count rec′ out′) e = byTimer ([], ([], tt)) (lent rec) (lent out) view (Written count) rec′ out′ e
 fixedContract rec (timer view) out (gave number rec′ out′) e = byTimer ([], ([], tt)) (lent rec) (lent out) view (Refused number) rec′ out′ e
 

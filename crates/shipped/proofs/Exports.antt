@@ -10,31 +10,42 @@ use lib.Dec.{ltb}
 use borrow.Author.Tests.{lt-ltb, le-ltb}
 use Rattle.vault_c.specs.Numbers.{Seen, seen, numbered}
 use Rattle.vault_c.proofs.Small.{Small, small-start, small-frame, small-timer}
-use Rattle.contents.specs.Calls.{Left, wrote, gave, startLeft, frameLeft, timerLeft}
+use Rattle.contents.specs.Calls.{Left, wrote, gave}
 use Rattle.runs.specs.Runs.{Call, start, frame, timer, leaves, Fixed}
 use Rattle.runs.specs.Claim.{Demand3}
 use Rattle.runs.proofs.Demand.{demand3By}
 use Rattle.shipped.specs.Contracts.{AsFixed}
-use Rattle.shipped.specs.Exports.{leftOf, NumbersTell, ExportContract, byStart, byFrame, byTimer}
+use Rattle.shipped.specs.Exports.{InTable, RefusalNumbers, leftOf, NumbersTell, ExportContract, byStart, byFrame, byTimer}
 use Rattle.shipped.proofs.Demand.{lent}
 
 -- ---- a number tells what the call gave
 
--- Of what is small; of what every call leaves.
-smallTells : (left : Left) → Small left → leftOf (numbered left) ≡ left
+-- Every call leaves little: a refusal of the table, or a count of at most 205.
+smallLeft : (rec : List ℕ) (a : Call) (out : List ℕ) → Small (leaves rec a out)
+smallLeft rec (start set plan) out = small-start rec set plan out
+smallLeft rec (frame link bytes) out = small-frame rec link bytes out
+smallLeft rec (timer view) out = small-timer rec view out
+
+smallNumber : (left : Left) → Small left → InTable left
+smallNumber (wrote count rec out) small = tt
+smallNumber (gave number rec out) small = small
+
+pub refusalNumbers : RefusalNumbers
+refusalNumbers rec a out = smallNumber (leaves rec a out) (smallLeft rec a out)
+
+-- Below 256 is a refusal, and 256 taken off again is the count.
+tellsLeft : (left : Left) → InTable left → leftOf (numbered left) ≡ left
 unfolding leftOf
-smallTells (wrote count rec out) small =
+tellsLeft (wrote count rec out) small =
     let high : ltb (256 + count) 256 ≡ false = le-ltb (256 + count) 256 (omega arith) in
     let less : 256 + count - 256 ≡ count = omega arith in
     ap (λ (b : Bool). cond b (gave (256 + count) rec out) (wrote (256 + count - 256) rec out)) high ∙ ap (λ (k : ℕ). wrote k rec out) less
-smallTells (gave number rec out) small =
+tellsLeft (gave number rec out) small =
     let low : ltb number 256 ≡ true = lt-ltb number 256 (omega arith) in
     ap (λ (b : Bool). cond b (gave number rec out) (wrote (number - 256) rec out)) low
 
 pub numbersTell : NumbersTell
-numbersTell rec (start set plan) out = smallTells (startLeft rec set plan out) (small-start rec set plan out)
-numbersTell rec (frame link bytes) out = smallTells (frameLeft rec link bytes out) (small-frame rec link bytes out)
-numbersTell rec (timer view) out = smallTells (timerLeft rec view out) (small-timer rec view out)
+numbersTell rec a out = tellsLeft (leaves rec a out) (refusalNumbers rec a out)
 
 -- ---- the exports' runs are those that the paper fixes
 

@@ -13,20 +13,18 @@ use prog.Routine.{Routine, anyName}
 use ghost.Atoms.{sem}
 use contract.Monad.{fact}
 use contract.CodeStep.{c-tables}
-use contract.Running.{tables, tablesOf, givenOf}
-use contract.Adequate.{Satisfies, sat-weaken, sat-⇛, sat-ex∗, sat-fact}
-use denote.Triple.Entry.{onEntry}
-use denote.Triple.Bound.{Bound, passed}
-use denote.Triple.Statement.{Contract}
+use contract.Running.{tables, tablesOf}
+use contract.Adequate.{sat-weaken, sat-⇛, sat-ex∗, sat-fact}
+use denote.Triple.Bound.{passed}
+use denote.Triple.Statement.{Contract, Triple}
 use denote.Triple.Spec.{Back}
-use denote.Triple.Clauses.{Lasts, atExit, lasts}
+use denote.Triple.Clauses.{atExit, lasts}
 use denote.Triple.Walked.{Fit}
 use denote.Triple.Adequate.{adequate}
 use borrow.Fn.Kind.{PK, RK}
-use borrow.Fn.Kinds.{Out, resT, sigOf, endedOf, stays}
+use borrow.Fn.Kinds.{Out, sigOf, endedOf, stays}
 use borrow.Fn.Claims.{with-fact}
 use borrow.Fn.Function.{knownOf}
-use borrow.Fn.Plain.{Known}
 use borrow.Fn.Run.{Over}
 use borrow.Fn.World.{World, Pr}
 use Rattle.vault.proofs.start.Kinds as startKinds
@@ -53,74 +51,79 @@ use Rattle.vault_c.proofs.vault_timer.Reads as readExportTimer
 use Rattle.vault_c.proofs.vault_start.Met as metExportStart
 use Rattle.vault_c.proofs.vault_frame.Met as metExportFrame
 use Rattle.vault_c.proofs.vault_timer.Met as metExportTimer
-use Rattle.shipped.specs.Tells.{Ran, Tells, StartTells, FrameTells, TimerTells, ExportStartTells, ExportFrameTells, ExportTimerTells}
+use Rattle.shipped.specs.Tells.{Arguments, Answer, Last, Owned, lent, given, Ran, Tells, StartTells, FrameTells, TimerTells, ExportStartTells, ExportFrameTells, ExportTimerTells}
 
 module _ (n : ℕ) (ps : List (PK n)) (r : RK n) (ρ : Routine) (Says : Out n ps r) where
-  module _ (w : World) (x : Bound (w .𝓤) (w .H) (w .𝓖 .A) (sigOf n ps r)) (σ : Memory) (F : Pr w) where
-    -- What the caller knows the routine by.
-    abbrev plain : Contract (w .𝓤)
-    plain = knownOf (w .𝓤) (w .H) (w .𝓖 .A) n ps r (λ κs a. Unit {0}) Says
+  module _ (w : World) (x : Arguments n ps r w) (σ : Memory) (F : Pr w) where
+    abbrev _∗_ : Pr w → Pr w → Pr w
+    P ∗ Q = sep (w .𝓤) P Q
 
-    abbrev Ends : Lasts (endedOf n ps r) (x .0) (x .3) → Pr w
-    Ends last = sem (w .𝓤) (w .H) (w .𝓖 .A) (lasts (endedOf n ps r) (x .0) (x .3) last)
+    abbrev _⊢_ : Pr w → Pr w → Type 1
+    P ⊢ Q = ent (w .𝓤) P Q
 
-    abbrev Gives : Val → resT r (x .0) .Denot → Pr w
-    Gives v a = Back (w .𝓤) (w .H) (w .𝓖 .A) (sigOf n ps r) x v a
+    infix 26 _⊢_
+    infixr 35 _∗_
+    abbrev lastly : Last n ps r w x → Pr w
+    lastly last = sem (w .𝓤) (w .H) (w .𝓖 .A) (lasts (endedOf n ps r) (x .0) (x .3) last)
 
-    abbrev Holds : resT r (x .0) .Denot → Lasts (endedOf n ps r) (x .0) (x .3) → Type 0
-    Holds a last = Fit (endedOf n ps r) (stays ps) (x .0) (x .3) last × Says (x .0) (x .3) a (atExit (endedOf n ps r) (x .0) (x .3) last)
+    abbrev handed : Val → Answer n ps r w x → Pr w
+    handed v a = Back (w .𝓤) (w .H) (w .𝓖 .A) (sigOf n ps r) x v a
 
-    -- What the contract says at the end, of an answer and last values.
-    abbrev Said : Val → resT r (x .0) .Denot → Lasts (endedOf n ps r) (x .0) (x .3) → Pr w
-    Said v a last = sep (w .𝓤) (sep (w .𝓤) (Ends last) (fact (w .𝓤) (Holds a last))) (Gives v a)
+    -- What the caller is told at the end, of the answer and the last values.
+    abbrev Told : Answer n ps r w x → Last n ps r w x → Type 0
+    Told a last = Fit (endedOf n ps r) (stays ps) (x .0) (x .3) last × Says (x .0) (x .3) a (atExit (endedOf n ps r) (x .0) (x .3) last)
 
-    -- The fact stands beside what is owned, and is dropped from it.
-    isFact : (v : Val) (a : resT r (x .0) .Denot) (last : Lasts (endedOf n ps r) (x .0) (x .3)) → ent (w .𝓤) (Said v a last) (fact (w .𝓤) (Holds a last))
-    isFact v a last =
-        via (w .𝓤) (sep (w .𝓤) (Ends last) (fact (w .𝓤) (Holds a last))) (fst∗ (w .𝓤) (sep (w .𝓤) (Ends last) (fact (w .𝓤) (Holds a last))) (Gives v a))
-        (snd∗ (w .𝓤) (Ends last) (fact (w .𝓤) (Holds a last)))
+    abbrev told : Answer n ps r w x → Last n ps r w x → Pr w
+    told a last = fact (w .𝓤) (Told a last)
 
-    withoutFact : (v : Val) (a : resT r (x .0) .Denot) (last : Lasts (endedOf n ps r) (x .0) (x .3))
-        → ent (w .𝓤) (sep (w .𝓤) (Said v a last) F) (sep (w .𝓤) (sep (w .𝓤) (Ends last) (Gives v a)) F)
-    withoutFact v a last = monoL (w .𝓤) F (monoL (w .𝓤) (Gives v a) (fst∗ (w .𝓤) (Ends last) (fact (w .𝓤) (Holds a last))))
+    -- The contract's end, at an answer and last values.
+    abbrev ended : Val → Answer n ps r w x → Last n ps r w x → Pr w
+    ended v a last = (lastly last ∗ told a last) ∗ handed v a
+
+    -- What is told is a plain fact beside what is owned,
+    fromEnded : (v : Val) (a : Answer n ps r w x) (last : Last n ps r w x) → ended v a last ∗ F ⊢ told a last
+    fromEnded v a last =
+        via (w .𝓤) (ended v a last) (fst∗ (w .𝓤) (ended v a last) F)
+        (via (w .𝓤) (lastly last ∗ told a last) (fst∗ (w .𝓤) (lastly last ∗ told a last) (handed v a)) (snd∗ (w .𝓤) (lastly last) (told a last)))
+
+    -- and what is owned stays without it.
+    leftOwned : (v : Val) (a : Answer n ps r w x) (last : Last n ps r w x) → ended v a last ∗ F ⊢ given n ps r w x v a last ∗ F
+    leftOwned v a last = monoL (w .𝓤) F (monoL (w .𝓤) (handed v a) (fst∗ (w .𝓤) (lastly last) (told a last)))
 
     module _ (steps : ℕ) (v : Val) (after : Memory) (runs : ρ .step steps (passed (w .𝓤) (w .H) (w .𝓖 .A) (sigOf n ps r) x) σ ≡ done (v, after)) where
-      ranWith : (a : resT r (x .0) .Denot) (last : Lasts (endedOf n ps r) (x .0) (x .3))
-          → Satisfies (w .𝓤) (w .H) (w .𝓜) after (sep (w .𝓤) (Said v a last) F) → ∥ Ran n ps r ρ Says w x σ F ∥₁
-      ranWith a last s =
-          ∥∥₁-map (sat-fact (w .𝓤) (w .H) (w .𝓜) after (sep (w .𝓤) (Said v a last) F) (Holds a last)
-          (via (w .𝓤) (sep (w .𝓤) (Said v a last) F) (snd∗ (w .𝓤) (w .𝓜 .mem after) (sep (w .𝓤) (Said v a last) F))
-          (via (w .𝓤) (Said v a last) (fst∗ (w .𝓤) (Said v a last) F) (isFact v a last))) s)
-          (λ holds. record {
+      ranWith : (a : Answer n ps r w x) (last : Last n ps r w x) → Owned n ps r w after (ended v a last) F → ∥ Ran n ps r w ρ Says x σ F ∥₁
+      ranWith a last owned =
+          ∥∥₁-map (sat-fact (w .𝓤) (w .H) (w .𝓜) after (ended v a last ∗ F) (Told a last)
+          (via (w .𝓤) (ended v a last ∗ F) (snd∗ (w .𝓤) (w .𝓜 .mem after) (ended v a last ∗ F)) (fromEnded v a last)) owned)
+          (λ is. record {
             steps = steps;
             value = v;
             after = after;
             runs = runs;
             answer = a;
             last = last;
-            says = holds .1;
-            back = sat-weaken (w .𝓤) (w .H) (w .𝓜) after (withoutFact v a last) s;
+            says = is .1;
+            back = sat-weaken (w .𝓤) (w .H) (w .𝓜) after (leftOwned v a last) owned;
           })
 
-      ran : Satisfies (w .𝓤) (w .H) (w .𝓜) after (sep (w .𝓤) (plain .post (x, tt) v) F) → ∥ Ran n ps r ρ Says w x σ F ∥₁
-      ran s =
-          ∥∥₁-elim (sat-ex∗ (w .𝓤) (w .H) (w .𝓜) after (λ (a : resT r (x .0) .Denot). ex (w .𝓤) (Said v a)) F
-          (sat-⇛ (w .𝓤) (w .H) (w .𝓜) after (ex (w .𝓤) (λ (a : resT r (x .0) .Denot). ex (w .𝓤) (Said v a))) F s)) ∥∥₁-prop (λ t.
-          ∥∥₁-elim (sat-ex∗ (w .𝓤) (w .H) (w .𝓜) after (Said v (t .0)) F (t .1)) ∥∥₁-prop (λ u. ranWith (t .0) (u .0) (u .1)))
+      -- The answer and the last values are those that the contract's end says to be there.
+      ran : Owned n ps r w after (w .H .⇛ (ex (w .𝓤) (λ (a : Answer n ps r w x). ex (w .𝓤) (ended v a)))) F → ∥ Ran n ps r w ρ Says x σ F ∥₁
+      ran owned =
+          ∥∥₁-elim (sat-ex∗ (w .𝓤) (w .H) (w .𝓜) after (λ (a : Answer n ps r w x). ex (w .𝓤) (ended v a)) F
+          (sat-⇛ (w .𝓤) (w .H) (w .𝓜) after (ex (w .𝓤) (λ (a : Answer n ps r w x). ex (w .𝓤) (ended v a))) F owned)) ∥∥₁-prop (λ (a, some).
+          ∥∥₁-elim (sat-ex∗ (w .𝓤) (w .H) (w .𝓜) after (ended v a) F some) ∥∥₁-prop (λ (last, is). ranWith a last is))
 
-  -- A caller knows of ρ that it may be called whenever its arguments are lent, and that what is said holds then.
-  abbrev KnownTo : World → Type 1
-  KnownTo w =
-      Known (w .𝓤) (w .H) (w .𝓖 .A) (givenOf (w .𝓤) (w .H) (w .𝓜) (w .𝓖)) (Over (w .𝓤) (w .H) (w .𝓜) (w .𝓖) (w .𝓡) (λ _. ρ)) n ps r
-      (λ κs a. Unit {0}) Says anyName
+  -- What a caller knows ρ by: nothing is asked, and what is said holds at the end.
+  abbrev plain : (w : World) → Contract (w .𝓤)
+  plain w = knownOf (w .𝓤) (w .H) (w .𝓖 .A) n ps r (λ κs a. Unit {0}) Says
 
-  tells : ((w : World) → KnownTo w) → Tells n ps r ρ Says
+  -- A routine that is so known to its callers tells them what is said.
+  tells : ((w : World) → Triple (w .𝓤) (Over (w .𝓤) (w .H) (w .𝓜) (w .𝓖) (w .𝓡) (λ _. ρ) .C anyName) (plain w)) → Tells n ps r ρ Says
   unfolding tablesOf c-tables
-  tells known w x σ F lent =
-      let On : Pr w = onEntry (w .𝓤) (w .H) (w .𝓖 .A) (sigOf n ps r) (x .0) (x .1) (x .3) (x .4) in
-      ∥∥₁-elim (adequate (w .𝓤) (w .H) (w .𝓜) (tables (w .𝓤) (w .H) (w .𝓜) (w .𝓡) (λ _. ρ)) anyName (plain w x σ F) (known w) (x, tt) σ F
-      (sat-weaken (w .𝓤) (w .H) (w .𝓜) σ (monoL (w .𝓤) F (with-fact (w .𝓤) (Unit {0}) On tt)) lent)) ∥∥₁-prop
-      (λ t. ran w x σ F (t .0) (t .1) (t .2) (t .3) (t .4))
+  tells known w x σ F owned =
+      ∥∥₁-elim (adequate (w .𝓤) (w .H) (w .𝓜) (tables (w .𝓤) (w .H) (w .𝓜) (w .𝓡) (λ _. ρ)) anyName (plain w) (known w) (x, tt) σ F
+      (sat-weaken (w .𝓤) (w .H) (w .𝓜) σ (monoL (w .𝓤) F (with-fact (w .𝓤) (Unit {0}) (lent n ps r w x) tt)) owned)) ∥∥₁-prop
+      (λ (steps, v, after, runs, is). ran w x σ F steps v after runs is)
 
 -- ---- the calls of crate vault
 

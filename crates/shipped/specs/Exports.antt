@@ -1,6 +1,6 @@
 -- The calls of a run as hosts make them: by the contracts of the exports `vault_start`, `vault_frame` and `vault_timer`, whose answer is one number.
 -- Assumes nothing.
-use Prim.Native.Nat.{ℕ, _-_}
+use Prim.Native.Nat.{ℕ, _-_, _≤_}
 use mathlib.Core.Path.{_≡_}
 use mathlib.Core.Bool.{cond}
 use mathlib.Core.List.{List}
@@ -14,11 +14,19 @@ use Rattle.vault_c.proofs.vault_timer.Reads as ofTimer
 use Rattle.contents.specs.Calls.{Left, wrote, gave}
 use Rattle.runs.specs.Runs.{Call, start, frame, timer, leaves}
 
--- 'Each gives its number', which is below 256; 'Accepted calls return the byte count written', here above 256.
+-- 'Each gives its number': a refusal's is one of the table, 1 to 19. Proved as `refusalNumbers` in proofs/Exports.
+abbrev pub InTable : Left → Type 0
+InTable (wrote count rec out) = Unit {0}
+InTable (gave number rec out) = (1 ≤ number) × (number ≤ 19)
+
+abbrev pub RefusalNumbers : Type 0
+RefusalNumbers = (rec : List ℕ) (a : Call) (out : List ℕ) → InTable (leaves rec a out)
+
+-- What a host's number says. 'Each gives its number', which is below 256; 'Accepted calls return the byte count written', here above 256.
 unfoldable pub leftOf : Seen → Left
 leftOf (seen number rec out) = cond (ltb number 256) (gave number rec out) (wrote (number - 256) rec out)
 
--- A host's number says what the call gave. Proved as `numbersTell` in proofs/Exports.
+-- And it says what the call left. Proved as `numbersTell` in proofs/Exports.
 abbrev pub NumbersTell : Type 0
 NumbersTell = (rec : List ℕ) (a : Call) (out : List ℕ) → leftOf (numbered (leaves rec a out)) ≡ leaves rec a out
 

@@ -35,25 +35,46 @@ use Rattle.vault_c.proofs.vault_frame.Symbol as exportFrame
 use Rattle.vault_c.proofs.vault_timer.Symbol as exportTimer
 use Rattle.contents.specs.Calls.{startLeft, frameLeft, timerLeft}
 
--- A call's arguments x, as the logic has them: lifetimes .0, values .3 and machine values .4.
-module _ (n : ℕ) (ps : List (PK n)) (r : RK n) (ρ : Routine) (Says : Out n ps r) (w : World) (x : Bound (w .𝓤) (w .H) (w .𝓖 .A) (sigOf n ps r)) where
-  -- The machine's run of ρ from memory σ, to its end. What else is owned, F, is untouched, and what was lent is given back.
-  pub record Ran (σ : Memory) (F : Pr w) : Type 1 where
+module _ (n : ℕ) (ps : List (PK n)) (r : RK n) (w : World) where
+  -- A call's arguments, as the logic has them: lifetimes .0 with shares .1, values .3, and machine values .4.
+  abbrev pub Arguments : Type 0
+  Arguments = Bound (w .𝓤) (w .H) (w .𝓖 .A) (sigOf n ps r)
+
+  abbrev pub Answer : Arguments → Type 0
+  Answer x = resT r (x .0) .Denot
+
+  -- What the lent slices hold at the end.
+  abbrev pub Last : Arguments → Type 0
+  Last x = Lasts (endedOf n ps r) (x .0) (x .3)
+
+  -- The machine's memory is σ, and in it P is owned, and F besides.
+  abbrev pub Owned : Memory → Pr w → Pr w → Type 1
+  Owned σ P F = Satisfies (w .𝓤) (w .H) (w .𝓜) σ (sep (w .𝓤) P F)
+
+  -- The arguments are lent.
+  abbrev pub lent : Arguments → Pr w
+  lent x = onEntry (w .𝓤) (w .H) (w .𝓖 .A) (sigOf n ps r) (x .0) (x .1) (x .3) (x .4)
+
+  -- They are given back as they are at the end, with the answer, which is v to the machine.
+  abbrev pub given : (x : Arguments) → Val → Answer x → Last x → Pr w
+  given x v answer last =
+      sep (w .𝓤) (sem (w .𝓤) (w .H) (w .𝓖 .A) (lasts (endedOf n ps r) (x .0) (x .3) last)) (Back (w .𝓤) (w .H) (w .𝓖 .A) (sigOf n ps r) x v answer)
+
+  -- The machine has run ρ from memory σ, to its end; what is said holds of answer and last values, and what else was owned, F, is untouched.
+  pub record Ran (ρ : Routine) (Says : Out n ps r) (x : Arguments) (σ : Memory) (F : Pr w) : Type 1 where
     pub steps : ℕ
     pub value : Val
     pub after : Memory
     pub runs : ρ .step steps (passed (w .𝓤) (w .H) (w .𝓖 .A) (sigOf n ps r) x) σ ≡ done (value, after)
-    pub answer : resT r (x .0) .Denot
-    pub last : Lasts (endedOf n ps r) (x .0) (x .3)
+    pub answer : Answer x
+    pub last : Last x
     pub says : Says (x .0) (x .3) answer (atExit (endedOf n ps r) (x .0) (x .3) last)
-    pub back : Satisfies (w .𝓤) (w .H) (w .𝓜) after
-        (sep (w .𝓤) (sep (w .𝓤) (sem (w .𝓤) (w .H) (w .𝓖 .A) (lasts (endedOf n ps r) (x .0) (x .3) last)) (Back (w .𝓤) (w .H) (w .𝓖 .A) (sigOf n ps r) x value answer)) F)
+    pub back : Owned after (given x value answer last) F
 
--- From every memory in which the arguments are lent, and with nothing else asked, ρ ends and its caller learns what is said.
+-- From every memory in which the arguments are lent, with nothing else asked, ρ ends and its caller learns what is said.
 abbrev pub Tells : (n : ℕ) (ps : List (PK n)) (r : RK n) → Routine → Out n ps r → Type 2
-Tells n ps r ρ Says = (w : World) (x : Bound (w .𝓤) (w .H) (w .𝓖 .A) (sigOf n ps r)) (σ : Memory) (F : Pr w)
-    → Satisfies (w .𝓤) (w .H) (w .𝓜) σ (sep (w .𝓤) (onEntry (w .𝓤) (w .H) (w .𝓖 .A) (sigOf n ps r) (x .0) (x .1) (x .3) (x .4)) F)
-    → ∥ Ran n ps r ρ Says w x σ F ∥₁
+Tells n ps r ρ Says =
+    (w : World) (x : Arguments n ps r w) (σ : Memory) (F : Pr w) → Owned n ps r w σ (lent n ps r w x) F → ∥ Ran n ps r w ρ Says x σ F ∥₁
 
 -- `start`, `frame` and `timer` of crate vault.
 abbrev pub StartTells : Type 2

@@ -56,7 +56,8 @@ readNamed s link n own = go (eqb (refusal s link n own) 0) refl
     go true e = tt
     go false e =
         let given : refusal s link n own ≡ 0 → ⊥ = eqb-false (refusal s link n own) 0 e in
-        let low : refusal s link n own ≤ 19 = firstLow (formRows s ++ (linkRows (getD s 1 0) link n own ++ (contentRows (decode s) ++ leaderRows (decode s) n own))) (omega arith) in
+        let rows = formRows s ++ (linkRows (getD s 1 0) link n own ++ (contentRows (decode s) ++ leaderRows (decode s) n own)) in
+        let low : refusal s link n own ≤ 19 = firstLow rows (omega arith) in
         omega arith
 
 pub answerNamed : (b : Option Record) (a : Call) → Brings a → Named (answer b a)
