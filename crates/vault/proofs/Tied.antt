@@ -1,5 +1,5 @@
 -- Whoever calls learns what the paper fixes: the contract of each call, as its caller reads it, names the answer and every byte of
--- record and output. Crate tied builds document 01's runs from the same contracts; here a contract that says less is refused at once.
+-- record and output. Crate shipped builds document 01's runs from the same contracts; here a contract that says less is refused at once.
 -- Assumes nothing.
 use Prim.Native.Nat.{ℕ}
 use mathlib.Core.Path.{_≡_}

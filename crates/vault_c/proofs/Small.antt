@@ -1,5 +1,5 @@
--- No call counts more than 205 bytes, so a host's number is below 512. An accepted call's entries are that short by contents
--- (`outputShort`), and what a call leaves on lent bytes is a refusal or such an answer.
+-- No call counts more than 205 bytes, so a host's number is below 512; and a refusal's number is 1 to 19, so the number tells which it is. An
+-- accepted call's entries are that short by contents (`outputShort`), and what a call leaves on lent bytes is a refusal or such an answer.
 -- Assumes nothing.
 use Prim.Native.Nat.{ℕ, _≤_}
 use mathlib.Core.Path.{_≡_, refl, sym, ap, subst, _∙_}
@@ -21,48 +21,52 @@ use Rattle.protocol.proofs.Size.{outputShort}
 use Rattle.vault.specs.declared.Answer.{Answer as Given}
 use Rattle.vault.specs.declared.Answer.the-variants.{Written, Refused}
 use Rattle.vault.specs.Answers.{leftBy}
-use Rattle.vault_c.specs.Numbers.{seen, numbered}
 use Rattle.vault_c.specs.inside.Numbers.{code, Short}
+use Rattle.vault_c.specs.Numbers.{seen, numbered}
+use Rattle.vault_c.proofs.Refusals.{Refusal, Named, Brings, readNamed, answerNamed}
 use Rattle.contents.specs.Contents.{contents}
 use Rattle.contents.specs.Calls.{after, onLent, called, startLeft, frameLeft, timerLeft}
 use Rattle.contents.specs.Left.{Left, wrote, gave}
 
 abbrev pub Small : Left → Type 0
 Small (wrote count rec out) = count ≤ 205
-Small (gave number rec out) = Unit {0}
+Small (gave number rec out) = Refusal number
 
-module _ (rec out : List ℕ) (a : Call) where
+module _ (rec out : List ℕ) (a : Call) (brings : Brings a) where
   small-after : (b : Option Record) → Small (after rec out (answer b a))
-  small-after b = go (answer b a) refl
+  small-after b = go (answer b a) refl (answerNamed b a brings)
     where
-      go : (u : Answer) → answer b a ≡ u → Small (after rec out u)
-      go (refused k) e = tt
-      go (accepted o) e = outputShort b a o e
+      go : (u : Answer) → answer b a ≡ u → Named u → Small (after rec out u)
+      go (refused k) e named = named
+      go (accepted o) e named = outputShort b a o e
 
-  small-lent : (l : Lent) (k : ℕ) (r : Record) → Small (after rec out (onLent l k r a))
-  small-lent Blank k r = small-after none
-  small-lent Unsound k r = tt
-  small-lent Sound k r = small-after (some r)
+  small-lent : (l : Lent) (k : ℕ) (r : Record) → Refusal k → Small (after rec out (onLent l k r a))
+  small-lent Blank k r named = small-after none
+  small-lent Unsound k r named = named
+  small-lent Sound k r named = small-after (some r)
 
-  small-called : (k : ℕ) → Small (called k rec out a)
+  small-called : (k : ℕ) → Refusal k → Small (called k rec out a)
   unfolding called
-  small-called k = go (ltb (length out) 256)
+  small-called k named = go (ltb (length out) 256)
     where
       go : (b : Bool) → Small (cond b (gave 1 rec out) (after rec out (onLent (lentIs rec) k (contents (decodeRecord rec)) a)))
-      go true = tt
-      go false = small-lent (lentIs rec) k (contents (decodeRecord rec))
+      go true = omega arith
+      go false = small-lent (lentIs rec) k (contents (decodeRecord rec)) named
 
 pub small-start : (rec : List ℕ) (set : Settings) (plan : ℕ) (out : List ℕ) → Small (startLeft rec set plan out)
 unfolding startLeft
-small-start rec set plan out = small-called rec out (start set plan) 4
+small-start rec set plan out = small-called rec out (start set plan) tt 4 (omega arith)
 
 pub small-frame : (rec : List ℕ) (link : ℕ) (bytes out : List ℕ) → Small (frameLeft rec link bytes out)
 unfolding frameLeft
-small-frame rec link bytes out = small-called rec out (frame (readFrame bytes link (decodeRecord rec .set .n) (decodeRecord rec .set .id))) 3
+small-frame rec link bytes out =
+    let n = decodeRecord rec .set .n in
+    let id = decodeRecord rec .set .id in
+    small-called rec out (frame (readFrame bytes link n id)) (readNamed bytes link n id) 3 (omega arith)
 
 pub small-timer : (rec : List ℕ) (view : ℕ) (out : List ℕ) → Small (timerLeft rec view out)
 unfolding timerLeft
-small-timer rec view out = small-called rec out (timer view) 3
+small-timer rec view out = small-called rec out (timer view) tt 3 (omega arith)
 
 -- the answer of a call that leaves little is short
 pub short-by : (a : Given) (rec out : List ℕ) (l : Left) → leftBy a rec out ≡ l → Small l → Short a

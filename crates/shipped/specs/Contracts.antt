@@ -1,4 +1,4 @@
--- The calls of a run, as the contracts of the program's own functions have them: whoever calls learns this and no more.
+-- The calls of a run, as the contracts of `start`, `frame` and `timer` of crate vault have them: whoever calls learns this and no more.
 -- Assumes nothing.
 use Prim.Native.Nat.{ℕ}
 use mathlib.Core.List.{List}

@@ -1,0 +1,40 @@
+-- Whoever calls an export learns what the paper fixes, with the answer as one number. Crate shipped builds document 01's runs from the same contracts;
+-- here a contract that says less, or asks for something, is refused at once.
+-- Assumes nothing.
+use Prim.Native.Nat.{ℕ}
+use mathlib.Core.Path.{_≡_}
+use mathlib.Core.List.{List}
+use contract.Lifetimes.{Lfts}
+use denote.Ref.{RefT, now, at-last}
+use Rattle.contents.specs.Calls.{startLeft, frameLeft, timerLeft}
+use Rattle.vault_c.specs.Numbers.{seen, numbered}
+use Rattle.vault_c.proofs.vault_start.Reads as ofStart
+use Rattle.vault_c.proofs.vault_frame.Reads as ofFrame
+use Rattle.vault_c.proofs.vault_timer.Reads as ofTimer
+
+-- Start asks for nothing of what it is lent.
+startTakes : (κs : Lfts 2) (r o : RefT (List ℕ)) (n f id class plan : ℕ) → ofStart.Asked κs (r, (n, (f, (id, (class, (plan, (o, tt)))))))
+startTakes κs r o n f id class plan = tt
+
+startSaid : (κs : Lfts 2) (r o : RefT (List ℕ)) (n f id class plan number : ℕ) (rec out : List ℕ)
+    → ofStart.Learnt κs (r, (n, (f, (id, (class, (plan, (o, tt))))))) number (at-last r rec, (n, (f, (id, (class, (plan, (at-last o out, tt)))))))
+    → seen number rec out ≡ numbered (startLeft (now r) (record { n = n; f = f; id = id; class = class }) plan (now o))
+startSaid κs r o n f id class plan number rec out learnt = learnt
+
+-- So does frame.
+frameTakes : (κs : Lfts 3) (r s o : RefT (List ℕ)) (link : ℕ) → ofFrame.Asked κs (r, (link, (s, (o, tt))))
+frameTakes κs r s o link = tt
+
+frameSaid : (κs : Lfts 3) (r s o : RefT (List ℕ)) (link number : ℕ) (rec out : List ℕ)
+    → ofFrame.Learnt κs (r, (link, (s, (o, tt)))) number (at-last r rec, (link, (s, (at-last o out, tt))))
+    → seen number rec out ≡ numbered (frameLeft (now r) link (now s) (now o))
+frameSaid κs r s o link number rec out learnt = learnt
+
+-- And so does timer.
+timerTakes : (κs : Lfts 2) (r o : RefT (List ℕ)) (view : ℕ) → ofTimer.Asked κs (r, (view, (o, tt)))
+timerTakes κs r o view = tt
+
+timerSaid : (κs : Lfts 2) (r o : RefT (List ℕ)) (view number : ℕ) (rec out : List ℕ)
+    → ofTimer.Learnt κs (r, (view, (o, tt))) number (at-last r rec, (view, (at-last o out, tt)))
+    → seen number rec out ≡ numbered (timerLeft (now r) view (now o))
+timerSaid κs r o view number rec out learnt = learnt
