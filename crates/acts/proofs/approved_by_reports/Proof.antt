@@ -1,6 +1,10 @@
 -- `acts::approved_by_reports` meets its contract: the table has the proofs kept.
 -- Assumes nothing.
-use mathlib.Core.Path.{_∙_, ap}
+use mathlib.Core.Path.{_≡_, _∙_, ap}
+use Rattle.rules.specs.Rules.{rule3}
+use Rattle.rules.specs.Counts.{safe}
+use Rattle.claims.specs.Table.{reportsIn}
+use Rattle.settings.specs.Settings.{vaultsOf}
 use Rattle.protocol.specs.Record.{Record}
 use Rattle.acts.proofs.Parts.{blockLength, seen, seat, contentsSeen, reads}
 use Rattle.acts.specs.inside.Reports.{approvedBy}
@@ -45,7 +49,8 @@ returns c =
     let r = seen s (a .set) (a .view) in
     let here = reads s (a .set) (a .view) (e .pre .0) (e .pre .1) (e .pre .2) in
     let is = contentsSeen s (a .set) (a .view) (e .pre .0) (e .pre .1) (e .pre .2) in
-    c .safe-by .ensures ∙ approvedIs s r here (table .gather .result) (a .p) (table .gather .ensures) ∙ ap (λ (x : Record). approvedBy x (a .p)) is
+    let told : c .safe-by .result ≡ safe rule3 (vaultsOf (a .set)) (reportsIn (table .gather .result)) (a .view) (a .p) = c .safe-by .ensures in
+    told ∙ approvedIs s r here (table .gather .result) (a .p) (table .gather .ensures) ∙ ap (λ (x : Record). approvedBy x (a .p)) is
 
 pub approved-by-reports-spec : {M : Type 1} → statement M
 approved-by-reports-spec =

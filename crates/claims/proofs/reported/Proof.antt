@@ -1,6 +1,7 @@
 -- `claims::reported` meets its contract.
 -- The vault's place in the first column is not 0.
 -- Assumes nothing.
+use mathlib.Core.Path.{refl}
 use borrow.Author.Needs.{needs}
 use borrow.Author.Tests.{lt-ltb}
 use Rattle.claims.specs.Table.{reporter}
@@ -15,7 +16,7 @@ shared-slice-read-result c = search needs
 
 returns : tie.Need-returns
 unfolding reporter
-returns c = simp (lt-ltb _ _ (c .before .pre .1))
+returns c = simp (lt-ltb _ _ (c .before .pre .1)) refl
 
 pub reported-spec : {M : Type 1} → statement M
 reported-spec = tie.close (tie.spec mul-result shared-slice-read-result returns)
