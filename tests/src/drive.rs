@@ -134,14 +134,20 @@ impl Driver {
         rec
     }
 
-    /// Calls on a copy that is damaged, or of a wrong length.
+    /// Calls on a copy that is damaged or of a wrong length, or on any bytes.
     fn damaged(&mut self, rec: &[u8]) {
         let mut copy = rec.to_vec();
         for _ in 0..1 + self.rng.below(3) {
             harm(&mut self.rng, &mut copy);
         }
-        if self.rng.one_in(40) {
-            copy.resize(LEN + 3 - self.rng.below(7) as usize, 0);
+        match self.rng.below(80) {
+            0 | 1 => copy.resize(LEN + 3 - self.rng.below(7) as usize, 0),
+            2 => {
+                copy.resize(self.rng.below(2 * LEN as u64) as usize, 0);
+                self.rng.fill(&mut copy);
+            }
+            3 => self.rng.fill(&mut copy),
+            _ => {}
         }
         for _ in 0..4 {
             self.any(&mut copy);
