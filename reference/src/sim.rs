@@ -177,6 +177,7 @@ pub struct Accepted {
 }
 
 /// A vault that keeps the rules, in the forms that the mode needs.
+#[derive(Clone)]
 struct Keeper {
     record: Option<Box<Record>>,
     bytes: Vec<u8>,
@@ -186,13 +187,24 @@ struct Keeper {
     vote_1: Option<u64>,
     /// Kind and view of each frame that may go out once a view.
     written: HashSet<(u8, u32)>,
+    /// The vault as its host stored it last.
+    stored: Option<Box<Keeper>>,
 }
 
-#[derive(Clone, Copy)]
-enum Call<'a> {
-    Start { class: u8, plan: u64 },
-    Frame { link: u8, bytes: &'a [u8] },
+/// One call at a vault that keeps the rules.
+#[derive(Clone, PartialEq, Eq, Debug)]
+pub enum Call {
+    Start { settings: Settings, plan: u64 },
+    Frame { link: u8, bytes: Vec<u8> },
     Timer { view: u32 },
+}
+
+/// One item of a run. Only a sabotaged host restores a record that is not the latest.
+#[derive(Clone, PartialEq, Eq, Debug)]
+pub enum Act {
+    Call(Call),
+    Store,
+    Restore,
 }
 
 pub struct Network {
@@ -212,6 +224,8 @@ pub struct Network {
     locked_plans: HashSet<u64>,
     tally: Tally,
     wrong: Option<Wrong>,
+    /// Told of every act before it is done.
+    told: fn(u8, &Act),
     /// For output spaces and blank records only, so that all modes see one schedule.
     spaces: Rng,
 }
@@ -238,23 +252,64 @@ impl Network {
             locked_plans: HashSet::new(),
             tally: Tally::default(),
             wrong: None,
+            told: |_, _| {},
             spaces,
         }
     }
 
     pub fn start(&mut self, id: u8, class: u8, plan: u64) -> Result<(), u8> {
-        self.call(id, Call::Start { class, plan })
+        let settings = Settings { n: self.n, f: self.f, id, class };
+        self.call(id, Call::Start { settings, plan })
     }
 
     pub fn timer(&mut self, id: u8, view: u32) -> Result<(), u8> {
         self.call(id, Call::Timer { view })
     }
 
+    fn call(&mut self, id: u8, call: Call) -> Result<(), u8> {
+        self.act(id, Act::Call(call))
+    }
+
+    /// Does one act. After the first thing found wrong nothing more is done.
+    fn act(&mut self, id: u8, act: Act) -> Result<(), u8> {
+        if self.wrong.is_some() {
+            return Err(0);
+        }
+        (self.told)(id, &act);
+        match act {
+            Act::Call(call) => return self.answered(id, &call),
+            Act::Store => {
+                let keeper = Keeper { stored: None, ..self.keeper(id).clone() };
+                self.keeper_mut(id).stored = Some(Box::new(keeper));
+            }
+            Act::Restore => {
+                if let Some(stored) = self.keeper_mut(id).stored.take() {
+                    *self.keeper_mut(id) = *stored;
+                }
+            }
+        }
+        Ok(())
+    }
+
+    /// Whether a run may have this act next: a frame of a rule-keeping sender must have been written.
+    fn may(&self, id: u8, act: &Act) -> bool {
+        let Act::Call(Call::Frame { link, bytes }) = act else { return true };
+        let lies = self.vaults.get(usize::from(*link)).is_none_or(Option::is_none);
+        let written = |frame: Frame| {
+            let places = self.places.get(&(frame.view, frame.kind)).map_or(&[][..], Vec::as_slice);
+            places
+                .iter()
+                .map(|&index| self.sent[index])
+                .any(|sent| sent.frame == frame && sent.to.is_none_or(|to| to == id))
+        };
+        lies || frame::parse(bytes).is_some_and(written)
+    }
+
     /// Delivers a frame of a rule-keeping sender just as an accepted call wrote it.
     fn deliver(&mut self, index: usize, to: u8) -> Result<(), u8> {
         let Sent { to: wanted, frame } = self.sent[index];
         assert!(wanted.is_none_or(|id| id == to), "an entry for all or for this vault");
-        self.call(to, Call::Frame { link: frame.sender, bytes: &frame::write(&frame) })
+        self.call(to, Call::Frame { link: frame.sender, bytes: frame::write(&frame) })
     }
 
     /// A liar's frame, well-formed or not by its contents.
@@ -265,7 +320,7 @@ impl Network {
     /// A liar's bytes.
     pub fn lie_bytes(&mut self, liar: u8, to: u8, bytes: &[u8]) -> Result<(), u8> {
         assert!(liar >= self.n || self.vaults[usize::from(liar)].is_none());
-        self.call(to, Call::Frame { link: liar, bytes })
+        self.call(to, Call::Frame { link: liar, bytes: bytes.to_vec() })
     }
 
     pub fn view(&self, id: u8) -> Option<u32> {
@@ -334,7 +389,7 @@ impl Network {
 
     // ----- Calls.
 
-    fn call(&mut self, id: u8, call: Call) -> Result<(), u8> {
+    fn answered(&mut self, id: u8, call: &Call) -> Result<(), u8> {
         let answer = match self.mode {
             Mode::Contents => self.by_contents(id, call).map(|done| self.keep(id, done)),
             Mode::Bytes => self.by_bytes(id, call).map(|entries| (entries, None)),
@@ -343,7 +398,7 @@ impl Network {
         match answer {
             Ok((entries, clause)) => {
                 self.tally.accepted += 1;
-                if let Call::Start { plan, .. } = call {
+                if let Call::Start { plan, .. } = *call {
                     self.keeper_mut(id).plan = plan;
                 }
                 self.absorb(id, &entries, clause);
@@ -357,17 +412,17 @@ impl Network {
     }
 
     /// A blank record stands outside the vault by contents, so 2 and 4 are given here.
-    fn by_contents(&self, id: u8, call: Call) -> Result<Done, u8> {
+    fn by_contents(&self, id: u8, call: &Call) -> Result<Done, u8> {
         match (call, self.keeper(id).record.as_deref()) {
             (Call::Start { .. }, Some(_)) => Err(4),
-            (Call::Start { class, plan }, None) => {
-                vault::start_with(self.fault, self.n, self.f, id, class, plan)
+            (&Call::Start { settings: Settings { n, f, id, class }, plan }, None) => {
+                vault::start_with(self.fault, n, f, id, class, plan)
             }
             (_, None) => Err(2),
             (Call::Frame { link, bytes }, Some(record)) => {
-                vault::frame_with(self.fault, record, link, bytes)
+                vault::frame_with(self.fault, record, *link, bytes)
             }
-            (Call::Timer { view }, Some(record)) => vault::timer_with(self.fault, record, view),
+            (Call::Timer { view }, Some(record)) => vault::timer_with(self.fault, record, *view),
         }
     }
 
@@ -380,7 +435,7 @@ impl Network {
         (done.entries, done.clause)
     }
 
-    fn by_bytes(&mut self, id: u8, call: Call) -> Result<Vec<Entry>, u8> {
+    fn by_bytes(&mut self, id: u8, call: &Call) -> Result<Vec<Entry>, u8> {
         if chance(&mut self.spaces, 1, 32) {
             self.try_short_output(id, call);
         }
@@ -410,7 +465,7 @@ impl Network {
     }
 
     /// Too little output space refuses every call and changes nothing.
-    fn try_short_output(&mut self, id: u8, call: Call) {
+    fn try_short_output(&mut self, id: u8, call: &Call) {
         let mut out = vec![0x5a; self.spaces.below(OUTPUT_LIMIT as u64) as usize];
         let before = self.keeper(id).bytes.clone();
         let answer = self.raw_call(id, call, &mut out);
@@ -422,17 +477,18 @@ impl Network {
         }
     }
 
-    fn raw_call(&mut self, id: u8, call: Call, out: &mut [u8]) -> Result<usize, u8> {
-        let (n, f) = (self.n, self.f);
+    fn raw_call(&mut self, id: u8, call: &Call, out: &mut [u8]) -> Result<usize, u8> {
         let rec = &mut self.keeper_mut(id).bytes;
         match call {
-            Call::Start { class, plan } => calls::start(rec, n, f, id, class, plan, out),
-            Call::Frame { link, bytes } => calls::frame(rec, link, bytes, out),
-            Call::Timer { view } => calls::timer(rec, view, out),
+            &Call::Start { settings: Settings { n, f, id, class }, plan } => {
+                calls::start(rec, n, f, id, class, plan, out)
+            }
+            Call::Frame { link, bytes } => calls::frame(rec, *link, bytes, out),
+            Call::Timer { view } => calls::timer(rec, *view, out),
         }
     }
 
-    fn by_both(&mut self, id: u8, call: Call) -> Result<(Vec<Entry>, Option<Clause>), u8> {
+    fn by_both(&mut self, id: u8, call: &Call) -> Result<(Vec<Entry>, Option<Clause>), u8> {
         let by_contents = self.by_contents(id, call);
         let by_bytes = self.by_bytes(id, call);
         match (by_contents, by_bytes) {
@@ -551,6 +607,9 @@ impl Network {
         self.decisions.push((id, decision));
         self.tally.decisions += 1;
         self.tally.late_decisions += u64::from(decision.view > 0);
+        if let Some(wrong) = self.disagreement() {
+            self.note(wrong);
+        }
     }
 
     fn absorb_clause(&mut self, id: u8, clause: Clause) {
@@ -589,8 +648,7 @@ impl Network {
     pub fn finish(mut self) -> Outcome {
         self.tally.runs = 1;
         self.tally.two_plans_locked = u64::from(self.locked_plans.len() > 1);
-        let wrong =
-            self.wrong.clone().or_else(|| self.disagreement()).or_else(|| self.nobodys_plan());
+        let wrong = self.wrong.clone().or_else(|| self.nobodys_plan());
         let started = self.vaults.iter().flatten().filter(|keeper| keeper.view.is_some()).count();
         Outcome { tally: self.tally, decisions: self.decisions, started, wrong }
     }
@@ -607,6 +665,7 @@ impl Keeper {
             decided: false,
             vote_1: None,
             written: HashSet::new(),
+            stored: None,
         }
     }
 }
@@ -655,6 +714,10 @@ pub enum Style {
     Partitions,
     /// Any frame to any vault at any time.
     Chaos,
+    /// Views that a liar leads, in which each half of the vaults is shown a plan of its own.
+    Camps,
+    /// Camps with a vault in both, whose host lends it an older record in between: sabotage.
+    OlderRecord,
     /// Lossless links in order, silent liars, timers only when nothing is on its way.
     Calm,
 }
@@ -673,16 +736,35 @@ pub struct Setup {
 
 /// One whole run with its check.
 pub fn run(setup: &Setup) -> Outcome {
+    run_told(setup, |_, _| {})
+}
+
+/// `run`, with each act told before it is done.
+pub fn run_told(setup: &Setup, told: fn(u8, &Act)) -> Outcome {
     let mut director = Director::new(setup);
+    director.net.told = told;
     director.start_vaults(setup.style);
     match setup.style {
         Style::Rounds => director.rounds(),
         Style::Feints => director.feints(),
         Style::Partitions => director.partitions(),
         Style::Chaos => director.chaos(),
+        Style::Camps => director.camps(false),
+        Style::OlderRecord => director.camps(true),
         Style::Calm => director.calm(),
     }
     director.net.finish()
+}
+
+/// The network of a setup under a list of acts; what a run may not have is left out.
+pub fn replay(setup: &Setup, acts: &[(u8, Act)]) -> Outcome {
+    let mut net = Director::new(setup).net;
+    for (id, act) in acts {
+        if net.may(*id, act) {
+            let _ = net.act(*id, act.clone());
+        }
+    }
+    net.finish()
 }
 
 struct Director {
@@ -738,7 +820,8 @@ impl Director {
     fn start(&mut self, id: u8) {
         let plan = self.rng.pick(&self.plans);
         let class = self.rng.below(8) as u8;
-        self.net.start(id, class, plan).expect("right settings on a blank record");
+        let answer = self.net.start(id, class, plan);
+        assert!(answer.is_ok() || self.net.wrong.is_some(), "right settings on a blank record");
     }
 
     fn start_late(&mut self) {
@@ -1121,6 +1204,54 @@ impl Director {
         }
     }
 
+    // ----- Camps.
+
+    fn camps(&mut self, older: bool) {
+        for _ in 0..1 + self.rng.below(3) {
+            self.start_late();
+            self.change_view(4);
+            self.go_to_leader(true);
+            let view = self.front();
+            let mut plans = self.plans.clone();
+            shuffle(&mut self.rng, &mut plans);
+            let mut one = self.at(view);
+            let both = if older { one.pop() } else { None };
+            let mut other = one.split_off(one.len() / 2);
+            one.extend(both);
+            other.extend(both);
+            both.map(|id| self.net.act(id, Act::Store));
+            self.camp(&one, plans[0]);
+            both.map(|id| self.net.act(id, Act::Restore));
+            self.camp(&other, plans[1]);
+            self.stir();
+        }
+        self.heal();
+    }
+
+    /// These vaults and the liars alone, as far as they get with one plan: votes for others are
+    /// held back.
+    fn camp(&mut self, vaults: &[u8], plan: u64) {
+        let view = self.front();
+        for &to in vaults {
+            if view > 0 {
+                self.give_reports(view, PROOF, to, plan, 4);
+            }
+            self.give_proposal(view, to, plan, 4);
+        }
+        for kind in VOTE_1..=VOTE_4 {
+            for &to in vaults {
+                for liar in self.liars.clone() {
+                    self.lie(liar, to, kind, view, Body::Plan(plan));
+                }
+                for index in self.net.deliverable(view, kind, to) {
+                    if self.net.sent[index].frame.plan() == Some(plan) {
+                        let _ = self.net.deliver(index, to);
+                    }
+                }
+            }
+        }
+    }
+
     // ----- Partitions.
 
     fn partitions(&mut self) {
@@ -1128,7 +1259,7 @@ impl Director {
             self.start_late();
             let groups: Vec<bool> = (0..self.net.n).map(|_| self.rng.one_in(2)).collect();
             let backed = [self.rng.pick(&self.plans), self.rng.pick(&self.plans)];
-            for _ in 0..20 + self.rng.below(120) {
+            for _ in 0..self.scaled(20, 120) {
                 self.partition_step(&groups, backed);
             }
             self.stir();
@@ -1186,7 +1317,7 @@ impl Director {
 
     fn chaos(&mut self) {
         let haste = 2 + self.rng.below(30);
-        for _ in 0..100 + self.rng.below(500) {
+        for _ in 0..self.scaled(100, 500) {
             match self.rng.below(16) {
                 0..=9 => self.deliver_any(),
                 10 | 11 => {
@@ -1219,12 +1350,18 @@ impl Director {
         }
     }
 
+    /// A count of acts, and more where there are many vaults and links.
+    fn scaled(&mut self, least: u64, more: u64) -> u64 {
+        let eights = u64::from(self.net.n / 8).max(1);
+        (least + self.rng.below(more)) * eights * eights
+    }
+
     // ----- Calm.
 
     fn calm(&mut self) {
         for _ in 0..200_000 {
             if self.net.pending.is_empty() {
-                if self.keepers.iter().all(|&id| self.net.decided(id)) {
+                if self.net.wrong.is_some() || self.keepers.iter().all(|&id| self.net.decided(id)) {
                     return;
                 }
                 for id in self.keepers.clone() {

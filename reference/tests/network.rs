@@ -47,9 +47,13 @@ fn assert_eventful(tally: &Tally) {
 #[test]
 fn agreement_holds_with_four_vaults_and_a_liar() {
     let mut tally = Tally::default();
-    for (style, count) in
-        [(Style::Rounds, 2500), (Style::Feints, 700), (Style::Partitions, 700), (Style::Chaos, 700)]
-    {
+    for (style, count) in [
+        (Style::Rounds, 2500),
+        (Style::Feints, 700),
+        (Style::Partitions, 700),
+        (Style::Chaos, 700),
+        (Style::Camps, 700),
+    ] {
         tally.add(&hold(4, 1, 1, Mode::Contents, style, count));
     }
     assert_eventful(&tally);
@@ -145,35 +149,47 @@ fn calm_networks_decide() {
 // ---------------------------------------------------------------------------------------------
 // The check bites.
 
-/// The first seed at which vaults with this fault decide two plans.
-fn first_disagreement(n: u8, f: u8, fault: Fault, style: Style, bound: u64) -> Option<u64> {
-    (0..bound).find(|&seed| {
-        let setup = Setup { n, f, liars: f, mode: Mode::Contents, fault, style, seed };
-        matches!(sim::run(&setup).wrong, Some(Wrong::Disagreement { .. }))
+/// The first seed below 200 at which vaults decide two plans in such a run.
+fn first_disagreement(setup: Setup) -> Option<u64> {
+    (0..200).find(|&seed| {
+        matches!(sim::run(&Setup { seed, ..setup }).wrong, Some(Wrong::Disagreement { .. }))
     })
 }
 
-fn assert_found(fault: Fault) {
-    for (n, f, bound) in [(4, 1, 200), (7, 2, 200)] {
-        let seed = first_disagreement(n, f, fault, Style::Rounds, bound);
-        println!("{fault:?}, n = {n}: seed {seed:?}");
-        assert!(seed.is_some(), "{fault:?} with n = {n}");
+/// Found with 4 vaults and with 7, `more` liars than f among them.
+fn assert_found(fault: Fault, style: Style, more: u8) {
+    for (n, f) in [(4, 1), (7, 2)] {
+        let liars = f + more;
+        let setup = Setup { n, f, liars, mode: Mode::Contents, fault, style, seed: 0 };
+        let seed = first_disagreement(setup);
+        println!("{setup:?}: seed {seed:?}");
+        assert!(seed.is_some(), "{setup:?}");
     }
 }
 
 #[test]
 fn vaults_that_ignore_locks_disagree() {
-    assert_found(Fault::IgnoreLocks);
+    assert_found(Fault::IgnoreLocks, Style::Rounds, 0);
 }
 
 #[test]
 fn vaults_with_small_quorums_disagree() {
-    assert_found(Fault::SmallQuorum);
+    assert_found(Fault::SmallQuorum, Style::Rounds, 0);
 }
 
 #[test]
 fn vaults_that_vote_for_every_proposal_disagree() {
-    assert_found(Fault::VoteEveryProposal);
+    assert_found(Fault::VoteEveryProposal, Style::Rounds, 0);
+}
+
+#[test]
+fn more_liars_than_f_make_vaults_disagree() {
+    assert_found(Fault::None, Style::Camps, 1);
+}
+
+#[test]
+fn an_older_record_makes_vaults_disagree() {
+    assert_found(Fault::None, Style::OlderRecord, 0);
 }
 
 // Fault::ForgetPrevious is left out above, because it cannot break agreement. It only takes claims

@@ -1,17 +1,44 @@
 //! The exported Rattle functions, each behind a safe function. A slice passes as a pointer and then a length.
 //! Nothing checks these declarations against the Rattle source, so they are few and plain.
+pub mod apart;
+mod calls;
 pub mod case;
 pub mod cases;
+pub mod compared;
+pub mod drive;
+pub mod expected;
 pub mod frames;
+pub mod pages;
+pub mod program;
 pub mod random;
 pub mod records;
 pub mod rows;
 pub mod scenes;
 pub mod sides;
+pub mod soak;
+pub mod stage;
+pub mod text;
 pub mod vaults;
 
 use records::Class;
+use reference::{entry, frame, rng, rules, vault};
 use rows::Table;
+
+/// The reference's simulator, its own source compiled over other calls and another layout: its vaults by bytes are the Rattle ones.
+#[allow(dead_code)]
+#[rustfmt::skip]
+#[path = "../../reference/src/sim.rs"]
+pub mod sim;
+
+/// Records in the layout of the Rattle vault, for the simulator.
+mod record {
+    pub use crate::records::{spell as encode, LEN as RECORD_LEN};
+    pub use reference::record::{Record, Settings};
+
+    pub fn decode(bytes: &[u8]) -> Option<Record> {
+        (bytes.len() == RECORD_LEN).then(|| crate::records::contents(bytes))?
+    }
+}
 
 mod sys {
     extern "C" {

@@ -7,6 +7,8 @@ use reference::frame::{Body, Frame, Report};
 use reference::record::{Record, Settings};
 use reference::{calls, record, scripts};
 
+use crate::text::bytes_of;
+
 pub const LEN: usize = 11_703;
 pub const SLOTS: usize = 899;
 pub const ROWS: usize = 64;
@@ -148,12 +150,6 @@ pub fn class(bytes: &[u8]) -> Class {
         Some(record) if record.settings.check().is_ok() && record.sound() => Class::Sound,
         _ => Class::Unsound,
     }
-}
-
-/// The bytes of a line of a script, where it has any.
-fn bytes_of(line: &[u8]) -> Option<Vec<u8>> {
-    let text = std::str::from_utf8(line).ok()?;
-    (0..text.len() / 2).map(|i| u8::from_str_radix(text.get(2 * i..2 * i + 2)?, 16).ok()).collect()
 }
 
 /// Records that accepted calls leave, from line scripts that drive a vault through views.

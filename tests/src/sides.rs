@@ -104,13 +104,9 @@ impl Side for Reference {
     }
 }
 
-/// One call, the same for all sides.
-pub enum Call {
-    Start { settings: Settings, plan: u64 },
-    Frame { link: u8, bytes: Vec<u8> },
-    Timer { view: u32 },
-}
+pub use crate::sim::Call;
 
+/// One call is the same for all sides.
 impl Call {
     pub fn on<S: Side>(&self, rec: &mut [u8], out: &mut [u8]) -> Answer {
         match self {

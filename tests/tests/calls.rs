@@ -1,4 +1,5 @@
 //! The vault's calls through the static library against the reference by contents: the answer, and every byte of record and output.
+use comparison::expected::{self, Lent};
 use comparison::frames::{offered, plan, reports, view};
 use comparison::records::{class, contents, place, reached, spell, Class, HEAD, LEN, SLOTS};
 use comparison::sides::{Call, Rattle};
@@ -6,7 +7,6 @@ use comparison::vaults;
 use reference::frame::{write, Body, Frame};
 use reference::record::{Record, Settings};
 use reference::rng::Rng;
-use reference::vault::{self, Done};
 
 const ROUNDS: u32 = 100_000;
 /// Records that calls are made on in turn.
@@ -88,25 +88,6 @@ fn call(rng: &mut Rng, rec: &[u8]) -> Call {
     }
 }
 
-/// What document 01 says of the call, by contents.
-fn expected(rec: &[u8], call: &Call, space: usize) -> Result<Done, u8> {
-    if space < 256 {
-        return Err(1);
-    }
-    let record = match (class(rec), call) {
-        (Class::Blank, &Call::Start { settings: Settings { n, f, id, class }, plan }) => return vault::start(n, f, id, class, plan),
-        (_, Call::Start { .. }) => return Err(4),
-        (Class::Blank, _) => return Err(2),
-        (Class::Unsound, _) => return Err(3),
-        (Class::Sound, _) => contents(rec).unwrap(),
-    };
-    match call {
-        Call::Frame { link, bytes } => vault::frame(&record, *link, bytes),
-        Call::Timer { view } => vault::timer(&record, *view),
-        Call::Start { .. } => unreachable!(),
-    }
-}
-
 #[test]
 fn every_byte_is_as_document_01_says() {
     let all = reached(7, 60);
@@ -115,7 +96,7 @@ fn every_byte_is_as_document_01_says() {
     let mut refusals = [0u32; 20];
     let mut steps = [0u32; 8];
     let mut accepted = 0u32;
-    for round in 0..ROUNDS {
+    for _ in 0..ROUNDS {
         let place = rng.below(POOL) as usize;
         if rng.one_in(40) {
             records[place] = all[rng.below(all.len() as u64) as usize].clone();
@@ -124,24 +105,16 @@ fn every_byte_is_as_document_01_says() {
         let mut out = vec![0; if rng.one_in(10) { rng.below(256) as usize } else { 256 + rng.below(145) as usize }];
         rng.fill(&mut out);
         let call = call(&mut rng, &rec);
-        let (rec_before, out_before) = (rec.clone(), out.clone());
+        let before = Lent { rec: rec.clone(), out: out.clone() };
         let answer = call.on::<Rattle>(&mut rec, &mut out);
-        match expected(&rec_before, &call, out_before.len()) {
+        match expected::check(&before, &call, &Lent { rec, out }, answer) {
             Ok(done) => {
-                let written: Vec<u8> = done.entries.iter().flat_map(|entry| entry.bytes()).collect();
-                assert_eq!(answer, Ok(written.len()), "round {round}");
-                assert!(rec == spell(&done.record), "round {round}");
-                assert!(out == [&written[..], &out_before[written.len()..]].concat(), "round {round}");
                 accepted += 1;
                 // What an accepted call left is lent again, so that views and votes go on.
                 records[place] = done.record;
                 done.steps.iter().for_each(|&step| steps[step as usize] += 1);
             }
-            Err(number) => {
-                assert_eq!(answer, Err(number), "round {round}");
-                assert!(rec == rec_before && out == out_before, "round {round}");
-                refusals[usize::from(number)] += 1;
-            }
+            Err(number) => refusals[usize::from(number)] += 1,
         }
     }
     println!("accepted {accepted}, steps {steps:?}, refusals {refusals:?}");

@@ -1,46 +1,12 @@
 //! The Rattle line program against the reference's, on random scripts; and what document 01 and our readings say of its input and output.
-use std::fs::File;
 use std::io::{Read, Write};
-use std::path::PathBuf;
 use std::process::{Command, Stdio};
 
-use reference::lines;
+use comparison::program::{expected, printed, Input, PROGRAM};
 use reference::scripts::{cover, script, Coverage};
 
-const PROGRAM: &str = concat!(env!("CARGO_MANIFEST_DIR"), "/../target/bin/vaultlines");
 const SCRIPTS: u64 = 2_500;
 const SEED: u64 = 900_000;
-
-fn expected(input: &[u8]) -> Vec<u8> {
-    let mut output = Vec::new();
-    lines::run(input, &mut output).expect("reading and writing memory");
-    output
-}
-
-/// A place for an input that is removed again.
-struct Input(PathBuf);
-
-impl Input {
-    fn new(name: &str, bytes: &[u8]) -> Input {
-        let path = std::env::temp_dir().join(format!("vaultlines-{}-{name}", std::process::id()));
-        std::fs::write(&path, bytes).expect("a place for the input");
-        Input(path)
-    }
-}
-
-impl Drop for Input {
-    fn drop(&mut self) {
-        let _ = std::fs::remove_file(&self.0);
-    }
-}
-
-/// What the program prints; it ends plainly, and says nothing on standard error.
-fn printed(command: &mut Command, input: &Input) -> Vec<u8> {
-    let output = command.stdin(File::open(&input.0).expect("the input")).output().expect("the program runs");
-    assert!(output.status.success(), "{:?}", output.status);
-    assert!(output.stderr.is_empty());
-    output.stdout
-}
 
 fn same(name: &str, bytes: &[u8]) {
     let input = Input::new(name, bytes);

@@ -1,25 +1,7 @@
-//! Whole networks of Rattle vaults under the simulator's adversary. The simulator's own source is compiled here over other calls and
-//! another layout: its vaults by bytes are the Rattle ones, and where both run in step each call is compared with the reference by contents.
-use comparison::vaults as calls;
-use reference::{entry, frame, rng, rules, vault};
-
-/// Records in the layout of the Rattle vault.
-mod record {
-    pub use comparison::records::{spell as encode, LEN as RECORD_LEN};
-    pub use reference::record::{Record, Settings};
-
-    pub fn decode(bytes: &[u8]) -> Option<Record> {
-        (bytes.len() == RECORD_LEN).then(|| comparison::records::contents(bytes))?
-    }
-}
-
-#[allow(dead_code)]
-#[rustfmt::skip]
-#[path = "../../reference/src/sim.rs"]
-mod sim;
-
-use sim::{Mode, Setup, Style, Tally};
-use vault::Fault;
+//! Whole networks of Rattle vaults under the simulator's adversary: its vaults by bytes are the Rattle ones, and where both run in step each
+//! call is compared with the reference by contents.
+use comparison::sim::{self, Mode, Setup, Style, Tally};
+use reference::vault::Fault;
 
 fn hold(n: u8, f: u8, liars: u8, mode: Mode, style: Style, count: u64) -> Tally {
     let mut tally = Tally::default();
@@ -32,7 +14,7 @@ fn hold(n: u8, f: u8, liars: u8, mode: Mode, style: Style, count: u64) -> Tally 
     tally
 }
 
-const STYLES: [Style; 4] = [Style::Rounds, Style::Feints, Style::Partitions, Style::Chaos];
+const STYLES: [Style; 5] = [Style::Rounds, Style::Feints, Style::Partitions, Style::Chaos, Style::Camps];
 
 /// Agreement among the vaults that keep the rules, with every call compared.
 #[test]

@@ -1,0 +1,23 @@
+//! The counts, as they are printed each minute.
+use std::ops::RangeInclusive;
+
+use crate::stage;
+
+/// The sizes of networks that are counted together.
+const SIZES: [RangeInclusive<usize>; 4] = [4..=4, 5..=13, 14..=63, 64..=64];
+
+pub fn counts(when: &str) {
+    let counts = stage::counts();
+    let seen = &counts.seen;
+    let [runs, decisions] = [&counts.runs, &counts.decisions].map(|all| all.iter().sum::<u64>());
+    println!("{when}");
+    println!("    calls {}, accepted {}; scripts {}, lines {}", seen.calls, seen.accepted, counts.scripts, counts.lines);
+    println!("    runs {runs}, decisions {decisions}; a proposal was safe by view 0, no lock, one set, two sets: {:?}", counts.clauses);
+    for sizes in SIZES {
+        let [runs, some, all] = [&counts.runs, &counts.some_decided, &counts.all_decided].map(|by_n| by_n[sizes.clone()].iter().sum::<u64>());
+        let decisions: u64 = counts.decisions[sizes.clone()].iter().sum();
+        println!("    n = {sizes:?}: runs {runs}, some decided in {some}, all in {all}, decisions {decisions}");
+    }
+    println!("    refusals met, 1 to 20: {:?}", &seen.refusals[1..]);
+    println!("    steps met, A to H: {:?}", seen.steps);
+}

@@ -1,0 +1,123 @@
+//! What a round's process leaves behind, however it ends: its counts, what it was about to do, and what it said last.
+use std::sync::atomic::{AtomicPtr, Ordering};
+
+use crate::compared::{add_each, Seen};
+use crate::pages::{self, Edge};
+use crate::sides::Call;
+use crate::text::words_of;
+
+/// Lines of a script beyond this are not kept.
+const MOST_NOTED: usize = 64 << 20;
+const MOST_SAID: usize = 4096;
+/// A call's words and its record.
+const MOST_CALLED: usize = 1 << 16;
+
+#[repr(C)]
+pub struct Counts {
+    pub seen: Seen,
+    pub scripts: u64,
+    pub lines: u64,
+    /// By n: runs, those in which some vault decided, those in which all that were started did, and decisions.
+    pub runs: [u64; 65],
+    pub some_decided: [u64; 65],
+    pub all_decided: [u64; 65],
+    pub decisions: [u64; 65],
+    /// What made a proposal safe: view 0, no lock, one set, two sets.
+    pub clauses: [u64; 4],
+}
+
+impl Counts {
+    pub fn add_scripts(&mut self, covered: &reference::scripts::Coverage) {
+        self.scripts += covered.scripts;
+        self.lines += covered.lines;
+        add_each(&mut self.seen.steps, &covered.steps);
+        add_each(&mut self.seen.refusals, &covered.refusals);
+        add_each(&mut self.clauses, &[covered.view_zero, covered.no_lock, covered.one_set, covered.two_sets]);
+    }
+}
+
+#[repr(C)]
+struct Text<const MOST: usize> {
+    len: usize,
+    bytes: [u8; MOST],
+}
+
+impl<const MOST: usize> Text<MOST> {
+    fn bytes(&self) -> &[u8] {
+        &self.bytes[..self.len]
+    }
+
+    fn push(&mut self, bytes: &[u8]) {
+        let count = bytes.len().min(MOST - self.len);
+        self.bytes[self.len..][..count].copy_from_slice(&bytes[..count]);
+        self.len += count;
+    }
+}
+
+#[repr(C)]
+struct Stage {
+    counts: Counts,
+    said: Text<MOST_SAID>,
+    called: Text<MOST_CALLED>,
+    noted: Text<MOST_NOTED>,
+}
+
+static STAGE: AtomicPtr<Stage> = AtomicPtr::new(std::ptr::null_mut());
+
+/// The stage, where there is one: tests that compare calls have none.
+fn stage() -> Option<&'static mut Stage> {
+    // SAFETY: all zeros is a stage; a soak has one thread, and its process waits while a round's runs.
+    unsafe { STAGE.load(Ordering::Relaxed).as_mut() }
+}
+
+/// Once, before the first round. From then on a panic's words are kept, and not printed.
+pub fn set_up() {
+    STAGE.store(pages::shared(), Ordering::Relaxed);
+    std::panic::set_hook(Box::new(|panic| {
+        let words = panic.payload_as_str().unwrap_or("a panic without words");
+        let place = panic.location().map_or(String::new(), |place| format!(" ({}:{})", place.file(), place.line()));
+        if let Some(stage) = stage() {
+            stage.said.push(words.as_bytes());
+            stage.said.push(place.as_bytes());
+        }
+    }));
+}
+
+pub fn counts() -> &'static mut Counts {
+    &mut stage().expect("set up").counts
+}
+
+/// A new script begins with these bytes.
+pub fn begin(bytes: &[u8]) {
+    if let Some(stage) = stage() {
+        (stage.said.len, stage.called.len, stage.noted.len) = (0, 0, 0);
+        stage.noted.push(bytes);
+    }
+}
+
+/// The call that is made next: a line with its edge, the output's length and first byte, the record's length and the call; then the record.
+pub fn calling(edge: Edge, rec: &[u8], call: &Call, out: &[u8]) {
+    if let Some(stage) = stage() {
+        let head = format!("call {edge:?} {} {} {} {}\n", out.len(), out.first().unwrap_or(&0), rec.len(), words_of(call));
+        stage.called.len = 0;
+        stage.called.push(head.as_bytes());
+        stage.called.push(rec);
+    }
+}
+
+/// More of the script, before it is done.
+pub fn note(bytes: &[u8]) {
+    stage().into_iter().for_each(|stage| stage.noted.push(bytes));
+}
+
+pub fn noted() -> Vec<u8> {
+    stage().expect("set up").noted.bytes().to_vec()
+}
+
+pub fn called() -> Vec<u8> {
+    stage().expect("set up").called.bytes().to_vec()
+}
+
+pub fn said() -> String {
+    String::from_utf8_lossy(stage().expect("set up").said.bytes()).into_owned()
+}
