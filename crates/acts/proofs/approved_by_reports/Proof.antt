@@ -2,9 +2,9 @@
 -- Assumes nothing.
 use mathlib.Core.Path.{_≡_, _∙_, ap}
 use Rattle.rules.specs.Rules.{rule3}
-use Rattle.rules.specs.Counts.{safe}
+use Rattle.rules.specs.inside.Counts.{safe}
 use Rattle.claims.specs.Table.{reportsIn}
-use Rattle.settings.specs.Settings.{vaultsOf}
+use Rattle.settings.specs.Vaults.{vaultsOf}
 use Rattle.protocol.specs.Record.{Record}
 use Rattle.acts.proofs.Parts.{blockLength, seen, seat, contentsSeen, reads}
 use Rattle.acts.specs.inside.Reports.{approvedBy}
