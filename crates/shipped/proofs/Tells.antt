@@ -51,7 +51,8 @@ use Rattle.vault_c.proofs.vault_timer.Reads as readExportTimer
 use Rattle.vault_c.proofs.vault_start.Met as metExportStart
 use Rattle.vault_c.proofs.vault_frame.Met as metExportFrame
 use Rattle.vault_c.proofs.vault_timer.Met as metExportTimer
-use Rattle.shipped.specs.Tells.{Arguments, Answer, Last, Owned, lent, given, Ran, Tells, StartTells, FrameTells, TimerTells, ExportStartTells, ExportFrameTells, ExportTimerTells}
+use Rattle.shipped.specs.Tells.{Arguments, Answer, Last, Owned, lent, given, Ran, Tells}
+use Rattle.shipped.specs.Tells.{StartTells, FrameTells, TimerTells, ExportStartTells, ExportFrameTells, ExportTimerTells}
 
 module _ (n : ℕ) (ps : List (PK n)) (r : RK n) (ρ : Routine) (Says : Out n ps r) where
   module _ (w : World) (x : Arguments n ps r w) (σ : Memory) (F : Pr w) where
