@@ -1118,9 +1118,15 @@ impl Director {
         }
     }
 
-    /// Everything gets through from now on, for some views; the liars go on lying.
+    /// The adversary rests: everything gets through from now on, for some views, and vaults that
+    /// have waited mostly start. The liars go on lying.
     fn heal(&mut self) {
-        for _ in 0..self.net.n {
+        if !self.rng.one_in(4) {
+            for id in std::mem::take(&mut self.waiting) {
+                self.start(id);
+            }
+        }
+        for _ in 0..self.net.n.min(16) {
             for to in self.started() {
                 let view = self.net.view(to).unwrap_or(0);
                 for kind in VOTE_1..=VOTE_4 {

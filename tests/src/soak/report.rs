@@ -16,7 +16,7 @@ pub fn counts(when: &str) {
     for sizes in SIZES {
         let [runs, some, all] = [&counts.runs, &counts.some_decided, &counts.all_decided].map(|by_n| by_n[sizes.clone()].iter().sum::<u64>());
         let decisions: u64 = counts.decisions[sizes.clone()].iter().sum();
-        println!("    n = {sizes:?}: runs {runs}, some decided in {some}, all in {all}, decisions {decisions}");
+        println!("    n = {} to {}: runs {runs}, some decided in {some}, all in {all}, decisions {decisions}", sizes.start(), sizes.end());
     }
     println!("    refusals met, 1 to 20: {:?}", &seen.refusals[1..]);
     println!("    steps met, A to H: {:?}", seen.steps);
