@@ -1,6 +1,6 @@
--- Fields one after the other, each a number in a fixed count of bytes: how they are spelt, and how they are read.
+-- Fields one after the other, each a number in a fixed count of bytes, and how they are spelt.
 -- Assumes nothing.
-use Prim.Native.Nat.{ℕ, _+_, _^_, _<_}
+use Prim.Native.Nat.{ℕ, _^_, _<_}
 use mathlib.Core.List.{List, [], _∷_, _++_}
 use lib.ListN.{getD}
 use Rattle.wire.specs.Digits.{digits}
