@@ -1,0 +1,57 @@
+-- Laws of texts: bytes are written whole where they fit, a number's sentence is the one that its arm copies, and other numbers have none.
+-- Assumes nothing.
+use Prim.Native.Nat.{ℕ, zero, suc, _+_, _≤_, _<_}
+use Prim.Native.String as text
+use mathlib.Core.Path.{_≡_, refl, sym, ap, subst, _∙_}
+use mathlib.Core.List.{List, [], _∷_, _++_}
+use native.Mathlib.Omega.{arith}
+use borrow.Author.Tests.{le-leb, lt-leb}
+use lib.ListN.{length, getD, take, drop}
+use lib.Seq.{take-all}
+use Rattle.wire.specs.Placed.{placed}
+use Rattle.wire.proofs.Output.{placed-none}
+use Rattle.texts.specs.Texts.{sentences, bytesOf, sentenceOf, fitting, Written}
+
+-- Where there is no room, nothing is written.
+pub none-fits : (bytes out : List ℕ) → length out < length bytes → Written (fitting bytes (length out)) out out 0
+unfolding fitting
+none-fits bytes out h = rw (lt-leb (length bytes) (length out) h) (record { count = refl; left = sym (placed-none out 0) })
+
+-- A copy to the start of the output.
+copied : (bytes out : List ℕ) → take (length bytes) bytes ++ drop (length bytes) out ≡ placed out 0 bytes
+unfolding placed
+copied bytes out = let start : 0 + length bytes ≡ length bytes = omega arith in rw (take-all (length bytes) bytes (omega arith), start) refl
+
+-- Where there is room, a copy writes them.
+pub all-fit : (bytes out out′ : List ℕ) (r : ℕ) → length bytes ≤ length out → r ≡ length bytes
+    → out′ ≡ take (length bytes) bytes ++ drop (length bytes) out → Written (fitting bytes (length out)) out out′ r
+unfolding fitting
+all-fit bytes out out′ r h e is = rw (le-leb (length bytes) (length out) h) (record { count = e; left = is ∙ copied bytes out })
+
+-- An arm copies its own number's sentence.
+pub said : (number k : ℕ) (bytes out out′ : List ℕ) (r : ℕ) → number ≡ k → bytes ≡ sentenceOf k → Written (fitting bytes (length out)) out out′ r
+    → Written (fitting (sentenceOf number) (length out)) out out′ r
+said number k bytes out out′ r e same w =
+    subst (λ (s : List ℕ). Written (fitting s (length out)) out out′ r) (same ∙ ap sentenceOf (sym e)) w
+
+-- Beyond a list there is no sentence.
+beyond : (l : List text.String) (number : ℕ) → length l ≤ number → getD l number text.[] ≡ text.[]
+beyond [] number h = refl
+beyond (x ∷ l) zero h = absurd (omega arith)
+beyond (x ∷ l) (suc number) h = beyond l number (omega arith)
+
+-- Nor has 0 one.
+pub no-number : (number : ℕ) → (0 < number → 20 < number) → sentenceOf number ≡ []
+unfolding sentenceOf bytesOf
+no-number zero h = refl
+no-number (suc k) h = ap bytesOf (beyond sentences (suc k) (h (omega arith)))
+
+-- A number that is none of the next four is beyond them.
+pub beyond-four : (number k : ℕ) → k < number → (number ≡ k + 1 → ⊥) → (number ≡ k + 2 → ⊥) → (number ≡ k + 3 → ⊥) → (number ≡ k + 4 → ⊥)
+    → k + 4 < number
+beyond-four number k h a b c d = omega arith
+
+-- A number that is no refusal's.
+pub none-said : (number : ℕ) (out : List ℕ) → sentenceOf number ≡ [] → Written (fitting (sentenceOf number) (length out)) out out 0
+none-said number out e =
+    subst (λ (s : List ℕ). Written (fitting s (length out)) out out 0) (sym e) (all-fit [] out out 0 (omega arith) refl refl)
