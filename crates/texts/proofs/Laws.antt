@@ -46,10 +46,15 @@ unfolding sentenceOf bytesOf
 no-number zero h = refl
 no-number (suc k) h = ap bytesOf (beyond sentences (suc k) (h (omega arith)))
 
--- A number that is none of the next four is beyond them.
-pub beyond-four : (number k : ℕ) → k < number → (number ≡ k + 1 → ⊥) → (number ≡ k + 2 → ⊥) → (number ≡ k + 3 → ⊥) → (number ≡ k + 4 → ⊥)
-    → k + 4 < number
-beyond-four number k h a b c d = omega arith
+-- A number that is none of the next four is beyond them. What came before in the match is kept apart, as A.
+pub beyond-four : (number k : ℕ) {A : Type 0} → k < number
+    → (((A × (number ≡ k + 1 → ⊥)) × (number ≡ k + 2 → ⊥)) × (number ≡ k + 3 → ⊥)) × (number ≡ k + 4 → ⊥) → k + 4 < number
+beyond-four number k h r =
+    let a = r .0 .0 .0 .1 in
+    let b = r .0 .0 .1 in
+    let c = r .0 .1 in
+    let d = r .1 in
+    omega arith
 
 -- A number that is no refusal's.
 pub none-said : (number : ℕ) (out : List ℕ) → sentenceOf number ≡ [] → Written (fitting (sentenceOf number) (length out)) out out 0

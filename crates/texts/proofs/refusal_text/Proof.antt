@@ -271,14 +271,13 @@ returns-20 c = said _ 20 _ _ _ _ (c .before .before .before .before .before .mat
 returns-21 : tie.Need-returns-21
 returns-21 c =
     let number = c .before .before .args .number in
-    let r = c .match .rest in
+    let to-20 = c .match .rest in
+    let to-16 = to-20 .0 .0 .0 .0 in
+    let to-12 = to-16 .0 .0 .0 .0 in
+    let to-8 = to-12 .0 .0 .0 .0 in
+    let to-4 = to-8 .0 .0 .0 .0 in
     let high : 0 < number → 20 < number = λ (h : 0 < number).
-    let a : 4 < number = beyond-four number 0 h (r .0 .0 .0 .0 .0 .0 .0 .0 .0 .0 .0 .0 .0 .0 .0 .0 .0 .0 .0 .1) (r .0 .0 .0 .0 .0 .0 .0 .0 .0 .0 .0 .0 .0 .0 .0 .0 .0 .0 .1) (r .0 .0 .0 .0 .0 .0 .0 .0 .0 .0 .0 .0 .0 .0 .0 .0 .0 .1) (r .0 .0 .0 .0 .0 .0 .0 .0 .0 .0 .0 .0 .0 .0 .0 .0 .1) in
-    let b : 8 < number = beyond-four number 4 a (r .0 .0 .0 .0 .0 .0 .0 .0 .0 .0 .0 .0 .0 .0 .0 .1) (r .0 .0 .0 .0 .0 .0 .0 .0 .0 .0 .0 .0 .0 .0 .1) (r .0 .0 .0 .0 .0 .0 .0 .0 .0 .0 .0 .0 .0 .1) (r .0 .0 .0 .0 .0 .0 .0 .0 .0 .0 .0 .0 .1) in
-    let d : 12 < number = beyond-four number 8 b (r .0 .0 .0 .0 .0 .0 .0 .0 .0 .0 .0 .1) (r .0 .0 .0 .0 .0 .0 .0 .0 .0 .0 .1) (r .0 .0 .0 .0 .0 .0 .0 .0 .0 .1) (r .0 .0 .0 .0 .0 .0 .0 .0 .1) in
-    let e : 16 < number = beyond-four number 12 d (r .0 .0 .0 .0 .0 .0 .0 .1) (r .0 .0 .0 .0 .0 .0 .1) (r .0 .0 .0 .0 .0 .1) (r .0 .0 .0 .0 .1) in
-    let f : 20 < number = beyond-four number 16 e (r .0 .0 .0 .1) (r .0 .0 .1) (r .0 .1) (r .1) in
-    f in
+    beyond-four number 16 (beyond-four number 12 (beyond-four number 8 (beyond-four number 4 (beyond-four number 0 h to-4) to-8) to-12) to-16) to-20 in
     none-said number _ (no-number number high)
 
 pub refusal-text-spec : {M : Type 1} → statement M
