@@ -3,14 +3,17 @@
 use Prim.Native.Nat.{ℕ, zero, suc, _+_, _≤_, _<_}
 use Prim.Native.String as text
 use mathlib.Core.Path.{_≡_, refl, sym, ap, subst, _∙_}
+use mathlib.Core.Bool.{Bool, true, false, cond, _&&_}
 use mathlib.Core.List.{List, [], _∷_, _++_}
 use native.Mathlib.Omega.{arith}
-use borrow.Author.Tests.{le-leb, lt-leb}
+use lib.Dec.{leb}
+use borrow.Author.Tests.{leb-true, le-leb, lt-leb}
 use lib.ListN.{length, getD, take, drop}
 use lib.Seq.{take-all}
+use Rattle.quorum.proofs.Bools.{bothSplit}
 use Rattle.wire.specs.Placed.{placed}
 use Rattle.wire.proofs.Output.{placed-none}
-use Rattle.texts.specs.Texts.{sentences, bytesOf, sentenceOf, fitting, Written}
+use Rattle.texts.specs.Texts.{sentences, bytesOf, sentenceOf, ShortTexts, fitting, Written}
 
 -- Where there is no room, nothing is written.
 pub none-fits : (bytes out : List ℕ) → length out < length bytes → Written (fitting bytes (length out)) out out 0
@@ -60,3 +63,30 @@ beyond-four number k h r =
 pub none-said : (number : ℕ) (out : List ℕ) → sentenceOf number ≡ [] → Written (fitting (sentenceOf number) (length out)) out out 0
 none-said number out e =
     subst (λ (s : List ℕ). Written (fitting s (length out)) out out 0) (sym e) (all-fit [] out out 0 (omega arith) refl refl)
+
+-- ---- how long
+
+-- A test that computes: each sentence of a list is short.
+all-short : List text.String → Bool
+all-short [] = true
+all-short (x ∷ l) = leb (length (bytesOf x)) 120 && all-short l
+
+-- So is the one of each number.
+short-at : (l : List text.String) (number : ℕ) → all-short l ≡ true → length (bytesOf (getD l number text.[])) ≤ 120
+unfolding all-short bytesOf
+short-at [] number e = omega arith
+short-at (x ∷ l) zero e = leb-true (length (bytesOf x)) 120 (bothSplit (leb (length (bytesOf x)) 120) (all-short l) e .0)
+short-at (x ∷ l) (suc number) e = short-at l number (bothSplit (leb (length (bytesOf x)) 120) (all-short l) e .1)
+
+pub shortTexts : ShortTexts
+unfolding sentenceOf all-short bytesOf
+shortTexts number = short-at sentences number refl
+
+-- What is written is no longer.
+pub short-written : (bytes out out′ : List ℕ) (r : ℕ) → length bytes ≤ 120 → Written (fitting bytes (length out)) out out′ r → r ≤ 120
+unfolding fitting
+short-written bytes out out′ r h w = go (leb (length bytes) (length out)) (w .count)
+  where
+    go : (b : Bool) → r ≡ length (cond b bytes []) → r ≤ 120
+    go true e = omega arith
+    go false e = omega arith

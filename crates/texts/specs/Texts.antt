@@ -1,6 +1,6 @@
 -- A sentence for each refusal of document 01's table, in ASCII, and what asking for one leaves.
 -- Assumes nothing.
-use Prim.Native.Nat.{ℕ}
+use Prim.Native.Nat.{ℕ, _≤_}
 use Prim.Native.Char.{code}
 use Prim.Native.String as text
 use Prim.Native.String.{String}
@@ -45,6 +45,10 @@ bytesOf (text._∷_ letter rest) = code letter ∷ bytesOf rest
 -- The bytes of a number's sentence; none where there is no such refusal.
 unfoldable pub sentenceOf : ℕ → List ℕ
 sentenceOf number = bytesOf (getD sentences number text.[])
+
+-- No sentence has more than 120 bytes (VAULT_LONGEST_TEXT of include/vault.h). Proved as `shortTexts` in proofs/Laws.
+abbrev pub ShortTexts : Type 0
+ShortTexts = (number : ℕ) → length (sentenceOf number) ≤ 120
 
 -- Bytes that are written whole, or not at all where there is no room for them.
 unfoldable pub fitting : List ℕ → ℕ → List ℕ
