@@ -29,9 +29,9 @@
  *            and does no harm. After a crash the frames to repeat are gone: the timer goes on, and the next view brings new ones.
  *   Timer    A timer entry replaces the timer of any earlier view. When it runs out call vault_timer with its view, and again after
  *            the same time for as long as the view lasts, also after the decision: others may need this vault's later views.
- *   Restart  Lend the stored record again, and set the timer of its view (bytes 4 to 7 of the record). A decision entry may have been
- *            stored and not yet acted on. A record of zeros is a blank one: once the vault was started, never take a missing or an
- *            empty file for it.
+ *   Restart  Lend the stored record again: vault_current tells its view, whose timer is to be set, and vault_decision the decision, which
+ *            may have been stored and not yet acted on. A record of zeros is a blank one: once the vault was started, never take a
+ *            missing or an empty file for it.
  *
  * The record's bytes, for a desk that looks at one (only the calls write it). A slot is 13 bytes: mark (1 present, 0 absent), view (4),
  * plan (8), big-endian; 64 slots of a kind are those of vaults 0 to 63.
@@ -44,7 +44,7 @@
  *  11664 to 11702 own previous vote-1, own previous vote-2, decision
  *
  * Version, targets, stack
- *   VAULT_VERSION is that of this header. The major number changes where frames or stored
+ *   VAULT_VERSION is that of this header, vault_version() that of the library. The major number changes where frames or stored
  *   records of an earlier version are no longer understood, the minor one where something is added.
  *   The library is for Linux on x86-64 (the C calling convention of that platform). It needs memcpy and memset, and nothing else.
  *   A call needs less than VAULT_STACK_SIZE bytes of stack; that bound is tested, not proved.
@@ -70,15 +70,16 @@ extern "C" {
 #define VAULT_LONGEST_OUTPUT 205  /* no call writes more bytes */
 #define VAULT_LONGEST_ENTRY 46    /* with the recipient byte */
 #define VAULT_LONGEST_FRAME 45
+#define VAULT_LONGEST_TEXT 120    /* no text of vault_refusal_text is longer */
 #define VAULT_STACK_SIZE 49152    /* no call needs more stack */
 #define VAULT_FEWEST 4            /* n is at least this */
 #define VAULT_MOST 64             /* and at most this */
 
 /* Refusals, in the order in which they are tested. */
 enum vault_refusal {
-    VAULT_REFUSED_OUTPUT = 1,     /* the output has fewer than VAULT_OUTPUT_SIZE bytes */
-    VAULT_REFUSED_BLANK = 2,      /* frame or timer on a blank record: the vault has not been started */
-    VAULT_REFUSED_UNSOUND = 3,    /* frame or timer on bytes that are no sound record, or not VAULT_RECORD_SIZE of them */
+    VAULT_REFUSED_OUTPUT = 1,     /* the output has fewer than VAULT_OUTPUT_SIZE bytes, or two numbers for a question */
+    VAULT_REFUSED_BLANK = 2,      /* not start: a blank record, the vault has not been started */
+    VAULT_REFUSED_UNSOUND = 3,    /* not start: bytes that are no sound record, or not VAULT_RECORD_SIZE of them */
     VAULT_REFUSED_STARTED = 4,    /* start on a record that is not blank */
     VAULT_REFUSED_N = 5,          /* start: n is below 4 or above 64 */
     VAULT_REFUSED_F = 6,          /* start: f is 0, or 3f is n or more */
@@ -121,6 +122,9 @@ enum vault_host_entry {
     VAULT_HOST_TIMER = 0x0b     /* view (4 bytes), milliseconds (4) */
 };
 
+/* VAULT_VERSION, as the library has it. */
+uint32_t vault_version(void);
+
 /* VAULT_RECORD_SIZE, as the library has it. */
 uint32_t vault_record_size(void);
 
@@ -138,6 +142,22 @@ uint32_t vault_frame(uint8_t *record, size_t record_length, uint8_t sender, cons
 /* The timer of a view has run out. It may be called again for the same view: the view-change is then sent once more.
  * Refusals: 1 to 3, 18, 19. */
 uint32_t vault_timer(uint8_t *record, size_t record_length, uint32_t view, uint8_t *output, size_t output_length);
+
+/* For a host that comes back: out[0] is the record's current view, out[1] the milliseconds of its timer, and the answer is
+ * VAULT_ACCEPTED. Refusals, with `out` unchanged: 1 where out_count is below 2, 2 and 3 as for a frame. */
+uint32_t vault_current(const uint8_t *record, size_t record_length, uint32_t *out, size_t out_count);
+
+/* Likewise the decision: out[0] is its view, out[1] its plan, and the answer is VAULT_ACCEPTED + 1. Where nothing is decided the answer is
+ * VAULT_ACCEPTED, and `out` is unchanged. Refusals as for vault_current. */
+uint32_t vault_decision(const uint8_t *record, size_t record_length, uint64_t *out, size_t out_count);
+
+/* Walks the entries of an output of which output_length bytes were written (the answer less VAULT_ACCEPTED): the length of the entry
+ * that begins at `at`, its recipient byte included. 0 at the end, and where no entry begins. */
+uint32_t vault_entry(const uint8_t *output, size_t output_length, size_t at);
+
+/* Writes a sentence for a refusal's number, in ASCII and without a closing 0, and answers with its length. 0, and nothing written, where
+ * there is no such refusal or the sentence is longer than the output. VAULT_LONGEST_TEXT bytes are enough for each. */
+uint32_t vault_refusal_text(uint32_t number, uint8_t *output, size_t output_length);
 
 #ifdef __cplusplus
 }

@@ -31,11 +31,6 @@ static uint64_t number(const uint8_t *bytes, size_t count)
     return n;
 }
 
-static size_t frame_length(uint8_t kind)
-{
-    return kind < VAULT_VIEW_CHANGE ? 14 : kind == VAULT_VIEW_CHANGE ? 6 : 45;
-}
-
 static int send_to(uint8_t from, uint8_t to, const uint8_t *frame, size_t length)
 {
     if (last == QUEUE)
@@ -48,28 +43,30 @@ static int send_to(uint8_t from, uint8_t to, const uint8_t *frame, size_t length
     return 1;
 }
 
-/* Acts on the entries of an accepted call. A real host stores the record before this. */
-static int act(uint8_t id, const uint8_t *output, size_t count)
+/* Acts on one entry. A real host stores the record before this. */
+static int act(uint8_t id, const uint8_t *entry, size_t length)
 {
-    size_t at = 0;
-    while (at < count) {
-        const uint8_t *entry = output + at;
-        if (entry[0] == VAULT_TO_HOST && entry[1] == VAULT_HOST_TIMER) {
-            printf("vault %d: timer for view %" PRIu64 " in %" PRIu64 " ms\n", id, number(entry + 2, 4), number(entry + 6, 4));
-            at += 10;
-        } else if (entry[0] == VAULT_TO_HOST) {
-            decided[id] = 1;
-            decision[id] = number(entry + 6, 8);
-            printf("vault %d: decides plan %" PRIu64 " in view %" PRIu64 "\n", id, decision[id], number(entry + 2, 4));
-            at += 14;
-        } else {
-            size_t length = frame_length(entry[1]);
-            for (uint8_t to = 0; to < VAULTS; to++)
-                if (to != id && (entry[0] == VAULT_TO_ALL || entry[0] == to) && !send_to(id, to, entry + 1, length))
-                    return 0;
-            at += 1 + length;
-        }
+    if (entry[0] == VAULT_TO_HOST && entry[1] == VAULT_HOST_TIMER) {
+        printf("vault %d: timer for view %" PRIu64 " in %" PRIu64 " ms\n", id, number(entry + 2, 4), number(entry + 6, 4));
+    } else if (entry[0] == VAULT_TO_HOST) {
+        decided[id] = 1;
+        decision[id] = number(entry + 6, 8);
+        printf("vault %d: decides plan %" PRIu64 " in view %" PRIu64 "\n", id, decision[id], number(entry + 2, 4));
+    } else {
+        for (uint8_t to = 0; to < VAULTS; to++)
+            if (to != id && (entry[0] == VAULT_TO_ALL || entry[0] == to) && !send_to(id, to, entry + 1, length - 1))
+                return 0;
     }
+    return 1;
+}
+
+/* Acts on the entries of an accepted call. */
+static int act_on_all(uint8_t id, const uint8_t *output, size_t count)
+{
+    uint32_t length;
+    for (size_t at = 0; (length = vault_entry(output, count, at)) != 0; at += length)
+        if (!act(id, output + at, length))
+            return 0;
     return 1;
 }
 
@@ -78,21 +75,22 @@ int main(void)
     uint8_t output[VAULT_OUTPUT_SIZE];
     uint32_t answer;
 
-    if (vault_record_size() != VAULT_RECORD_SIZE)
+    if (vault_version() / 10000 != VAULT_VERSION_MAJOR)
         return 2;
     for (uint8_t id = 0; id < VAULTS; id++) {
         answer = vault_start(records[id], VAULT_RECORD_SIZE, VAULTS, LIARS, id, CLASS, 700 + id, output, sizeof output);
         if (answer < VAULT_ACCEPTED) {
-            fprintf(stderr, "vault %d does not start: refusal %" PRIu32 "\n", id, answer);
+            uint8_t text[VAULT_LONGEST_TEXT];
+            fprintf(stderr, "vault %d does not start: %.*s\n", id, (int)vault_refusal_text(answer, text, sizeof text), (const char *)text);
             return 1;
         }
-        if (!act(id, output, answer - VAULT_ACCEPTED))
+        if (!act_on_all(id, output, answer - VAULT_ACCEPTED))
             return 2;
     }
     while (first < last) {
         const struct message m = queue[first++];
         answer = vault_frame(records[m.to], VAULT_RECORD_SIZE, m.from, m.bytes, m.length, output, sizeof output);
-        if (answer >= VAULT_ACCEPTED && !act(m.to, output, answer - VAULT_ACCEPTED))
+        if (answer >= VAULT_ACCEPTED && !act_on_all(m.to, output, answer - VAULT_ACCEPTED))
             return 2;
     }
     for (uint8_t id = 0; id < VAULTS; id++) {

@@ -5,7 +5,7 @@
  * `examples/udp/run SEED` starts four of them, and kills one.
  *
  *   vault_udp start  FOLDER --id I --port PORT [--vaults N --liars F --class C --plan P] [--loss PERCENT --delay MS --repeat MS --seed S]
- *   vault_udp resume FOLDER --id I --port PORT [--vaults N --class C] [--loss PERCENT --delay MS --repeat MS --seed S]
+ *   vault_udp resume FOLDER --id I --port PORT [--vaults N] [--loss PERCENT --delay MS --repeat MS --seed S]
  *
  * It prints its decision and goes on, so that others can decide too, until it gets signal 15. */
 #define _POSIX_C_SOURCE 200809L
@@ -65,6 +65,14 @@ static volatile sig_atomic_t ended;
 static void stop(const char *why)
 {
     fprintf(stderr, "vault %" PRIu64 ": %s\n", id, why);
+    exit(1);
+}
+
+/* The vault refused what it must not. */
+static void stop_refused(uint32_t refusal)
+{
+    uint8_t text[VAULT_LONGEST_TEXT];
+    fprintf(stderr, "vault %" PRIu64 ": %.*s\n", id, (int)vault_refusal_text(refusal, text, sizeof text), (const char *)text);
     exit(1);
 }
 
@@ -154,38 +162,17 @@ static void send_again(void)
 
 /* ---- The stored record */
 
-static void write_all(int file, const uint8_t *bytes, size_t count)
-{
-    while (count > 0) {
-        ssize_t wrote = write(file, bytes, count);
-        if (wrote < 0)
-            fail("record.new");
-        bytes += wrote;
-        count -= (size_t)wrote;
-    }
-}
-
-/* The record, and behind it the entries that wait: a decision that was stored and not yet acted on must not be forgotten. Either the old
- * file or the new one is there, whenever the power fails; once this returns, the new one. */
+/* Either the old record or the new one is in the file, whenever the power fails; once this returns, the new one. */
 static void store(void)
 {
     int file = openat(folder_open, "record.new", O_WRONLY | O_CREAT | O_TRUNC, 0600);
     if (file < 0)
         fail("record.new");
-    write_all(file, record, sizeof record);
-    write_all(file, waiting, waiting_count);
+    if (write(file, record, sizeof record) != sizeof record)
+        fail("record.new");
     if (fsync(file) || close(file) || renameat(folder_open, "record.new", folder_open, "record") || fsync(folder_open))
         fail("the record is not stored");
     stores++;
-}
-
-static size_t read_some(int file, uint8_t *bytes, size_t most)
-{
-    size_t at = 0;
-    for (ssize_t count; at < most && (count = read(file, bytes + at, most - at)) != 0; at += (size_t)count)
-        if (count < 0)
-            fail("record");
-    return at;
 }
 
 /* The file must be there and whole: a missing record is not a blank one. */
@@ -194,9 +181,8 @@ static void load(void)
     int file = openat(folder_open, "record", O_RDONLY);
     if (file < 0)
         fail("record");
-    if (read_some(file, record, sizeof record) < sizeof record)
+    if (read(file, record, sizeof record) != sizeof record)
         stop("the stored record is too short");
-    waiting_count = read_some(file, waiting, sizeof waiting);
     close(file);
 }
 
@@ -209,11 +195,10 @@ static void set_timer(uint32_t of, uint64_t length)
     timer_end = now() + length;
 }
 
-static size_t entry_length(const uint8_t *entry)
+static void decide(uint64_t of, uint64_t for_plan)
 {
-    if (entry[0] == VAULT_TO_HOST)
-        return entry[1] == VAULT_HOST_TIMER ? 10 : 14;
-    return 1 + (entry[1] < VAULT_VIEW_CHANGE ? 14 : entry[1] == VAULT_VIEW_CHANGE ? 6 : 45);
+    printf("decided plan %" PRIu64 " in view %" PRIu64 " after %" PRIu64 " ms\n", for_plan, of, now() - began);
+    fflush(stdout);
 }
 
 static void act(const uint8_t *entry, size_t length)
@@ -221,8 +206,7 @@ static void act(const uint8_t *entry, size_t length)
     if (entry[0] == VAULT_TO_HOST && entry[1] == VAULT_HOST_TIMER) {
         set_timer((uint32_t)number(entry + 2, 4), number(entry + 6, 4));
     } else if (entry[0] == VAULT_TO_HOST) {
-        printf("decided plan %" PRIu64 " in view %" PRIu64 " after %" PRIu64 " ms\n", number(entry + 6, 8), number(entry + 2, 4), now() - began);
-        fflush(stdout);
+        decide(number(entry + 2, 4), number(entry + 6, 8));
     } else {
         struct said *s = &said[entry[1]];
         s->recipient = entry[0];
@@ -235,8 +219,6 @@ static void act(const uint8_t *entry, size_t length)
 /* What a call answered. Its entries wait. */
 static void answered(uint32_t answer)
 {
-    if (answer == VAULT_REFUSED_BLANK || answer == VAULT_REFUSED_UNSOUND)
-        stop("the stored record is no record of a started vault");
     if (answer < VAULT_ACCEPTED) {
         refused++;
         return;
@@ -247,23 +229,17 @@ static void answered(uint32_t answer)
     waiting_count += answer - VAULT_ACCEPTED;
 }
 
-static void act_on_waiting(void)
-{
-    for (size_t at = 0, length; at < waiting_count; at += length) {
-        length = entry_length(waiting + at);
-        act(waiting + at, length);
-    }
-    waiting_count = 0;
-}
-
 /* First the record, then its entries. */
 static void store_and_act(void)
 {
-    if (changed) {
-        store();
-        act_on_waiting();
-        changed = 0;
-    }
+    if (!changed)
+        return;
+    store();
+    uint32_t length;
+    for (size_t at = 0; (length = vault_entry(waiting, waiting_count, at)) != 0; at += length)
+        act(waiting + at, length);
+    waiting_count = 0;
+    changed = 0;
 }
 
 /* Takes a frame that has come, if there is one. Whoever holds a vault's port is that vault. */
@@ -320,18 +296,23 @@ static void start(void)
     uint32_t answer = vault_start(record, sizeof record, (uint8_t)vaults, (uint8_t)liars, (uint8_t)id, (uint8_t)link_class, plan, output,
                                   sizeof output);
     if (answer < VAULT_ACCEPTED)
-        stop("the settings are refused");
+        stop_refused(answer);
     answered(answer);
     store_and_act();
 }
 
-/* The stored entries may have been acted on already: a frame that comes twice does no harm. */
+/* The record tells view and timer. It also tells a decision that was stored, and perhaps not acted on before the process died. */
 static void resume(void)
 {
-    static const uint16_t delays[] = {20, 50, 100, 200, 500, 1000, 2000, 5000};
+    uint32_t current[2], answer;
+    uint64_t decision[2];
     load();
-    set_timer((uint32_t)number(record + 4, 4), (uint64_t)DELAYS_IN_TIMER * delays[link_class]);
-    act_on_waiting();
+    answer = vault_current(record, sizeof record, current, 2);
+    if (answer < VAULT_ACCEPTED)
+        stop_refused(answer);
+    set_timer(current[0], current[1]);
+    if (vault_decision(record, sizeof record, decision, 2) > VAULT_ACCEPTED)
+        decide(decision[0], decision[1]);
 }
 
 static void open_all(void)
@@ -384,7 +365,7 @@ int main(int count, char **words)
         return 2;
     }
     folder = words[2];
-    if (vault_record_size() != VAULT_RECORD_SIZE)
+    if (vault_version() / 10000 != VAULT_VERSION_MAJOR)
         stop("vault.h is of another version than the library");
     struct sigaction action = {.sa_handler = end};
     sigaction(SIGTERM, &action, NULL);

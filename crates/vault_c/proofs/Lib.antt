@@ -1,3 +1,4 @@
 pub mod Refusals
 pub mod Small
+pub mod Asked
 pub mod Tied

@@ -1,14 +1,31 @@
-// The vault for Rust and C hosts: start, frame and timer over lent bytes, with one number as the answer (include/vault.h).
+// The vault for Rust and C hosts: start, frame and timer over lent bytes, with one number as the answer; questions on a stored record; and
+// help with entries and refusals (include/vault.h).
 ghost use mathlib.Core.Path.{_≡_};
+ghost use lib.ListN.{length, drop};
 ghost use Rattle.layout.specs.Size.{recordSize};
 ghost use Rattle.contents.specs.Calls.{startLeft, frameLeft, timerLeft};
-ghost use Rattle.vault_c.specs.Numbers.{seen, numbered};
+ghost use Rattle.stored.specs.Stored.{currentOf, decisionOf};
+ghost use Rattle.entries.specs.Walk.{sizeIn};
+ghost use Rattle.texts.specs.Texts.{sentenceOf, fitting, Written};
 ghost use Rattle.vault_c.specs.inside.Numbers.{code, Short};
+ghost use Rattle.vault_c.specs.Numbers.{seen, numbered};
+ghost use Rattle.vault_c.specs.Asked.{version, told, tellCurrent, tellDecision, withRoom};
 use settings::Settings;
+use stored::Current;
+use stored::Decision;
 use vault::Answer;
 
 // What a call that is accepted gives, less the bytes that it wrote.
 const ACCEPTED: u32 = 256;
+
+// What a question gives where the record has a decision.
+const DECIDED: u32 = 257;
+
+// The refusal where the host lent too little room.
+const SHORT: u32 = 1;
+
+// Major * 10000 + minor * 100 + patch.
+const VERSION: u32 = 10000;
 
 // The number that stands for an answer.
 fn number(a: Answer) -> u32
@@ -19,6 +36,14 @@ fn number(a: Answer) -> u32
         Answer::Written(count) => ACCEPTED + count as u32,
         Answer::Refused(refusal) => refusal as u32,
     }
+}
+
+// The library's version.
+#[no_mangle]
+pub extern "C" fn vault_version() -> u32
+    ensures { λ r. ⌜ r ≡ version ⌝ }
+{
+    VERSION
 }
 
 // How many bytes a record has.
@@ -62,4 +87,61 @@ pub extern "C" fn vault_timer(rec: &mut [u8], view: u32, out: &mut [u8]) -> u32
 {
     let a = vault::timer(rec, view, out);
     number(a)
+}
+
+// The view that a stored record is in, and the milliseconds of its timer.
+#[no_mangle]
+pub extern "C" fn vault_current(rec: &[u8], out: &mut [u32]) -> u32
+    ensures { λ r. ⌜ told r (now (out .exit)) ≡ withRoom (now (out .entry)) (tellCurrent (currentOf (now (rec .entry))) (now (out .entry))) ⌝ }
+{
+    if out.len() < 2 {
+        return SHORT;
+    }
+    let current = stored::current_of(rec);
+    match current {
+        Current::Entered { view, millis } => {
+            out[0] = view;
+            out[1] = millis;
+            ACCEPTED
+        }
+        Current::Refused(number) => number as u32,
+    }
+}
+
+// The decision of a stored record, and its view.
+#[no_mangle]
+pub extern "C" fn vault_decision(rec: &[u8], out: &mut [u64]) -> u32
+    ensures { λ r. ⌜ told r (now (out .exit)) ≡ withRoom (now (out .entry)) (tellDecision (decisionOf (now (rec .entry))) (now (out .entry))) ⌝ }
+{
+    if out.len() < 2 {
+        return SHORT;
+    }
+    let decision = stored::decision_of(rec);
+    match decision {
+        Decision::Made { view, plan } => {
+            out[0] = view as u64;
+            out[1] = plan;
+            DECIDED
+        }
+        Decision::Open => ACCEPTED,
+        Decision::Refused(number) => number as u32,
+    }
+}
+
+// How many bytes the entry at a place of an output takes; 0 at the end, and where no whole entry stands there.
+#[no_mangle]
+pub extern "C" fn vault_entry(out: &[u8], at: usize) -> u32
+    ensures { λ r. ⌜ r ≡ sizeIn (drop at (now (out .entry))) ⌝ }
+{
+    let size = entries::size_from(out, at);
+    size as u32
+}
+
+// A refusal's sentence.
+#[no_mangle]
+pub extern "C" fn vault_refusal_text(number: u32, out: &mut [u8]) -> u32
+    ensures { λ r. ⌜ Written (fitting (sentenceOf number) (length (now (out .entry)))) (now (out .entry)) (now (out .exit)) r ⌝ }
+{
+    let count = texts::refusal_text(number, out);
+    count as u32
 }

@@ -3,7 +3,7 @@
 use std::collections::VecDeque;
 use std::convert::Infallible;
 
-use vault::{Entry, Frame, Record, Settings, Vault};
+use vault::{Decision, Entry, Frame, Record, Settings, Vault};
 
 const VAULTS: u8 = 4;
 
@@ -38,7 +38,7 @@ impl Host {
         for entry in entries {
             match entry {
                 Entry::Timer { view, .. } => self.timer = view,
-                Entry::Decision { view, plan } => {
+                Entry::Decision(Decision { view, plan }) => {
                     println!("vault {id} decides plan {plan} in view {view}");
                     self.decision = Some(plan);
                 }

@@ -2,15 +2,12 @@
 use std::ops::Deref;
 use std::time::Duration;
 
-use crate::LONGEST_FRAME;
+use crate::{sys, Decision, LONGEST_FRAME};
 
 const TO_HOST: u8 = 0xfe;
 const TO_ALL: u8 = 0xff;
 const DECISION: u8 = 0x0a;
 const TIMER: u8 = 0x0b;
-/// A timer: view (4 bytes), milliseconds (4), after recipient and type. A decision: view (4), plan (8).
-const TIMER_LENGTH: usize = 10;
-const DECISION_LENGTH: usize = 14;
 
 /// The kinds of frames, by their number.
 #[derive(Debug, Clone, Copy, PartialEq, Eq, PartialOrd, Ord, Hash)]
@@ -40,36 +37,27 @@ impl Kind {
         use Kind::*;
         [Proposal, Vote1, Vote2, Vote3, Vote4, ViewChange, Suggest, Proof].into_iter().find(|&kind| kind as u8 == number)
     }
-
-    /// How many bytes a frame of this kind has.
-    pub fn frame_length(self) -> usize {
-        match self {
-            Kind::ViewChange => 6,
-            Kind::Suggest | Kind::Proof => LONGEST_FRAME,
-            _ => 14,
-        }
-    }
 }
 
 /// A frame that the vault wrote: the bytes to be sent, as they are.
 #[derive(Debug, Clone, Copy, PartialEq, Eq)]
 pub struct Frame {
     kind: Kind,
+    length: u8,
     bytes: [u8; LONGEST_FRAME],
 }
 
 impl Frame {
-    /// The frame at the beginning of some bytes.
-    fn first(bytes: &[u8]) -> Option<Frame> {
-        let kind = Kind::from_number(*bytes.first()?)?;
-        let mut frame = Frame { kind, bytes: [0; LONGEST_FRAME] };
-        frame.bytes[..kind.frame_length()].copy_from_slice(bytes.get(..kind.frame_length())?);
+    /// A frame with the length that the library told.
+    fn of(bytes: &[u8]) -> Option<Frame> {
+        let mut frame = Frame { kind: Kind::from_number(*bytes.first()?)?, length: bytes.len() as u8, bytes: [0; LONGEST_FRAME] };
+        frame.bytes.get_mut(..bytes.len())?.copy_from_slice(bytes);
         Some(frame)
     }
 
     /// What is to be sent.
     pub fn as_bytes(&self) -> &[u8] {
-        &self.bytes[..self.kind.frame_length()]
+        &self.bytes[..usize::from(self.length)]
     }
 
     /// Its kind, byte 0.
@@ -111,32 +99,23 @@ pub enum Entry {
         after: Duration,
     },
     /// The vaults have agreed. A vault says so once.
-    Decision {
-        /// The view in which the plan was agreed.
-        view: u32,
-        /// The plan.
-        plan: u64,
-    },
+    Decision(Decision),
 }
 
 impl Entry {
-    /// The entry at the beginning of some bytes, and its length.
-    fn first(bytes: &[u8]) -> Option<(Entry, usize)> {
+    /// What the bytes of one entry say.
+    fn of(bytes: &[u8]) -> Option<Entry> {
         match *bytes {
-            [TO_HOST, TIMER, ..] => {
-                let entry = bytes.get(..TIMER_LENGTH)?;
-                let after = Duration::from_millis(number(&entry[6..]));
-                Some((Entry::Timer { view: number(&entry[2..6]) as u32, after }, TIMER_LENGTH))
+            [TO_HOST, TIMER, ref rest @ ..] => {
+                let (view, milliseconds) = rest.split_at_checked(4)?;
+                Some(Entry::Timer { view: number(view) as u32, after: Duration::from_millis(number(milliseconds)) })
             }
-            [TO_HOST, DECISION, ..] => {
-                let entry = bytes.get(..DECISION_LENGTH)?;
-                Some((Entry::Decision { view: number(&entry[2..6]) as u32, plan: number(&entry[6..]) }, DECISION_LENGTH))
+            [TO_HOST, DECISION, ref rest @ ..] => {
+                let (view, plan) = rest.split_at_checked(4)?;
+                Some(Entry::Decision(Decision { view: number(view) as u32, plan: number(plan) }))
             }
-            [recipient, ref rest @ ..] => {
-                let frame = Frame::first(rest)?;
-                let entry = if recipient == TO_ALL { Entry::All(frame) } else { Entry::To(recipient, frame) };
-                Some((entry, 1 + frame.len()))
-            }
+            [TO_ALL, ref frame @ ..] => Frame::of(frame).map(Entry::All),
+            [recipient, ref frame @ ..] => Frame::of(frame).map(|frame| Entry::To(recipient, frame)),
             [] => None,
         }
     }
@@ -165,8 +144,9 @@ impl Iterator for Entries {
     type Item = Entry;
 
     fn next(&mut self) -> Option<Entry> {
-        let (entry, length) = Entry::first(&self.bytes[self.at..])?;
-        self.at += length;
+        let end = self.at + sys::entry(&self.bytes, self.at);
+        let entry = Entry::of(self.bytes.get(self.at..end)?)?;
+        self.at = end;
         Some(entry)
     }
 }
@@ -185,7 +165,7 @@ mod tests {
         let suggest = [&[3, 7, 0, 0, 0, 0, 1][..], &[0; 39]].concat();
         let mut entries = Entries::new([&timer[..], &decision, &change, &suggest].concat());
         assert_eq!(entries.next(), Some(Entry::Timer { view: 1, after: Duration::from_millis(900) }));
-        assert_eq!(entries.next(), Some(Entry::Decision { view: 1, plan: 700 }));
+        assert_eq!(entries.next(), Some(Entry::Decision(Decision { view: 1, plan: 700 })));
         let Some(Entry::All(frame)) = entries.next() else { panic!("a view-change") };
         assert_eq!((frame.kind(), frame.sender(), frame.view(), &frame[..]), (Kind::ViewChange, 0, 2, &change[1..]));
         let Some(Entry::To(3, frame)) = entries.next() else { panic!("a suggest") };

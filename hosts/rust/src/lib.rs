@@ -20,7 +20,7 @@
 //!     match entry {
 //!         Entry::Timer { view, after } => assert_eq!((view, after), (0, Duration::from_millis(900))),
 //!         Entry::All(frame) => frames.push(frame),
-//!         Entry::To(_, _) | Entry::Decision { .. } => unreachable!("not at a start"),
+//!         Entry::To(_, _) | Entry::Decision(_) => unreachable!("not at a start"),
 //!     }
 //! }
 //! // It leads view 0, so it proposes its plan, and votes for it.
@@ -40,8 +40,9 @@
 //!   [`Vault::timer`]. A frame that comes again is refused ([`Refusal::Over`], [`Refusal::Kept`]) and does no harm.
 //! - **Timer**: an [`Entry::Timer`] replaces the timer of any earlier view. When it runs out call [`Vault::timer`] with its view, and again after
 //!   the same time for as long as the view lasts, also after the decision.
-//! - **Restart** with the stored record, and set the timer of its view. [`Record::blank`] is for a vault that was never started: never take it in
-//!   place of a file that is missing or empty.
+//! - **Restart** with the stored record: set the timer of its view ([`Record::current`]), and act on its decision ([`Record::decision`]), which may
+//!   have been stored just before the crash. [`Record::blank`] is for a vault that was never started: never take it in place of a file that is
+//!   missing or empty.
 //!
 //! # What is needed
 //!
@@ -52,6 +53,8 @@
 mod entry;
 mod refusal;
 mod sys;
+
+use std::time::Duration;
 
 pub use entry::{Entries, Entry, Frame, Kind};
 pub use refusal::Refusal;
@@ -64,6 +67,37 @@ pub const LONGEST_FRAME: usize = 45;
 const OUTPUT_SIZE: usize = 256;
 /// The answer of an accepted call, less the bytes written.
 const ACCEPTED: u32 = 256;
+/// The answer where a record has a decision.
+const DECIDED: u32 = ACCEPTED + 1;
+/// Records and frames of another major version are not understood.
+const MAJOR: u32 = 1;
+
+/// The archive's version: major * 10000 + minor * 100 + patch.
+pub fn version() -> u32 {
+    sys::version()
+}
+
+fn refusal(answer: u32) -> Refusal {
+    Refusal::from_number(answer).expect("an answer is a refusal or 256 and more")
+}
+
+/// The view that a vault is in, and how long its timer takes.
+#[derive(Debug, Clone, Copy, PartialEq, Eq)]
+pub struct Current {
+    /// The view: what [`Vault::timer`] is to be told.
+    pub view: u32,
+    /// Nine delays of the link class.
+    pub after: Duration,
+}
+
+/// What the vaults have agreed.
+#[derive(Debug, Clone, Copy, PartialEq, Eq)]
+pub struct Decision {
+    /// The view in which the plan was agreed.
+    pub view: u32,
+    /// The plan.
+    pub plan: u64,
+}
 
 /// All that a vault keeps: what a host stores.
 #[derive(Clone, PartialEq, Eq)]
@@ -78,6 +112,25 @@ impl Record {
     /// What is to be stored.
     pub fn as_bytes(&self) -> &[u8; RECORD_SIZE] {
         &self.0
+    }
+
+    /// For a host that comes back: the current view, whose timer is to be set again. Refusals: `Blank` and `Unsound`.
+    pub fn current(&self) -> Result<Current, Refusal> {
+        let mut out = [0; 2];
+        match sys::current(&self.0[..], &mut out) {
+            ACCEPTED => Ok(Current { view: out[0], after: Duration::from_millis(out[1].into()) }),
+            answer => Err(refusal(answer)),
+        }
+    }
+
+    /// The decision, where there is one. Refusals: `Blank` and `Unsound`.
+    pub fn decision(&self) -> Result<Option<Decision>, Refusal> {
+        let mut out = [0; 2];
+        match sys::decision(&self.0[..], &mut out) {
+            ACCEPTED => Ok(None),
+            DECIDED => Ok(Some(Decision { view: out[0] as u32, plan: out[1] })),
+            answer => Err(refusal(answer)),
+        }
     }
 }
 
@@ -127,9 +180,9 @@ impl Vault {
     /// A vault with the record that was stored last, or with a blank one before its first start.
     ///
     /// # Panics
-    /// Where the archive's records have another size than this crate's: it is of another version.
+    /// Where the archive is of another major version than this crate.
     pub fn new(record: Record) -> Vault {
-        assert_eq!(sys::record_size(), RECORD_SIZE, "libvault_c.a is of another version than this crate");
+        assert_eq!((version() / 10_000, sys::record_size()), (MAJOR, RECORD_SIZE), "libvault_c.a is of another version than this crate");
         Vault { record, waiting: Vec::new(), changed: false }
     }
 
@@ -172,7 +225,7 @@ impl Vault {
                 self.changed = true;
                 Ok(())
             }
-            None => Err(Refusal::from_number(answer).expect("an answer is a refusal or 256 and more")),
+            None => Err(refusal(answer)),
         }
     }
 }

@@ -1,6 +1,11 @@
 //! Why a call did not act.
 use std::fmt;
 
+use crate::sys;
+
+/// No sentence is longer.
+const LONGEST_TEXT: usize = 120;
+
 /// A refusal: the call changed nothing. In the order in which they are tested.
 #[derive(Debug, Clone, Copy, PartialEq, Eq, PartialOrd, Ord, Hash)]
 #[repr(u8)]
@@ -61,35 +66,14 @@ impl Refusal {
     pub fn number(self) -> u8 {
         self as u8
     }
-
-    fn text(self) -> &'static str {
-        match self {
-            Refusal::Output => "the host lent less than 256 bytes for the output",
-            Refusal::Blank => "this vault was not started yet",
-            Refusal::Unsound => "the stored record is damaged, or of another program",
-            Refusal::Started => "this vault was started before, or its record is damaged",
-            Refusal::N => "there are 4 to 64 vaults",
-            Refusal::F => "f is at least 1, and three times f is less than n",
-            Refusal::Id => "the vault's number must be below n",
-            Refusal::Class => "the link class is 0 to 7",
-            Refusal::Kind => "the frame is empty, or of no known kind",
-            Refusal::Length => "the frame's length does not fit its kind",
-            Refusal::Link => "the sender is no vault of this practice, or this vault itself",
-            Refusal::Sender => "the frame names another sender than the link it came by",
-            Refusal::View0 => "a view-change, suggest or proof for view 0",
-            Refusal::Report => "a report in the frame contradicts itself",
-            Refusal::Leader => "a proposal from a vault that does not lead the view, or a suggest that is not for this vault",
-            Refusal::Over => "the frame's view is over",
-            Refusal::Kept => "the same frame, or a newer one of this kind, came from this sender already",
-            Refusal::Timer => "a timer of another view than the current one",
-            Refusal::LastView => "the last view of all is reached",
-        }
-    }
 }
 
+/// The library's own sentence.
 impl fmt::Display for Refusal {
     fn fmt(&self, f: &mut fmt::Formatter<'_>) -> fmt::Result {
-        write!(f, "refusal {}: {}", self.number(), self.text())
+        let mut text = [0; LONGEST_TEXT];
+        let length = sys::refusal_text(self.number().into(), &mut text);
+        write!(f, "refusal {}: {}", self.number(), String::from_utf8_lossy(&text[..length]))
     }
 }
 

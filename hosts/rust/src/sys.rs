@@ -4,6 +4,7 @@ use crate::Settings;
 
 mod raw {
     extern "C" {
+        pub fn vault_version() -> u32;
         pub fn vault_record_size() -> u32;
         pub fn vault_start(
             record: *mut u8,
@@ -26,7 +27,16 @@ mod raw {
             output_length: usize,
         ) -> u32;
         pub fn vault_timer(record: *mut u8, record_length: usize, view: u32, output: *mut u8, output_length: usize) -> u32;
+        pub fn vault_current(record: *const u8, record_length: usize, out: *mut u32, out_count: usize) -> u32;
+        pub fn vault_decision(record: *const u8, record_length: usize, out: *mut u64, out_count: usize) -> u32;
+        pub fn vault_entry(output: *const u8, output_length: usize, at: usize) -> u32;
+        pub fn vault_refusal_text(number: u32, output: *mut u8, output_length: usize) -> u32;
     }
+}
+
+pub fn version() -> u32 {
+    // SAFETY: it takes nothing.
+    unsafe { raw::vault_version() }
 }
 
 pub fn record_size() -> usize {
@@ -47,4 +57,20 @@ pub fn frame(record: &mut [u8], sender: u8, frame: &[u8], output: &mut [u8]) -> 
 
 pub fn timer(record: &mut [u8], view: u32, output: &mut [u8]) -> u32 {
     unsafe { raw::vault_timer(record.as_mut_ptr(), record.len(), view, output.as_mut_ptr(), output.len()) }
+}
+
+pub fn current(record: &[u8], out: &mut [u32]) -> u32 {
+    unsafe { raw::vault_current(record.as_ptr(), record.len(), out.as_mut_ptr(), out.len()) }
+}
+
+pub fn decision(record: &[u8], out: &mut [u64]) -> u32 {
+    unsafe { raw::vault_decision(record.as_ptr(), record.len(), out.as_mut_ptr(), out.len()) }
+}
+
+pub fn entry(output: &[u8], at: usize) -> usize {
+    unsafe { raw::vault_entry(output.as_ptr(), output.len(), at) as usize }
+}
+
+pub fn refusal_text(number: u32, output: &mut [u8]) -> usize {
+    unsafe { raw::vault_refusal_text(number, output.as_mut_ptr(), output.len()) as usize }
 }

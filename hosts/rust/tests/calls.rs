@@ -1,7 +1,9 @@
 //! The wrapper's own work: refusals, storing before entries, stored records.
 use std::convert::Infallible;
 
-use vault::{Entry, Record, Refusal, Settings, Vault, RECORD_SIZE};
+use std::time::Duration;
+
+use vault::{Current, Decision, Entry, Record, Refusal, Settings, Vault, RECORD_SIZE};
 
 const SETTINGS: Settings = Settings { n: 4, f: 1, id: 0, class: 2 };
 
@@ -68,6 +70,32 @@ fn a_stored_record_goes_on() {
     assert!(Record::try_from(&stored[1..]).is_err());
 
     let mut damaged = [0xff; RECORD_SIZE];
-    damaged[..4].copy_from_slice(&stored[..4]);
-    assert_eq!(Vault::new(Record::from(damaged)).timer(0), Err(Refusal::Unsound));
+    damaged[..3].copy_from_slice(&stored[..3]);
+    let damaged = Record::from(damaged);
+    assert_eq!((damaged.current(), damaged.decision()), (Err(Refusal::Unsound), Err(Refusal::Unsound)));
+    assert_eq!(Vault::new(damaged).timer(0), Err(Refusal::Unsound));
+}
+
+/// What a host that comes back asks.
+#[test]
+fn a_record_tells_its_view_and_decision() {
+    assert_eq!((Record::blank().current(), Record::blank().decision()), (Err(Refusal::Blank), Err(Refusal::Blank)));
+    let mut vault = started();
+    assert_eq!(vault.record().current(), Ok(Current { view: 0, after: Duration::from_millis(900) }));
+    for kind in 2..=5 {
+        assert_eq!(vault.record().decision(), Ok(None));
+        for sender in 1..=3 {
+            vault.frame(sender, &[kind, sender, 0, 0, 0, 0, 0, 0, 0, 0, 0, 0, 0, 7]).expect("a vote of the current view");
+        }
+    }
+    let decision = Decision { view: 0, plan: 7 };
+    assert_eq!(vault.record().decision(), Ok(Some(decision)));
+    let Ok(entries) = vault.store(kept);
+    assert_eq!(entries.last(), Some(Entry::Decision(decision)));
+    // Two view-changes make it ask for view 1 too, and three bring it there.
+    for sender in 1..=2 {
+        vault.frame(sender, &[6, sender, 0, 0, 0, 1]).expect("a view-change");
+    }
+    assert_eq!(vault.record().current().map(|current| current.view), Ok(1));
+    assert_eq!(vault.record().decision(), Ok(Some(decision)));
 }

@@ -2,6 +2,7 @@
 use vault::{Kind, Refusal, LONGEST_FRAME, RECORD_SIZE};
 
 const HEADER: &str = include_str!("../../../include/vault.h");
+const README: &str = include_str!("../../../README.md");
 
 /// `NAME = 3` or `#define NAME 3` of the header, without the prefix.
 fn names(prefix: &str) -> Vec<(String, u32)> {
@@ -20,6 +21,17 @@ fn refusals() {
     assert_eq!(header, ours);
     assert!(Refusal::ALL.iter().all(|&refusal| Refusal::from_number(u32::from(refusal.number())) == Some(refusal)));
     assert_eq!((Refusal::from_number(0), Refusal::from_number(20)), (None, None));
+}
+
+/// The support desk reads what the library says.
+#[test]
+fn sentences() {
+    for refusal in Refusal::ALL {
+        let (number, said) = (refusal.number(), refusal.to_string());
+        let sentence = said.strip_prefix(&format!("refusal {number}: ")).expect("a number and a sentence");
+        let row = README.lines().find(|line| line.starts_with(&format!("| {number} | {number:02x} |"))).expect("a row of the table");
+        assert_eq!(row.rsplit('|').nth(1).map(str::trim), Some(sentence));
+    }
 }
 
 #[test]
@@ -41,4 +53,6 @@ fn sizes() {
     let version =
         ["MAJOR", "MINOR", "PATCH"].map(|part| header.iter().find(|(name, _)| *name == format!("VERSION_{part}")).expect("a version").1.to_string());
     assert_eq!(version.join("."), env!("CARGO_PKG_VERSION"));
+    let numbers = version.map(|part| part.parse::<u32>().expect("a number"));
+    assert_eq!(vault::version(), numbers[0] * 10_000 + numbers[1] * 100 + numbers[2]);
 }

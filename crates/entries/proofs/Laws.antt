@@ -1,0 +1,124 @@
+-- Laws of the size of an entry, case by case: for the code's branches.
+-- Assumes nothing.
+use Prim.Native.Nat.{ℕ, _+_, _-_, _≤_, _<_}
+use mathlib.Core.Path.{_≡_, refl, sym, ap, subst, _∙_}
+use mathlib.Core.Bool.{Bool, true, false, cond}
+use mathlib.Core.List.{List, [], _∷_}
+use native.Mathlib.Omega.{arith}
+use native.Mathlib.Decide.{decLe}
+use borrow.Author.Tests.{eq-eqb, ne-eqb, le-leb, lt-leb}
+use lib.Dec.{eqb, leb}
+use lib.ListN.{length, getD, take, drop, length-drop}
+use lib.Seq.{take-all}
+use Rattle.frame.specs.Format.{lengthOf}
+use Rattle.frame.proofs.Laws.{length-plan, length-bare, length-reports, length-low, length-high}
+use Rattle.entries.specs.Walk.{hostSize, frameSize, sizeBy, sizeHere, sizeIn}
+
+-- No frame is longer than 45 bytes.
+pub length-short : (k : ℕ) → lengthOf k ≤ 45
+length-short k =
+    elim (decLe k 0) [
+      | yes h ↦ subst (λ (m : ℕ). m ≤ 45) (sym (length-low k (omega arith))) (omega arith)
+      | no g ↦ elim (decLe k 5) [
+        | yes h ↦ subst (λ (m : ℕ). m ≤ 45) (sym (length-plan k (omega arith) h)) (omega arith)
+        | no h ↦ elim (decLe k 6) [
+          | yes e ↦ subst (λ (m : ℕ). m ≤ 45) (sym (length-bare k (omega arith))) (omega arith)
+          | no e ↦ elim (decLe k 8) [
+            | yes u ↦ subst (λ (m : ℕ). m ≤ 45) (sym (length-reports k (omega arith) u)) (omega arith)
+            | no u ↦ subst (λ (m : ℕ). m ≤ 45) (sym (length-high k (omega arith))) (omega arith)
+          ]
+        ]
+      ]
+    ]
+
+-- ---- by two bytes
+
+pub host-timer : (told : ℕ) → told ≡ 11 → hostSize told ≡ 10
+unfolding hostSize
+host-timer told e = simp (eq-eqb told 11 e) refl
+
+pub host-decision : (told : ℕ) → told ≡ 10 → hostSize told ≡ 14
+unfolding hostSize
+host-decision told e = simp (ne-eqb told 11 (omega arith), eq-eqb told 10 e) refl
+
+pub host-other : (told : ℕ) → (told ≡ 11 → ⊥) → (told ≡ 10 → ⊥) → hostSize told ≡ 0
+unfolding hostSize
+host-other told a b = simp (ne-eqb told 11 a, ne-eqb told 10 b) refl
+
+pub frame-none : (kind : ℕ) → lengthOf kind ≡ 0 → frameSize kind ≡ 0
+unfolding frameSize
+frame-none kind e = simp (eq-eqb (lengthOf kind) 0 e) refl
+
+pub frame-some : (kind : ℕ) → (lengthOf kind ≡ 0 → ⊥) → frameSize kind ≡ 1 + lengthOf kind
+unfolding frameSize
+frame-some kind h = simp (ne-eqb (lengthOf kind) 0 h) refl
+
+pub by-host : (to next : ℕ) → to ≡ 254 → sizeBy to next ≡ hostSize next
+unfolding sizeBy
+by-host to next e = simp (eq-eqb to 254 e) refl
+
+pub by-frame : (to next : ℕ) → (to ≡ 254 → ⊥) → sizeBy to next ≡ frameSize next
+unfolding sizeBy
+by-frame to next h = simp (ne-eqb to 254 h) refl
+
+-- ---- by some bytes
+
+pub in-whole : (s : List ℕ) → sizeHere s ≤ length s → sizeIn s ≡ sizeHere s
+unfolding sizeIn
+in-whole s h = simp (le-leb (sizeHere s) (length s) h) refl
+
+pub in-cut : (s : List ℕ) → length s < sizeHere s → sizeIn s ≡ 0
+unfolding sizeIn
+in-cut s h = simp (lt-leb (sizeHere s) (length s) h) refl
+
+-- No entry begins with one byte and a 0, so none has less than two bytes.
+by-nothing : (to : ℕ) → sizeBy to 0 ≡ 0
+unfolding sizeBy hostSize frameSize
+by-nothing to = go (eqb to 254)
+  where
+    go : (b : Bool) → cond b (hostSize 0) (frameSize 0) ≡ 0
+    go true = host-other 0 (λ (e : 0 ≡ 11). omega arith) (λ (e : 0 ≡ 10). omega arith)
+    go false = frame-none 0 (length-low 0 (omega arith))
+
+second-missing : (s : List ℕ) → length s < 2 → getD s 1 0 ≡ 0
+second-missing [] h = refl
+second-missing (x ∷ []) h = refl
+second-missing (x ∷ y ∷ s) h = absurd (omega arith)
+
+pub in-short : (s : List ℕ) → length s < 2 → sizeIn s ≡ 0
+in-short s h =
+    let none-here : sizeHere s ≡ 0 = ap (λ (k : ℕ). sizeBy (getD s 0 0) k) (second-missing s h) ∙ by-nothing (getD s 0 0) in
+    in-whole s (omega arith) ∙ none-here
+
+-- At the end, and beyond it.
+pub in-none : (s : List ℕ) (at : ℕ) → length s ≤ at → sizeIn (drop at s) ≡ 0
+in-none s at h = in-short (drop at s) (rw length-drop (omega arith))
+
+-- The rest of some bytes, as it is lent.
+pub in-rest : (s : List ℕ) (at : ℕ) → sizeIn (take (length s - at) (drop at s)) ≡ sizeIn (drop at s)
+in-rest s at = ap sizeIn (take-all (length s - at) (drop at s) (rw length-drop (omega arith)))
+
+-- An entry has at most 46 bytes.
+pub in-most : (s : List ℕ) → sizeIn s ≤ 46
+unfolding sizeIn sizeBy hostSize frameSize
+in-most s = go (leb (sizeHere s) (length s)) (eqb (getD s 0 0) 254)
+  where
+    n : ℕ
+    n = getD s 1 0
+
+    host : (a b : Bool) → cond a 10 (cond b 14 0) ≤ 46
+    host true b = omega arith
+    host false true = omega arith
+    host false false = omega arith
+
+    frame : (a : Bool) → cond a 0 (1 + lengthOf n) ≤ 46
+    frame true = omega arith
+    frame false = omega (arith, length-short n)
+
+    here : (b : Bool) → cond b (hostSize n) (frameSize n) ≤ 46
+    here true = host (eqb n 11) (eqb n 10)
+    here false = frame (eqb (lengthOf n) 0)
+
+    go : (a b : Bool) → cond a (cond b (hostSize n) (frameSize n)) 0 ≤ 46
+    go true b = here b
+    go false b = omega arith

@@ -1,0 +1,33 @@
+-- Laws of the questions on a stored record, as a host sees them: refusal 1 comes first; then the answer decides what is told.
+-- Assumes nothing.
+use Prim.Native.Nat.{ℕ, _≤_, _<_}
+use mathlib.Core.Path.{_≡_, refl, ap, _∙_}
+use mathlib.Core.List.{List, [], _∷_}
+use native.Mathlib.Omega.{arith}
+use borrow.Author.Tests.{lt-ltb, le-ltb}
+use lib.ListN.{length, set}
+use Rattle.stored.specs.declared.Current.{Current}
+use Rattle.stored.specs.declared.Decision.{Decision}
+use Rattle.vault_c.specs.Asked.{Told, told, two, tellCurrent, tellDecision, withRoom}
+
+-- There is no room for two numbers.
+pub no-room : (out : List ℕ) (t : Told) → length out < 2 → told 1 out ≡ withRoom out t
+unfolding withRoom
+no-room out t h = rw (lt-ltb (length out) 2 h) refl
+
+-- There is.
+room : (out : List ℕ) (t : Told) → 2 ≤ length out → t ≡ withRoom out t
+unfolding withRoom
+room out t h = rw (le-ltb (length out) 2 h) refl
+
+pub current-told : (out : List ℕ) (t : Told) (x y : Current) → 2 ≤ length out → x ≡ y → t ≡ tellCurrent x out → t ≡ withRoom out (tellCurrent y out)
+current-told out t x y h same is = is ∙ ap (λ (z : Current). tellCurrent z out) same ∙ room out (tellCurrent y out) h
+
+pub decision-told : (out : List ℕ) (t : Told) (x y : Decision) → 2 ≤ length out → x ≡ y → t ≡ tellDecision x out → t ≡ withRoom out (tellDecision y out)
+decision-told out t x y h same is = is ∙ ap (λ (z : Decision). tellDecision z out) same ∙ room out (tellDecision y out) h
+
+-- The first two numbers are stored, and the others stay.
+pub two-set : (out : List ℕ) (view number : ℕ) → 2 ≤ length out → set (set out 0 view) 1 number ≡ two view number out
+two-set [] view number h = absurd (omega arith)
+two-set (x ∷ []) view number h = absurd (omega arith)
+two-set (x ∷ y ∷ out) view number h = refl
