@@ -32,9 +32,9 @@ unfolding fitting
 all-fit bytes out out′ r h e is = rw (le-leb (length bytes) (length out) h) (record { count = e; left = is ∙ copied bytes out })
 
 -- An arm copies its own number's sentence.
-pub said : (number k : ℕ) (bytes out out′ : List ℕ) (r : ℕ) → number ≡ k → bytes ≡ sentenceOf k → Written (fitting bytes (length out)) out out′ r
+pub said : (number k : ℕ) (bytes out out′ : List ℕ) (r : ℕ) → Written (fitting bytes (length out)) out out′ r → number ≡ k → bytes ≡ sentenceOf k
     → Written (fitting (sentenceOf number) (length out)) out out′ r
-said number k bytes out out′ r e same w =
+said number k bytes out out′ r w e same =
     subst (λ (s : List ℕ). Written (fitting s (length out)) out out′ r) (same ∙ ap sentenceOf (sym e)) w
 
 -- Beyond a list there is no sentence.

@@ -133,140 +133,140 @@ same-length c = search needs
 
 returns : tie.Need-returns
 unfolding sentenceOf bytesOf
-returns c = said _ 1 _ _ _ _ (c .before .before .before .before .before .match .keys1) refl (c .before .before .put .ensures)
+returns c = said _ 1 _ _ _ _ (c .before .before .put .ensures) (c .before .before .before .before .before .match .keys1) refl
 
 same-length-2 : tie.Need-same-length-2
 same-length-2 c = search needs
 
 returns-2 : tie.Need-returns-2
 unfolding sentenceOf bytesOf
-returns-2 c = said _ 2 _ _ _ _ (c .before .before .before .before .before .match .keys2) refl (c .before .before .put2 .ensures)
+returns-2 c = said _ 2 _ _ _ _ (c .before .before .put2 .ensures) (c .before .before .before .before .before .match .keys2) refl
 
 same-length-3 : tie.Need-same-length-3
 same-length-3 c = search needs
 
 returns-3 : tie.Need-returns-3
 unfolding sentenceOf bytesOf
-returns-3 c = said _ 3 _ _ _ _ (c .before .before .before .before .before .match .keys3) refl (c .before .before .put3 .ensures)
+returns-3 c = said _ 3 _ _ _ _ (c .before .before .put3 .ensures) (c .before .before .before .before .before .match .keys3) refl
 
 same-length-4 : tie.Need-same-length-4
 same-length-4 c = search needs
 
 returns-4 : tie.Need-returns-4
 unfolding sentenceOf bytesOf
-returns-4 c = said _ 4 _ _ _ _ (c .before .before .before .before .before .match .keys4) refl (c .before .before .put4 .ensures)
+returns-4 c = said _ 4 _ _ _ _ (c .before .before .put4 .ensures) (c .before .before .before .before .before .match .keys4) refl
 
 same-length-5 : tie.Need-same-length-5
 same-length-5 c = search needs
 
 returns-5 : tie.Need-returns-5
 unfolding sentenceOf bytesOf
-returns-5 c = said _ 5 _ _ _ _ (c .before .before .before .before .before .match .keys5) refl (c .before .before .put5 .ensures)
+returns-5 c = said _ 5 _ _ _ _ (c .before .before .put5 .ensures) (c .before .before .before .before .before .match .keys5) refl
 
 same-length-6 : tie.Need-same-length-6
 same-length-6 c = search needs
 
 returns-6 : tie.Need-returns-6
 unfolding sentenceOf bytesOf
-returns-6 c = said _ 6 _ _ _ _ (c .before .before .before .before .before .match .keys6) refl (c .before .before .put6 .ensures)
+returns-6 c = said _ 6 _ _ _ _ (c .before .before .put6 .ensures) (c .before .before .before .before .before .match .keys6) refl
 
 same-length-7 : tie.Need-same-length-7
 same-length-7 c = search needs
 
 returns-7 : tie.Need-returns-7
 unfolding sentenceOf bytesOf
-returns-7 c = said _ 7 _ _ _ _ (c .before .before .before .before .before .match .keys7) refl (c .before .before .put7 .ensures)
+returns-7 c = said _ 7 _ _ _ _ (c .before .before .put7 .ensures) (c .before .before .before .before .before .match .keys7) refl
 
 same-length-8 : tie.Need-same-length-8
 same-length-8 c = search needs
 
 returns-8 : tie.Need-returns-8
 unfolding sentenceOf bytesOf
-returns-8 c = said _ 8 _ _ _ _ (c .before .before .before .before .before .match .keys8) refl (c .before .before .put8 .ensures)
+returns-8 c = said _ 8 _ _ _ _ (c .before .before .put8 .ensures) (c .before .before .before .before .before .match .keys8) refl
 
 same-length-9 : tie.Need-same-length-9
 same-length-9 c = search needs
 
 returns-9 : tie.Need-returns-9
 unfolding sentenceOf bytesOf
-returns-9 c = said _ 9 _ _ _ _ (c .before .before .before .before .before .match .keys9) refl (c .before .before .put9 .ensures)
+returns-9 c = said _ 9 _ _ _ _ (c .before .before .put9 .ensures) (c .before .before .before .before .before .match .keys9) refl
 
 same-length-10 : tie.Need-same-length-10
 same-length-10 c = search needs
 
 returns-10 : tie.Need-returns-10
 unfolding sentenceOf bytesOf
-returns-10 c = said _ 10 _ _ _ _ (c .before .before .before .before .before .match .keys10) refl (c .before .before .put10 .ensures)
+returns-10 c = said _ 10 _ _ _ _ (c .before .before .put10 .ensures) (c .before .before .before .before .before .match .keys10) refl
 
 same-length-11 : tie.Need-same-length-11
 same-length-11 c = search needs
 
 returns-11 : tie.Need-returns-11
 unfolding sentenceOf bytesOf
-returns-11 c = said _ 11 _ _ _ _ (c .before .before .before .before .before .match .keys11) refl (c .before .before .put11 .ensures)
+returns-11 c = said _ 11 _ _ _ _ (c .before .before .put11 .ensures) (c .before .before .before .before .before .match .keys11) refl
 
 same-length-12 : tie.Need-same-length-12
 same-length-12 c = search needs
 
 returns-12 : tie.Need-returns-12
 unfolding sentenceOf bytesOf
-returns-12 c = said _ 12 _ _ _ _ (c .before .before .before .before .before .match .keys12) refl (c .before .before .put12 .ensures)
+returns-12 c = said _ 12 _ _ _ _ (c .before .before .put12 .ensures) (c .before .before .before .before .before .match .keys12) refl
 
 same-length-13 : tie.Need-same-length-13
 same-length-13 c = search needs
 
 returns-13 : tie.Need-returns-13
 unfolding sentenceOf bytesOf
-returns-13 c = said _ 13 _ _ _ _ (c .before .before .before .before .before .match .keys13) refl (c .before .before .put13 .ensures)
+returns-13 c = said _ 13 _ _ _ _ (c .before .before .put13 .ensures) (c .before .before .before .before .before .match .keys13) refl
 
 same-length-14 : tie.Need-same-length-14
 same-length-14 c = search needs
 
 returns-14 : tie.Need-returns-14
 unfolding sentenceOf bytesOf
-returns-14 c = said _ 14 _ _ _ _ (c .before .before .before .before .before .match .keys14) refl (c .before .before .put14 .ensures)
+returns-14 c = said _ 14 _ _ _ _ (c .before .before .put14 .ensures) (c .before .before .before .before .before .match .keys14) refl
 
 same-length-15 : tie.Need-same-length-15
 same-length-15 c = search needs
 
 returns-15 : tie.Need-returns-15
 unfolding sentenceOf bytesOf
-returns-15 c = said _ 15 _ _ _ _ (c .before .before .before .before .before .match .keys15) refl (c .before .before .put15 .ensures)
+returns-15 c = said _ 15 _ _ _ _ (c .before .before .put15 .ensures) (c .before .before .before .before .before .match .keys15) refl
 
 same-length-16 : tie.Need-same-length-16
 same-length-16 c = search needs
 
 returns-16 : tie.Need-returns-16
 unfolding sentenceOf bytesOf
-returns-16 c = said _ 16 _ _ _ _ (c .before .before .before .before .before .match .keys16) refl (c .before .before .put16 .ensures)
+returns-16 c = said _ 16 _ _ _ _ (c .before .before .put16 .ensures) (c .before .before .before .before .before .match .keys16) refl
 
 same-length-17 : tie.Need-same-length-17
 same-length-17 c = search needs
 
 returns-17 : tie.Need-returns-17
 unfolding sentenceOf bytesOf
-returns-17 c = said _ 17 _ _ _ _ (c .before .before .before .before .before .match .keys17) refl (c .before .before .put17 .ensures)
+returns-17 c = said _ 17 _ _ _ _ (c .before .before .put17 .ensures) (c .before .before .before .before .before .match .keys17) refl
 
 same-length-18 : tie.Need-same-length-18
 same-length-18 c = search needs
 
 returns-18 : tie.Need-returns-18
 unfolding sentenceOf bytesOf
-returns-18 c = said _ 18 _ _ _ _ (c .before .before .before .before .before .match .keys18) refl (c .before .before .put18 .ensures)
+returns-18 c = said _ 18 _ _ _ _ (c .before .before .put18 .ensures) (c .before .before .before .before .before .match .keys18) refl
 
 same-length-19 : tie.Need-same-length-19
 same-length-19 c = search needs
 
 returns-19 : tie.Need-returns-19
 unfolding sentenceOf bytesOf
-returns-19 c = said _ 19 _ _ _ _ (c .before .before .before .before .before .match .keys19) refl (c .before .before .put19 .ensures)
+returns-19 c = said _ 19 _ _ _ _ (c .before .before .put19 .ensures) (c .before .before .before .before .before .match .keys19) refl
 
 same-length-20 : tie.Need-same-length-20
 same-length-20 c = search needs
 
 returns-20 : tie.Need-returns-20
 unfolding sentenceOf bytesOf
-returns-20 c = said _ 20 _ _ _ _ (c .before .before .before .before .before .match .keys20) refl (c .before .before .put20 .ensures)
+returns-20 c = said _ 20 _ _ _ _ (c .before .before .put20 .ensures) (c .before .before .before .before .before .match .keys20) refl
 
 returns-21 : tie.Need-returns-21
 returns-21 c =
