@@ -493,14 +493,16 @@ fn act_vote(rec: &[u8], set: Settings, view: u32, k: u8) -> Act
     }
 }
 
+// Where the decision's mark stands in the block.
+const DECIDED: usize = layout::HEAD + layout::SLOT * (layout::DECISION - layout::ROWS);
+
 // Step H.
 fn act_h(rec: &[u8], set: Settings, view: u32) -> Act
     requires { ⌜ Ready (now rec) × (set ≡ decodeRecord (now rec) .set) × (view ≡ decodeRecord (now rec) .view) ⌝ }
     ensures { λ r. ⌜ asAct r ≡ actH (contentsIn (now (rec .entry))) ⌝ }
 {
     let block = &rec[layout::SHARED..layout::SIZE];
-    let decision = block_place(layout::DECISION);
-    if block[decision] == 1 {
+    if block[DECIDED] == 1 {
         return Act::Nothing;
     }
     match agreed_plan(block, vote_place(4, 0), set, view) {
