@@ -101,27 +101,29 @@ module _ (s : List ℕ) (r : slots.Record) (reads : Reads s r) where
 
   -- ---- the decision
 
-  decisionAt : (at : ℕ) → at ≡ blockPlace decisionSlot → slotOf r decisionSlot ≡ slotIn (blockPart s) at
-  decisionAt at e = reads .block decisionSlot (omega arith) (omega arith) ∙ ap (slotIn (blockPart s)) (sym e)
+  abbrev decision : Report
+  decision = slotIn (blockPart s) (blockPlace decisionSlot)
 
-  module _ (at : ℕ) (e : at ≡ blockPlace decisionSlot) where
-    -- 'if nothing was decided'.
-    pub decidedAlready : slotIn (blockPart s) at .mark ≡ 1 → none ≡ actH (contents r)
-    unfolding contents
-    decidedAlready here =
-        let mark : slotOf r decisionSlot .mark ≡ 1 = ap (λ (x : Report). x .mark) (decisionAt at e) ∙ here in
-        sym (eachNone (agreed (contents r) 4) (λ p. when (isNone (reported (slotOf r decisionSlot))) (some (decide p)))
-        (λ p is. rw (eq-eqb (slotOf r decisionSlot .mark) 1 mark)))
+  decisionAt : slotOf r decisionSlot ≡ decision
+  decisionAt = reads .block decisionSlot (omega arith) (omega arith)
 
-    undecided : slotIn (blockPart s) at .mark ≢ 1 → isNone (contents r .decision) ≡ true
-    unfolding contents
-    undecided off =
-        let mark : slotOf r decisionSlot .mark ≢ 1 = λ here. off (sym (ap (λ (x : Report). x .mark) (decisionAt at e)) ∙ here) in
-        rw (ne-eqb (slotOf r decisionSlot .mark) 1 mark)
+  -- 'if nothing was decided'.
+  pub decidedAlready : decision .mark ≡ 1 → none ≡ actH (contents r)
+  unfolding contents
+  decidedAlready here =
+      let mark : slotOf r decisionSlot .mark ≡ 1 = ap (λ (x : Report). x .mark) decisionAt ∙ here in
+      sym (eachNone (agreed (contents r) 4) (λ p. when (isNone (reported (slotOf r decisionSlot))) (some (decide p)))
+      (λ p is. rw (eq-eqb (slotOf r decisionSlot .mark) 1 mark)))
 
-    -- 'A quorum of vote-4 for this view and one plan: decide'.
-    pub decides : slotIn (blockPart s) at .mark ≢ 1 → (from : ℕ) → from ≡ blockPlace (frameSlot 5 0) → (o : Option ℕ)
-        → o ≡ agreedIn (votes (blockPart s) (r .view) from) n f → each o (λ p. some (decide p)) ≡ actH (contents r)
-    decides off from place o is =
-        let same : o ≡ agreed (contents r) 4 = is ∙ agreedSame 4 from (omega arith) place in
-        rw (undecided off, same)
+  undecided : decision .mark ≢ 1 → isNone (contents r .decision) ≡ true
+  unfolding contents
+  undecided off =
+      let mark : slotOf r decisionSlot .mark ≢ 1 = λ here. off (sym (ap (λ (x : Report). x .mark) decisionAt) ∙ here) in
+      rw (ne-eqb (slotOf r decisionSlot .mark) 1 mark)
+
+  -- 'A quorum of vote-4 for this view and one plan: decide'.
+  pub decides : decision .mark ≢ 1 → (from : ℕ) → from ≡ blockPlace (frameSlot 5 0) → (o : Option ℕ)
+      → o ≡ agreedIn (votes (blockPart s) (r .view) from) n f → each o (λ p. some (decide p)) ≡ actH (contents r)
+  decides off from place o is =
+      let same : o ≡ agreed (contents r) 4 = is ∙ agreedSame 4 from (omega arith) place in
+      rw (undecided off, same)

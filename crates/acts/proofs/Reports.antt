@@ -62,17 +62,15 @@ module _ (t : List ℕ) (at : ℕ) (x : Slot.Report) where
 
 -- ---- one sender
 
--- Four stores, one after the other.
-pub putAll : (t t₁ t₂ t₃ : List ℕ) (i : ℕ) (h p l h′ p′ l′ : Slot.Report)
-    → t₁ ≡ withVote (set t i 1) (column + i) h → t₂ ≡ withVote t₁ (3 * column + i) p → t₃ ≡ withVote t₂ (5 * column + i) l
-    → h ≡ h′ → p ≡ p′ → l ≡ l′ → t₃ ≡ withReport t i h′ p′ l′
-putAll t t₁ t₂ t₃ i h p l h′ p′ l′ e₁ e₂ e₃ eh ep el = e₃ ∙ (λ k. withVote (f₂ k) (5 * column + i) (el k))
-  where
-    f₁ : t₁ ≡ withVote (set t i 1) (column + i) h′
-    f₁ = e₁ ∙ ap (withVote (set t i 1) (column + i)) eh
+-- A vote put leaves the table's length.
+pub putLength : (t t′ : List ℕ) (at : ℕ) (x : Slot.Report) → t′ ≡ withVote t at x → length t′ ≡ length t
+putLength t t′ at x e = ap length e ∙ voteLength t at x
 
-    f₂ : t₂ ≡ withVote (withVote (set t i 1) (column + i) h′) (3 * column + i) p′
-    f₂ = e₂ ∙ (λ k. withVote (f₁ k) (3 * column + i) (ep k))
+-- Four stores, one after the other.
+pub putAll : (t t₁ t₂ t₃ : List ℕ) (i : ℕ) (h p l : Slot.Report)
+    → t₁ ≡ withVote (set t i 1) (column + i) h → t₂ ≡ withVote t₁ (3 * column + i) p → t₃ ≡ withVote t₂ (5 * column + i) l → t₃ ≡ withReport t i h p l
+putAll t t₁ t₂ t₃ i h p l e₁ e₂ e₃ =
+    e₃ ∙ ap (λ (x : List ℕ). withVote x (5 * column + i) l) (e₂ ∙ ap (λ (x : List ℕ). withVote x (3 * column + i) p) e₁)
 
 module _ (t : List ℕ) (i : ℕ) (h p l : Slot.Report) (row : i < column) (size : length t ≡ tableSize) where
   abbrev with₀ : List ℕ

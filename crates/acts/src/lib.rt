@@ -224,27 +224,30 @@ fn above(x: Report) -> u64
     }
 }
 
-// Puts a vote into two columns of the table.
-fn put_vote(table: &mut [u64], at: usize, x: Report)
-    requires { ⌜ at + column < length (now table) ⌝ }
-    ensures { λ _. ⌜ now (table .exit) ≡ withVote (now (table .entry)) at x ⌝ }
+// Puts the vote at a place of the block into two columns of the table.
+fn put_vote(table: &mut [u64], at: usize, block: &[u8], from: usize)
+    requires { ⌜ (at + column < length (now table)) × (from + slotSize ≤ length (now block)) ⌝ }
+    ensures { λ _. ⌜ now (table .exit) ≡ withVote (now (table .entry)) at (slotIn (now (block .entry)) from) ⌝ }
 {
+    let x = layout::slot_at(block, from);
     table[at] = above(x);
     table[at + claims::COLUMN] = x.plan;
 }
+
+// How far the second and the third vote of a report stand from the first.
+const SECOND: usize = layout::SLOT * layout::ROWS;
+
+const THIRD: usize = 2 * SECOND;
 
 // Puts what sender i reports into the table: three votes, of which the first stands at a place of the block.
 fn put_report(table: &mut [u64], i: usize, block: &[u8], from: usize)
     requires { ⌜ (length (now table) ≡ tableSize) × (i < rows) × (from + slotSize * (2 * rows + 1) ≤ length (now block)) ⌝ }
     ensures { λ _. ⌜ now (table .exit) ≡ withReport (now (table .entry)) i (slotIn (now (block .entry)) from) (slotIn (now (block .entry)) (from + slotSize * rows)) (slotIn (now (block .entry)) (from + slotSize * (2 * rows))) ⌝ }
 {
-    let highest = layout::slot_at(block, from);
-    let previous = layout::slot_at(block, from + layout::SLOT * layout::ROWS);
-    let lock = layout::slot_at(block, from + layout::SLOT * (2 * layout::ROWS));
     table[i] = 1;
-    put_vote(table, claims::COLUMN + i, highest);
-    put_vote(table, 3 * claims::COLUMN + i, previous);
-    put_vote(table, 5 * claims::COLUMN + i, lock);
+    put_vote(table, claims::HIGHEST + i, block, from);
+    put_vote(table, claims::PREVIOUS + i, block, from + SECOND);
+    put_vote(table, claims::LOCK + i, block, from + THIRD);
 }
 
 // Puts what sender i reports into the table, where its suggest (kind 7) or proof (kind 8) is of view v.
@@ -492,14 +495,16 @@ fn act_vote(rec: &[u8], set: Settings, view: u32, k: u8) -> Act
     }
 }
 
+// Where the decision's mark stands in the block.
+const DECIDED: usize = layout::HEAD + layout::SLOT * (layout::DECISION - layout::ROWS);
+
 // Step H.
 fn act_h(rec: &[u8], set: Settings, view: u32) -> Act
     requires { ⌜ Ready (now rec) × (set ≡ decodeRecord (now rec) .set) × (view ≡ decodeRecord (now rec) .view) ⌝ }
     ensures { λ r. ⌜ asAct r ≡ actH (contentsIn (now (rec .entry))) ⌝ }
 {
     let block = &rec[layout::SHARED..layout::SIZE];
-    let decision = block_place(layout::DECISION);
-    if block[decision] == 1 {
+    if block[DECIDED] == 1 {
         return Act::Nothing;
     }
     match agreed_plan(block, vote_place(4, 0), set, view) {

@@ -16,11 +16,11 @@ pub const COLUMN: usize = 64;
 pub const TABLE: usize = 7 * COLUMN;
 
 // Where the columns begin of the highest vote's view + 1 and plan, of the previous vote's view + 1, and of the lock's view + 1 and plan.
-const HIGHEST: usize = COLUMN;
+pub const HIGHEST: usize = COLUMN;
 
 const VOTED: usize = 2 * COLUMN;
 
-const PREVIOUS: usize = 3 * COLUMN;
+pub const PREVIOUS: usize = 3 * COLUMN;
 
 pub const LOCK: usize = 5 * COLUMN;
 

@@ -1,11 +1,16 @@
--- `acts::put_vote` meets its contract: two stores.
+-- `acts::put_vote` meets its contract: two stores, of a slot read.
 -- Assumes nothing.
-use Prim.Native.Nat.{ℕ, _+_}
-use mathlib.Core.Path.{ap}
+use Prim.Native.Nat.{_+_}
+use mathlib.Core.Path.{_∙_, ap}
 use lib.ListN.{set}
+use Rattle.claims.specs.Table.{column}
+use Rattle.acts.specs.Reports.{aboveOf}
 use borrow.Author.Needs.{needs}
 use Rattle.acts.proofs.put_vote.Statement.{statement}
 use Rattle.acts.proofs.put_vote.Tie as tie
+
+slot-at-requires : tie.Need-slot-at-requires
+slot-at-requires c κs = search needs
 
 above-requires : tie.Need-above-requires
 above-requires c κs = search needs
@@ -30,13 +35,16 @@ same-length c = search needs
 
 returns : tie.Need-returns
 returns c =
-    let a = c .before .before .args in
-    ap (λ (w : ℕ). set (set (a .table .now) (a .at) w) (a .at + 64) (a .x .plan)) (c .above .ensures)
+    let slot = c .before .slot-at .ensures in
+    let a = c .before .before .before .before .args in
+    let view = c .above .ensures ∙ ap aboveOf slot in
+    λ i. set (set (a .table .now) (a .at) (view i)) (a .at + column) (slot i .plan)
 
 pub put-vote-spec : {M : Type 1} → statement M
 put-vote-spec =
     tie.close
     (tie.spec
+    slot-at-requires
     above-requires
     mul-table
     slice-write-table
