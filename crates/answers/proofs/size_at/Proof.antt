@@ -1,12 +1,12 @@
--- `vaultlines::size_at` meets its contract: the two entries for the host, and the rest, by the first two bytes.
+-- `answers::size_at` meets its contract: the two entries for the host, and the rest, by the first two bytes.
 -- Assumes nothing.
 use mathlib.Core.Path.{sym, ap, subst, _∙_}
 use native.Mathlib.Omega.{arith}
 use Prim.Native.Nat.{ℕ, _+_, _≤_}
-use Rattle.vaultlines.proofs.Entries.{sizeTimer, sizeDecision, sizeFrame, lengthShort}
+use Rattle.answers.proofs.Entries.{sizeTimer, sizeDecision, sizeFrame, lengthShort}
 use borrow.Author.Needs.{needs}
-use Rattle.vaultlines.proofs.size_at.Statement.{statement}
-use Rattle.vaultlines.proofs.size_at.Tie as tie
+use Rattle.answers.proofs.size_at.Statement.{statement}
+use Rattle.answers.proofs.size_at.Tie as tie
 
 shared-slice-read-if1 : tie.Need-shared-slice-read-if1
 shared-slice-read-if1 c = search needs

@@ -1,10 +1,10 @@
--- `vaultlines::answer_line` meets its contract: '20 is tested before all else', then the call that the bytes make.
+-- `answers::answer_line` meets its contract: '20 is tested before all else', then the call that the bytes make.
 -- Assumes nothing.
 use denote.Ref.{now}
 use borrow.Author.Needs.{needs}
-use Rattle.vaultlines.proofs.Answers.{badAnswered, countAnswered, countWithin}
-use Rattle.vaultlines.proofs.answer_line.Statement.{statement}
-use Rattle.vaultlines.proofs.answer_line.Tie as tie
+use Rattle.answers.proofs.Answers.{badAnswered, countAnswered, countWithin}
+use Rattle.answers.proofs.answer_line.Statement.{statement}
+use Rattle.answers.proofs.answer_line.Tie as tie
 
 slice-aggregate-bytes-in : tie.Need-slice-aggregate-bytes-in
 slice-aggregate-bytes-in c = search needs
@@ -29,7 +29,7 @@ returns c =
     let p = c .before .before .put-refusal in
     let told = c .before .before .before .before .enum-told .given .1 in
     let b = c .before .before .before .before .before .before .before in
-    let s = b .before .before .before .before .before .before in
+    let s = b .before .before .before .before .before in
     badAnswered (now (s .args .rec)) (now (s .args .text)) (now (s .args .page)) (s .args .at) (b .bytes-in .result) (b .bytes-in .last .1 .1 .0) (b .bytes-in .ensures .0)
     told (p .last .0) (p .result) (p .ensures)
 
@@ -55,18 +55,15 @@ same-length-2 c = search needs
 same-length-3 : tie.Need-same-length-3
 same-length-3 c = search needs
 
-same-length-4 : tie.Need-same-length-4
-same-length-4 c = search needs
-
 returns-2 : tie.Need-returns-2
 returns-2 c =
-    let a = c .before .before .before .before .before .before .answer in
-    let h = c .before .before .before .before .before .before .before .before .before .before .before .before .before in
+    let a = c .before .before .before .before .answer in
+    let h = c .before .before .before .before .before .before .before .before .before .before in
     let g = h .spelling .given in
     let b = h .before .before .before in
-    let s = b .before .before .before .before .before .before in
+    let s = b .before .before .before .before .before in
     countAnswered (now (s .args .rec)) (now (s .args .text)) (now (s .args .page)) (s .args .at) (b .bytes-in .result) (b .bytes-in .last .1 .1 .0) (b .bytes-in .ensures .0)
-    (g .0 .0) (g .1) (a .last .0) (a .last .1 .1 .1 .0) (a .result) (a .ensures)
+    (g .0 .0) (g .1) (a .last .0) (a .last .1 .1 .0) (a .result) (a .ensures)
 
 pub answer-line-spec : {M : Type 1} → statement M
 answer-line-spec =
@@ -85,5 +82,4 @@ answer-line-spec =
     answer-requires
     same-length-2
     same-length-3
-    same-length-4
     returns-2)

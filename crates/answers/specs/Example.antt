@@ -19,7 +19,7 @@ use Rattle.protocol.specs.Calls.{answer}
 use Rattle.contents.specs.Calls.{wrote, gave, called, frameLeft, timerLeft}
 use Rattle.runs.specs.Runs.{Call, start, frame, timer}
 use Rattle.lines.specs.Digits.{between, valueOf, digitOf, lineOf, allDigits, badLine, spelled, bytesOf}
-use Rattle.vaultlines.specs.Lines.{startOf, timerOf, frameOf, callOf, zeroed, digitLimit, lineLeft, printed, blank, programPrints}
+use Rattle.answers.specs.Lines.{startOf, timerOf, frameOf, callOf, zeroed, digitLimit, lineLeft, printed, blank, programPrints}
 
 -- The bytes of a text.
 abbrev pub text : String → List ℕ

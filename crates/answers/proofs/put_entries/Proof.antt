@@ -1,13 +1,13 @@
--- `vaultlines::put_entries` meets its contract: "one output entry a line". The invariant is `PutTo`; the measure is what is left of the
+-- `answers::put_entries` meets its contract: "one output entry a line". The invariant is `PutTo`; the measure is what is left of the
 -- bytes. A line of k bytes has 2k + 1 digits, at most 3k.
 -- Assumes nothing.
 use Prim.Native.Nat.{_-_}
 use lib.ListN.{length}
 use native.Mathlib.Omega.{arith}
 use denote.Ref.{now}
-use Rattle.vaultlines.proofs.Entries.{PutTo, putNone, headThere, nextIs, putMore, putAll}
-use Rattle.vaultlines.proofs.put_entries.Statement.{statement}
-use Rattle.vaultlines.proofs.put_entries.Tie as tie
+use Rattle.answers.proofs.Entries.{PutTo, putNone, headThere, nextIs, putMore, putAll}
+use Rattle.answers.proofs.put_entries.Statement.{statement}
+use Rattle.answers.proofs.put_entries.Tie as tie
 
 abbrev Inv-loop : tie.InvT-loop
 Inv-loop page₀ at s i₀ end₀ page i end = PutTo page₀ at s page i end

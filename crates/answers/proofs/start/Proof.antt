@@ -1,12 +1,12 @@
--- `vaultlines::start` meets its contract: 'Kind 00 starts (n, f, id, class, one byte each, then plan; 13 bytes)'.
+-- `answers::start` meets its contract: 'Kind 00 starts (n, f, id, class, one byte each, then plan; 13 bytes)'.
 -- Assumes nothing.
 use native.Mathlib.Omega.{arith}
 use denote.Ref.{now}
 use borrow.Author.Needs.{needs}
 use Rattle.vault.specs.Answers.{leftBy}
-use Rattle.vaultlines.proofs.Calls.{startWrong, startMade}
-use Rattle.vaultlines.proofs.start.Statement.{statement}
-use Rattle.vaultlines.proofs.start.Tie as tie
+use Rattle.answers.proofs.Calls.{startWrong, startMade}
+use Rattle.answers.proofs.start.Statement.{statement}
+use Rattle.answers.proofs.start.Tie as tie
 
 returns : tie.Need-returns
 returns c = let a = c .before .before .before .before .args in startWrong (now (a .rec)) (now (a .out)) (now (a .bytes)) (omega arith)

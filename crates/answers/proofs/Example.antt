@@ -35,9 +35,9 @@ use Rattle.contents.proofs.Spelling.{Fine}
 use Rattle.runs.proofs.Carry.{said, leavesRoom, saidFrame, fedSaid, LeftWell, leftWell}
 use Rattle.lines.specs.Digits.{between, valueOf, digitOf, lineOf, allDigits, badLine, spelled, bytesOf}
 use Rattle.lines.specs.Lines.{ended, begun, linesOf, prints}
-use Rattle.vaultlines.specs.Lines.{startOf, timerOf, frameOf, callOf, zeroed, lineLeft, entryLines, printed, vaultLines, blank}
-use Rattle.vaultlines.specs.Example.{text, input, Document}
-use Rattle.vaultlines.proofs.Answers.{zeroedSize}
+use Rattle.answers.specs.Lines.{startOf, timerOf, frameOf, callOf, zeroed, lineLeft, entryLines, printed, vaultLines, blank}
+use Rattle.answers.specs.Example.{text, input, Document}
+use Rattle.answers.proofs.Answers.{zeroedSize}
 
 -- ---- a line by contents
 
@@ -147,7 +147,7 @@ inputLines = refl
 
 -- Document 01's example, whole.
 pub document : Document
-unfolding prints
+unfolding prints vaultLines
 document =
     let rec1 = recordIn (lineLeft blank (text "00040100020000000000000007")) in
     let two : Goes (lineLeft rec1 (text "0201000000000000000000000007")) second = hears1 rec1 (first .left) (starts .next) second secondAccepted in

@@ -1,10 +1,10 @@
--- `vaultlines::put_answer` meets its contract: "one output entry a line, or fd and the refusal number as one byte".
+-- `answers::put_answer` meets its contract: "one output entry a line, or fd and the refusal number as one byte".
 -- Assumes nothing.
 use denote.Ref.{now}
 use borrow.Author.Needs.{needs}
-use Rattle.vaultlines.proofs.Answers.{countFits, writtenMay, writtenShown, refusedShown}
-use Rattle.vaultlines.proofs.put_answer.Statement.{statement}
-use Rattle.vaultlines.proofs.put_answer.Tie as tie
+use Rattle.answers.proofs.Answers.{countFits, writtenMay, writtenShown, refusedShown}
+use Rattle.answers.proofs.put_answer.Statement.{statement}
+use Rattle.answers.proofs.put_answer.Tie as tie
 
 enum-known-answer : tie.Need-enum-known-answer
 enum-known-answer c = search needs

@@ -23,8 +23,8 @@ use Rattle.entry.proofs.Theorems.{entry-says, entriesReadBack}
 use Rattle.lines.specs.Digits.{lineOf}
 use Rattle.lines.specs.Steps.{Shown}
 use Rattle.lines.proofs.Digits.{lengthLine}
-use Rattle.vaultlines.specs.Lines.{entryLines}
-use Rattle.vaultlines.specs.Steps.{Laid}
+use Rattle.answers.specs.Lines.{entryLines}
+use Rattle.answers.specs.Steps.{Laid}
 
 -- ---- the size of an entry
 

@@ -1,10 +1,10 @@
--- `vaultlines::call` meets its contract: each arm of the match is one kind, and an empty line is an empty frame.
+-- `answers::call` meets its contract: each arm of the match is one kind, and an empty line is an empty frame.
 -- Assumes nothing.
 use denote.Ref.{now}
 use borrow.Author.Needs.{needs}
-use Rattle.vaultlines.proofs.Calls.{emptyFrames, kindStarts, kindTimes, kindFrames}
-use Rattle.vaultlines.proofs.call.Statement.{statement}
-use Rattle.vaultlines.proofs.call.Tie as tie
+use Rattle.answers.proofs.Calls.{emptyFrames, kindStarts, kindTimes, kindFrames}
+use Rattle.answers.proofs.call.Statement.{statement}
+use Rattle.answers.proofs.call.Tie as tie
 
 frame-requires : tie.Need-frame-requires
 frame-requires c κs = search needs

@@ -1,6 +1,6 @@
 -- Laws of the call that a line's bytes make: what each way through the code calls is what `callOf` says; whatever it is, the bytes that it
 -- writes are entries end to end (`callLeavesWell` of crate runs). A frame without a byte 1 is refused before its sender is looked at, and
--- a line of fewer than five bytes is refused (`shortRefused`). What the output array held does not matter (`outputUnread`).
+-- a line of fewer than five bytes is refused (`shortRefused`).
 -- Assumes nothing.
 use Prim.Native.Nat.{ℕ, _+_, _<_}
 use mathlib.Core.Path.{_≡_, refl, sym, ap, subst, _∙_}
@@ -33,7 +33,7 @@ use Rattle.contents.specs.Calls.{Left, gave, after, onLent, called, startLeft, 
 use Rattle.runs.specs.Runs.{Call, start, frame, timer, InWidth, recordIn}
 use Rattle.runs.specs.Left.{LeavesWell}
 use Rattle.runs.proofs.Left.{callLeavesWell}
-use Rattle.vaultlines.specs.Lines.{isKind, settingsIn, startOf, timerOf, frameOf, callOf, callLeft, entryLines, printed}
+use Rattle.answers.specs.Lines.{isKind, settingsIn, startOf, timerOf, frameOf, callOf, callLeft, entryLines, printed}
 
 -- ---- each kind's call
 
@@ -125,44 +125,6 @@ callWell rec out s br bs = go (callOf s) (callInWidth s bs)
     go : (o : Option Call) → InWidthIf o → LeavesWell rec out (callLeft rec out o)
     go none low = (refl, refl)
     go (some a) low = callLeavesWell rec out a br low
-
--- ---- what the output array held before
-
--- Two outcomes that leave one record and print one thing.
-pub record Alike (a b : Left) : Type 0 where
-  pub kept : recordIn a ≡ recordIn b
-  pub says : printed a ≡ printed b
-
-takePlaced : (out es : List ℕ) → take (length es) (placed out 0 es) ≡ es
-unfolding placed
-takePlaced out es = take-at es (drop (0 + length es) out) (length es) refl
-
-afterUnread : (rec out out₂ : List ℕ) (a : by.Answer) → Alike (after rec out a) (after rec out₂ a)
-afterUnread rec out out₂ (by.refused k) = record { kept = refl; says = refl }
-afterUnread rec out out₂ (by.accepted o) =
-    let es = layout (o .wrote) in
-    record { kept = refl; says = ap (λ (l : List ℕ). entryLines (entriesOf l)) (takePlaced out es ∙ sym (takePlaced out₂ es)) }
-
-calledUnread : (k : ℕ) (rec out out₂ : List ℕ) (a : by.Call) → length out ≡ length out₂ → Alike (called k rec out a) (called k rec out₂ a)
-unfolding called
-calledUnread k rec out out₂ a same =
-    subst (λ (n : ℕ). Alike (cond (ltb (length out) 256) (gave 1 rec out) (after rec out made)) (cond (ltb n 256) (gave 1 rec out₂) (after rec out₂ made))) same
-    (go (ltb (length out) 256))
-  where
-    made : by.Answer
-    made = onLent (lentIs rec) k (contents (decodeRecord rec)) a
-
-    go : (t : Bool) → Alike (cond t (gave 1 rec out) (after rec out made)) (cond t (gave 1 rec out₂) (after rec out₂ made))
-    go true = record { kept = refl; says = refl }
-    go false = afterUnread rec out out₂ made
-
-pub outputUnread : (rec out out₂ : List ℕ) (o : Option Call) → length out ≡ length out₂ → Alike (callLeft rec out o) (callLeft rec out₂ o)
-unfolding startLeft frameLeft timerLeft
-outputUnread rec out out₂ none same = record { kept = refl; says = refl }
-outputUnread rec out out₂ (some (start set plan)) same = calledUnread 4 rec out out₂ (by.start set plan) same
-outputUnread rec out out₂ (some (frame link s)) same =
-    calledUnread 3 rec out out₂ (by.frame (readFrame s link (decodeRecord rec .set .n) (decodeRecord rec .set .id))) same
-outputUnread rec out out₂ (some (timer view)) same = calledUnread 3 rec out out₂ (by.timer view) same
 
 -- ---- a line of fewer than five bytes is refused
 

@@ -1,11 +1,11 @@
--- `vaultlines::timer` meets its contract: "kind 09 is a timer (view; 5 bytes)".
+-- `answers::timer` meets its contract: "kind 09 is a timer (view; 5 bytes)".
 -- Assumes nothing.
 use native.Mathlib.Omega.{arith}
 use denote.Ref.{now}
 use borrow.Author.Needs.{needs}
-use Rattle.vaultlines.proofs.Calls.{timerWrong, timerMade}
-use Rattle.vaultlines.proofs.timer.Statement.{statement}
-use Rattle.vaultlines.proofs.timer.Tie as tie
+use Rattle.answers.proofs.Calls.{timerWrong, timerMade}
+use Rattle.answers.proofs.timer.Statement.{statement}
+use Rattle.answers.proofs.timer.Tie as tie
 
 returns : tie.Need-returns
 returns c = let a = c .before .before .before .before .args in timerWrong (now (a .rec)) (now (a .out)) (now (a .bytes)) (omega arith)

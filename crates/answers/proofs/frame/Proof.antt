@@ -1,10 +1,10 @@
--- `vaultlines::frame` meets its contract: "other lines are frames whose byte 1 is also the link's sender".
+-- `answers::frame` meets its contract: "other lines are frames whose byte 1 is also the link's sender".
 -- Assumes nothing.
 use denote.Ref.{now}
 use borrow.Author.Needs.{needs}
-use Rattle.vaultlines.proofs.Calls.{frameBare, frameMade}
-use Rattle.vaultlines.proofs.frame.Statement.{statement}
-use Rattle.vaultlines.proofs.frame.Tie as tie
+use Rattle.answers.proofs.Calls.{frameBare, frameMade}
+use Rattle.answers.proofs.frame.Statement.{statement}
+use Rattle.answers.proofs.frame.Tie as tie
 
 frame-requires : tie.Need-frame-requires
 frame-requires c κs = search needs

@@ -23,10 +23,10 @@ use Rattle.lines.specs.Digits.{lineOf, refusalLine, bytesOf}
 use Rattle.lines.specs.Steps.{spells, countOf, Shown, Enough, Answered}
 use Rattle.lines.proofs.Digits.{lengthLine}
 use Rattle.lines.proofs.Spelled.{keptSpells, spelledShort}
-use Rattle.vaultlines.specs.Lines.{entryLines, callOf, callLeft, zeroed, spelledLeft, digitLimit, lineLeft, printed, vaultLines}
-use Rattle.vaultlines.specs.Steps.{outputSize, keptSize, answerSize, lineShare, Laid, Printable, Put}
-use Rattle.vaultlines.proofs.Entries.{laidShort}
-use Rattle.vaultlines.proofs.Calls.{callWell, Alike, outputUnread, shortRefused}
+use Rattle.answers.specs.Lines.{entryLines, callOf, callLeft, zeroed, spelledLeft, digitLimit, lineLeft, printed, vaultLines}
+use Rattle.answers.specs.Steps.{outputSize, keptSize, answerSize, lineShare, Laid, Printable, Put}
+use Rattle.answers.proofs.Entries.{laidShort}
+use Rattle.answers.proofs.Calls.{callWell, shortRefused}
 
 pub zeroedSize : length zeroed ≡ outputSize
 unfolding zeroed
@@ -35,12 +35,11 @@ zeroedSize = length-replicate {A = ℕ} outputSize 0
 -- ---- a call's answer
 
 -- An answer that leaves what the call leaves has entries to print.
-pub callPrintable : (rec out s : List ℕ) → Bytes rec → Bytes s → length out ≡ outputSize → (a : Answer) (rec′ out′ : List ℕ)
-    → leftBy a rec′ out′ ≡ callLeft rec out (callOf s) → Printable a out′
-callPrintable rec out s br bs size (Written n) rec′ out′ is =
-    let well : Kept out n rec′ out′ = subst (LeavesWell rec out) (sym is) (callWell rec out s br bs) in
-    (well .few, well .size ∙ size, record { valid = well .valid; entries = well .entries })
-callPrintable rec out s br bs size (Refused k) rec′ out′ is = tt
+pub callPrintable : (rec s : List ℕ) → Bytes rec → Bytes s → (a : Answer) (rec′ out′ : List ℕ) → leftBy a rec′ out′ ≡ callLeft rec zeroed (callOf s) → Printable a out′
+callPrintable rec s br bs (Written n) rec′ out′ is =
+    let well : Kept zeroed n rec′ out′ = subst (LeavesWell rec zeroed) (sym is) (callWell rec zeroed s br bs) in
+    (well .few, well .size ∙ zeroedSize, record { valid = well .valid; entries = well .entries })
+callPrintable rec s br bs (Refused k) rec′ out′ is = tt
 
 -- What is printed of an answer has room.
 printedShort : (a : Answer) (out : List ℕ) → Printable a out → length (printed (leftBy a [] out)) ≤ answerSize
@@ -55,18 +54,14 @@ printedBy : (a : Answer) (rec′ out′ : List ℕ) → printed (leftBy a [] out
 printedBy (Written n) rec′ out′ = refl
 printedBy (Refused k) rec′ out′ = refl
 
--- The call's answer is put; what the output array held before does not matter.
-pub putBy : (rec out s page : List ℕ) (at : ℕ) (a : Answer) (rec′ out′ page′ : List ℕ) (next : ℕ) → length out ≡ outputSize
-    → leftBy a rec′ out′ ≡ callLeft rec out (callOf s) → Printable a out′ → Shown (printed (leftBy a [] out′)) page at page′ next
-    → Put (callLeft rec zeroed (callOf s)) page at rec′ page′ next
-putBy rec out s page at a rec′ out′ page′ next size is p put =
-    let alike : Alike (callLeft rec out (callOf s)) (callLeft rec zeroed (callOf s)) = outputUnread rec out zeroed (callOf s) (size ∙ sym zeroedSize) in
-    let same : printed (leftBy a [] out′) ≡ printed (callLeft rec zeroed (callOf s)) = printedBy a rec′ out′ ∙ ap printed is ∙ alike .says in
-    record {
-      kept = recordBy a rec′ out′ ∙ ap recordIn is ∙ alike .kept;
-      lines = subst (λ (l : List ℕ). Shown l page at page′ next) same put;
-      short = omega (arith, put .ends, printedShort a out′ p);
-    }
+-- The call's answer is put.
+pub putBy : (rec s page : List ℕ) (at : ℕ) (a : Answer) (rec′ out′ page′ : List ℕ) (next : ℕ) → leftBy a rec′ out′ ≡ callLeft rec zeroed (callOf s)
+    → Printable a out′ → Shown (printed (leftBy a [] out′)) page at page′ next → Put (callLeft rec zeroed (callOf s)) page at rec′ page′ next
+putBy rec s page at a rec′ out′ page′ next is p put = record {
+  kept = recordBy a rec′ out′ ∙ ap recordIn is;
+  lines = subst (λ (l : List ℕ). Shown l page at page′ next) (printedBy a rec′ out′ ∙ ap printed is) put;
+  short = omega (arith, put .ends, printedShort a out′ p);
+}
 
 -- ---- each kind of answer is put
 
@@ -113,7 +108,7 @@ shareEnough rec s page at digits rec′ page′ next long put = go (decLe 5 (len
 module _ (rec text page : List ℕ) (at : ℕ) (g : Spelling) (bytes : List ℕ) (is : spells g bytes ≡ bytesOf digitLimit text) where
   -- '20 is tested before all else'.
   pub badAnswered : g ≡ Bad → (page′ : List ℕ) (next : ℕ) → Shown (refusalLine 20) page at page′ next → Line rec text page at rec page′ next
-  unfolding lineLeft
+  unfolding lineLeft vaultLines
   badAnswered bad page′ next put =
       let left : gave 20 rec zeroed ≡ lineLeft rec text = ap (spelledLeft rec) (ap (λ (x : Spelling). spells x bytes) (sym bad) ∙ is) in (
         record { left = ap recordIn left; lines = subst (λ (l : Left). Shown (printed l) page at page′ next) left put },
@@ -122,7 +117,7 @@ module _ (rec text page : List ℕ) (at : ℕ) (g : Spelling) (bytes : List ℕ)
 
   pub countAnswered : (n : ℕ) → g ≡ Count n → (rec′ page′ : List ℕ) (next : ℕ) → Put (callLeft rec zeroed (callOf (take (n - 0) bytes))) page at rec′ page′ next
       → Line rec text page at rec′ page′ next
-  unfolding lineLeft
+  unfolding lineLeft vaultLines
   countAnswered n good rec′ page′ next put =
       let all : n - 0 ≡ n = omega arith in
       let spelt : some (take (n - 0) bytes) ≡ bytesOf digitLimit text =
@@ -144,4 +139,5 @@ unfolding lineLeft
 keptLeft rec line = ap (spelledLeft rec) (keptSpells digitLimit line)
 
 pub keptEnough : Enough vaultLines keptSize
+unfolding vaultLines
 keptEnough = record { next = λ rec line. ap recordIn (keptLeft rec line); says = λ rec line. ap printed (keptLeft rec line) }

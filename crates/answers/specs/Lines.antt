@@ -47,7 +47,7 @@ abbrev pub callLeft : List ℕ → List ℕ → Option Call → Left
 callLeft rec out none = gave 10 rec out
 callLeft rec out (some a) = leaves rec a out
 
--- The output space of a line's call: 'a zeroed 256-byte output array'. What else it holds does not matter (`outputUnread`, proofs/Calls).
+-- The output space of a line's call: 'a zeroed 256-byte output array'.
 unfoldable pub zeroed : List ℕ
 zeroed = replicate 256 0
 
@@ -75,7 +75,7 @@ printed (wrote count rec out) = entryLines (entriesOf (take count out))
 printed (gave number rec out) = refusalLine number
 
 -- The program over lines: its state is the record's bytes.
-abbrev pub vaultLines : Program (List ℕ)
+unfoldable pub vaultLines : Program (List ℕ)
 vaultLines = record { next = λ rec text. recordIn (lineLeft rec text); says = λ rec text. printed (lineLeft rec text) }
 
 -- '`vaultlines` begins with a blank record': a record of zeros is blank.
