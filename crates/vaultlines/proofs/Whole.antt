@@ -13,11 +13,12 @@ use Rattle.lines.proofs.Lines.{firstShort}
 use Rattle.lines.proofs.Taking.{takeShort, keptShort}
 use Rattle.lines.proofs.Feeding.{FedTo, fedNone, fedLine, fedEnd, fedDone, finishedNone, finishedLine}
 use Rattle.lines.proofs.Whole.{anySplit}
-use Rattle.vaultlines.specs.Lines.{digitLimit, vaultLines, blank}
+use Rattle.answers.specs.Lines.{digitLimit, vaultLines, blank}
+use Rattle.answers.specs.Steps.{keptSize, answerSize, lineShare}
+use Rattle.answers.proofs.Answers.{keptEnough}
 use Rattle.vaultlines.specs.declared.Ended.{Ended}
 use Rattle.vaultlines.specs.declared.Ended.the-variants.{Dry}
-use Rattle.vaultlines.specs.Steps.{keptSize, answerSize, lineShare, pieceSize, pageSize, EndedWell, Whole, WholeInput}
-use Rattle.vaultlines.proofs.Answers.{keptEnough}
+use Rattle.vaultlines.specs.Steps.{pieceSize, pageSize, EndedWell, Whole, WholeInput}
 
 pub wholeInput : WholeInput
 wholeInput input pages rec line reads =

@@ -7,7 +7,7 @@ use Rattle.vaultlines.proofs.finish.Statement.{statement}
 use Rattle.vaultlines.proofs.finish.Tie as tie
 
 returns : tie.Need-returns
-returns c = let a = c .before .before .before .before .before .args in finishNone (now (a .rec)) (now (a .text)) (now (a .page)) (a .len) (c .if1 .taken)
+returns c = let a = c .before .before .before .before .args in finishNone (now (a .rec)) (now (a .text)) (now (a .page)) (a .len) (c .if1 .taken)
 
 sub-answer-line : tie.Need-sub-answer-line
 sub-answer-line c = search needs
@@ -27,15 +27,12 @@ same-length c = search needs
 same-length-2 : tie.Need-same-length-2
 same-length-2 c = search needs
 
-same-length-3 : tie.Need-same-length-3
-same-length-3 c = search needs
-
 returns-2 : tie.Need-returns-2
 returns-2 c =
-    let r = c .before .before .before .before .before .before .answer-line in
-    let e = c .before .before .before .before .before .before .before .before .before .before .before in
-    let s = e .before .before .before .before .before in
-    finishLine (now (s .args .rec)) (now (s .args .text)) (now (s .args .page)) (s .args .len) (e .if1 .left) (s .pre .1) (s .pre .0) (r .last .0) (r .last .1 .1 .1 .0)
+    let r = c .before .before .before .before .answer-line in
+    let e = c .before .before .before .before .before .before .before .before in
+    let s = e .before .before .before .before in
+    finishLine (now (s .args .rec)) (now (s .args .text)) (now (s .args .page)) (s .args .len) (e .if1 .left) (s .pre .1) (s .pre .0) (r .last .0) (r .last .1 .1 .0)
     (r .result) (r .ensures .0) (r .ensures .1)
 
 pub finish-spec : {M : Type 1} → statement M
@@ -49,5 +46,4 @@ finish-spec =
     answer-line-requires
     same-length
     same-length-2
-    same-length-3
     returns-2)
