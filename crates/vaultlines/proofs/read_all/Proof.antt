@@ -8,8 +8,9 @@ use borrow.Author.Needs.{needs}
 use lib.ListN.{length}
 use Rattle.answers.specs.Steps.{keptSize}
 use Rattle.vaultlines.specs.declared.Ended.the-variants.{Dry}
-use Rattle.vaultlines.specs.Steps.{pageSize, pieceSize, EndedWell}
-use Rattle.vaultlines.proofs.Whole.{endedNone, endedMore, pieceSmall}
+use Rattle.pieces.specs.Steps.{pageSize, pieceSize}
+use Rattle.vaultlines.specs.Reading.{EndedWell}
+use Rattle.vaultlines.proofs.Reading.{endedNone, endedMore, pieceSmall}
 use Rattle.vaultlines.proofs.read_all.Statement.{statement}
 use Rattle.vaultlines.proofs.read_all.Tie as tie
 

@@ -3,7 +3,7 @@
 use mathlib.Core.Path.{_∙_}
 use denote.Ref.{now}
 use borrow.Author.Needs.{needs}
-use Rattle.vaultlines.proofs.Whole.{dryWithin}
+use Rattle.vaultlines.proofs.Reading.{dryWithin}
 use Rattle.vaultlines.proofs.run.Statement.{statement}
 use Rattle.vaultlines.proofs.run.Tie as tie
 

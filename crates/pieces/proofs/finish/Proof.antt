@@ -1,10 +1,10 @@
--- `vaultlines::finish` meets its contract: 'A line ends at byte 0a or at the input's end; after a final 0a there is no further line'.
+-- `pieces::finish` meets its contract: 'A line ends at byte 0a or at the input's end; after a final 0a there is no further line'.
 -- Assumes nothing.
 use denote.Ref.{now}
 use borrow.Author.Needs.{needs}
-use Rattle.vaultlines.proofs.Whole.{finishNone, finishLine}
-use Rattle.vaultlines.proofs.finish.Statement.{statement}
-use Rattle.vaultlines.proofs.finish.Tie as tie
+use Rattle.pieces.proofs.Whole.{finishNone, finishLine}
+use Rattle.pieces.proofs.finish.Statement.{statement}
+use Rattle.pieces.proofs.finish.Tie as tie
 
 returns : tie.Need-returns
 returns c = let a = c .before .before .before .before .args in finishNone (now (a .rec)) (now (a .text)) (now (a .page)) (a .len) (c .if1 .taken)

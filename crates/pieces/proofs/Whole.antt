@@ -1,5 +1,5 @@
--- The program whole: however an input is split into pieces, the pages are what `programPrints` says (`WholeInput`). And laws of the loop that
--- feeds a piece: the lines of a piece have room on the page.
+-- The input whole: however it is split into pieces, the pages are what `programPrints` says (`WholeInput`). And laws of the loop that feeds a
+-- piece: the lines of a piece have room on the page.
 -- Assumes nothing.
 use Prim.Native.Nat.{ℕ, _+_, _*_, _-_, _≤_, _<_}
 use mathlib.Core.Path.{_≡_, refl, sym, ap, subst, _∙_}
@@ -8,17 +8,15 @@ use native.Mathlib.Omega.{arith}
 use lib.ListN.{length, take, drop, length-append, length-drop}
 use lib.Seq.{length-take-le}
 use Rattle.lines.specs.Lines.{firstLine}
-use Rattle.lines.specs.Steps.{KeptOf, Answered, Fed, Finished, Reads, first, andThen}
+use Rattle.lines.specs.Steps.{KeptOf, Answered, Fed, Finished}
 use Rattle.lines.proofs.Lines.{firstShort}
-use Rattle.lines.proofs.Taking.{takeShort, keptShort}
+use Rattle.lines.proofs.Taking.{keptShort}
 use Rattle.lines.proofs.Feeding.{FedTo, fedNone, fedLine, fedEnd, fedDone, finishedNone, finishedLine}
 use Rattle.lines.proofs.Whole.{anySplit}
 use Rattle.answers.specs.Lines.{digitLimit, vaultLines, blank}
 use Rattle.answers.specs.Steps.{keptSize, answerSize, lineShare}
 use Rattle.answers.proofs.Answers.{keptEnough}
-use Rattle.vaultlines.specs.declared.Ended.{Ended}
-use Rattle.vaultlines.specs.declared.Ended.the-variants.{Dry}
-use Rattle.vaultlines.specs.Steps.{pieceSize, pageSize, EndedWell, Whole, WholeInput}
+use Rattle.pieces.specs.Steps.{pieceSize, pageSize, Whole, WholeInput}
 
 pub wholeInput : WholeInput
 wholeInput input pages rec line reads =
@@ -120,22 +118,3 @@ finishLine rec text page len there few size rec′ page′ next answered short =
     subst (λ (n : ℕ). Answered vaultLines rec (take n text) page 0 rec′ page′ next) whole answered in
     let same : length (take (len - 0) text) ≡ len = ap (λ (n : ℕ). length (take n text)) whole ∙ long in
     (finishedLine vaultLines rec (take len text) page (omega arith) rec′ page′ next line, omega arith)
-
--- ---- pieces one after the other
-
-pub endedNone : (rec text : List ℕ) → EndedWell rec (Dry 0) rec text
-endedNone rec text = (omega arith, ([], [], first))
-
-pub endedMore : (rec₀ rec text : List ℕ) (len : ℕ) → EndedWell rec₀ (Dry len) rec text → (piece rec′ text′ : List ℕ) (len′ : ℕ) (page : List ℕ)
-    → Fed vaultLines keptSize rec (take len text) piece rec′ (take len′ text′) page → len′ ≤ keptSize → EndedWell rec₀ (Dry len′) rec′ text′
-endedMore rec₀ rec text len so piece rec′ text′ len′ page fed small =
-    let (input, pages, reads) = so .1 in
-    (small, (input ++ piece, pages ++ page, andThen reads fed))
-
--- What was read fits a piece.
-pub pieceSmall : (piece : List ℕ) (n : ℕ) → length piece ≡ pieceSize → length (take n piece) ≤ pieceSize
-pieceSmall piece n size = omega (arith, takeShort n piece)
-
--- What is kept of a line that has not ended.
-pub dryWithin : (rec rec′ text′ : List ℕ) (e : Ended) (len : ℕ) → e ≡ Dry len → EndedWell rec e rec′ text′ → len ≤ keptSize
-dryWithin rec rec′ text′ e len is well = let dry : EndedWell rec (Dry len) rec′ text′ = subst (λ (x : Ended). EndedWell rec x rec′ text′) is well in dry .0

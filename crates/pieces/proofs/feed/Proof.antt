@@ -1,4 +1,4 @@
--- `vaultlines::feed` meets its contract: a piece of input, line by line. The invariant is `FeedTo`; the measure is what is left of the piece.
+-- `pieces::feed` meets its contract: a piece of input, line by line. The invariant is `FeedTo`; the measure is what is left of the piece.
 -- Assumes nothing.
 use Prim.Native.Nat.{_-_}
 use mathlib.Core.Path.{_≡_, refl, _∙_}
@@ -6,10 +6,10 @@ use native.Mathlib.Omega.{arith}
 use denote.Ref.{now}
 use lib.ListN.{length, take}
 use Rattle.answers.specs.Steps.{keptSize}
-use Rattle.vaultlines.specs.Steps.{pageSize}
-use Rattle.vaultlines.proofs.Whole.{FeedTo, feedNone, feedEnd, feedLine, feedDone, roomThere, endWithin}
-use Rattle.vaultlines.proofs.feed.Statement.{statement}
-use Rattle.vaultlines.proofs.feed.Tie as tie
+use Rattle.pieces.specs.Steps.{pageSize}
+use Rattle.pieces.proofs.Whole.{FeedTo, feedNone, feedEnd, feedLine, feedDone, roomThere, endWithin}
+use Rattle.pieces.proofs.feed.Statement.{statement}
+use Rattle.pieces.proofs.feed.Tie as tie
 
 abbrev Inv-loop : tie.InvT-loop
 Inv-loop rec₀ text₀ len page₀ piece kept₀ at₀ i₀ rec text page kept at i =
