@@ -4,7 +4,7 @@ use Prim.Native.Nat.{_+_}
 use mathlib.Core.Path.{_∙_, ap}
 use lib.ListN.{set}
 use Rattle.claims.specs.Table.{column}
-use Rattle.acts.specs.Reports.{aboveOf}
+use Rattle.acts.specs.inside.Reports.{aboveOf}
 use borrow.Author.Needs.{needs}
 use Rattle.acts.proofs.put_vote.Statement.{statement}
 use Rattle.acts.proofs.put_vote.Tie as tie

@@ -3,7 +3,7 @@
 use mathlib.Core.Path.{_∙_}
 use denote.Ref.{now}
 use borrow.Author.Needs.{needs}
-use Rattle.vaultlines.proofs.Whole.{dryWithin}
+use Rattle.vaultlines.proofs.Reading.{dryWithin}
 use Rattle.vaultlines.proofs.run.Statement.{statement}
 use Rattle.vaultlines.proofs.run.Tie as tie
 
@@ -25,44 +25,31 @@ same-length-2 c = search needs
 same-length-3 : tie.Need-same-length-3
 same-length-3 c = search needs
 
+returns : tie.Need-returns
+returns c = search needs
+
+finish-requires : tie.Need-finish-requires
+finish-requires c κs =
+    let g = c .before .before .before .before .ended .given in
+    let r = c .before .before .before .before .before .before .before .before .before .before .before .before in
+    let s = r .before .before .before .before .before .before .before in
+    let k = r .read-all in (
+      k .kept .1 .0 ∙ s .pre .0,
+      dryWithin (now (s .args .rec)) (k .last .0) (k .last .1 .0) (k .result) (g .0 .0) (g .1) (k .ensures),
+      k .kept .1 .1 .0 ∙ s .pre .1,
+    )
+
+flush-requires : tie.Need-flush-requires
+flush-requires c κs = search needs
+
 same-length-4 : tie.Need-same-length-4
 same-length-4 c = search needs
 
 same-length-5 : tie.Need-same-length-5
 same-length-5 c = search needs
 
-returns : tie.Need-returns
-returns c = search needs
-
-finish-requires : tie.Need-finish-requires
-finish-requires c κs =
-    let g = c .before .before .before .before .before .ended .given in
-    let r = c .before .before .before .before .before .before .before .before .before .before .before .before .before .before .before .before .before in
-    let s = r .before .before .before .before .before .before .before .before .before .before .before in
-    let k = r .read-all in (
-      k .kept .1 .0 ∙ s .pre .0,
-      dryWithin (now (s .args .rec)) (k .last .0) (k .last .1 .0) (k .result) (g .0 .0) (g .1) (k .ensures),
-      k .kept .1 .1 .0 ∙ s .pre .1,
-      k .kept .1 .1 .1 .0 ∙ s .pre .2,
-    )
-
-flush-requires : tie.Need-flush-requires
-flush-requires c κs = search needs
-
 same-length-6 : tie.Need-same-length-6
 same-length-6 c = search needs
-
-same-length-7 : tie.Need-same-length-7
-same-length-7 c = search needs
-
-same-length-8 : tie.Need-same-length-8
-same-length-8 c = search needs
-
-same-length-9 : tie.Need-same-length-9
-same-length-9 c = search needs
-
-same-length-10 : tie.Need-same-length-10
-same-length-10 c = search needs
 
 returns-2 : tie.Need-returns-2
 returns-2 c = search needs
@@ -77,14 +64,10 @@ run-spec =
     same-length
     same-length-2
     same-length-3
-    same-length-4
-    same-length-5
     returns
     finish-requires
     flush-requires
+    same-length-4
+    same-length-5
     same-length-6
-    same-length-7
-    same-length-8
-    same-length-9
-    same-length-10
     returns-2)

@@ -1,0 +1,202 @@
+-- Laws of entries on the page: 'Entries lie end to end', 'one output entry a line'. The first two bytes of an entry tell its size, so
+-- entries laid end to end are found again, one after the other (`entry-says`, `entriesReadBack` of crate entry). The loop that prints
+-- them keeps that what is on the page, with the lines of the rest put behind it, is the page with all the lines.
+-- Assumes nothing.
+use Prim.Native.Nat.{ℕ, _+_, _*_, _-_, _≤_, _<_}
+use mathlib.Core.Path.{_≡_, refl, sym, ap, subst, _∙_}
+use mathlib.Core.List.{List, [], _∷_, _++_}
+use native.Mathlib.Omega.{arith}
+use native.Mathlib.Decide.{decLe}
+use borrow.Author.Tests.{eq-eqb, ne-eqb}
+use lib.ListN.{length, getD, take, drop, length-append, length-drop, drop-of-length-le}
+use lib.Seq.{take-all, take-at, drop-at, drop-drop, length-take-le}
+use Rattle.wire.specs.Placed.{placed}
+use Rattle.wire.proofs.Output.{placed-none, placed-more, length-placed}
+use Rattle.frame.specs.Format.{lengthOf}
+use Rattle.frame.proofs.Laws.{length-plan, length-bare, length-reports, length-low, length-high}
+use Rattle.frame.proofs.Theorems.{encode-head}
+use Rattle.wire.proofs.Laws.{length-spell}
+use Rattle.entry.specs.declared.Entry.{Entry}
+use Rattle.entry.specs.declared.Entry.the-variants.{ForAll, ForOne, Timer, Decision}
+use Rattle.entry.specs.Layout.{hostFields, entryBytes, layout}
+use Rattle.entry.specs.Valid.{AllValid}
+use Rattle.entry.specs.Reading.{sizeAt, entriesWithin, entriesOf}
+use Rattle.entry.proofs.Theorems.{entry-says, entriesReadBack}
+use Rattle.lines.specs.Digits.{lineOf}
+use Rattle.lines.specs.inside.Steps.{Shown}
+use Rattle.lines.proofs.Digits.{lengthLine}
+use Rattle.answers.specs.Lines.{entryLines}
+use Rattle.answers.specs.inside.Steps.{Laid}
+
+-- ---- the size of an entry
+
+-- 'Host entries: 0b, view (4), milliseconds (4) for a timer; 0a, view (4), plan (8) for a decision'
+pub sizeTimer : (s : List ℕ) → getD s 0 0 ≡ 254 → getD s 1 0 ≡ 11 → sizeAt s ≡ 10
+unfolding sizeAt
+sizeTimer s a b = simp (eq-eqb (getD s 0 0) 254 a, eq-eqb (getD s 1 0) 11 b)
+
+pub sizeDecision : (s : List ℕ) → getD s 0 0 ≡ 254 → (getD s 1 0 ≡ 11 → ⊥) → sizeAt s ≡ 14
+unfolding sizeAt
+sizeDecision s a b = simp (eq-eqb (getD s 0 0) 254 a, ne-eqb (getD s 1 0) 11 b)
+
+-- 'a recipient byte .., then the frame'
+pub sizeFrame : (s : List ℕ) → (getD s 0 0 ≡ 254 → ⊥) → sizeAt s ≡ 1 + lengthOf (getD s 1 0)
+unfolding sizeAt
+sizeFrame s a = simp (ne-eqb (getD s 0 0) 254 a) (omega arith)
+
+-- no frame is longer than 45 bytes
+pub lengthShort : (k : ℕ) → lengthOf k ≤ 45
+lengthShort k =
+    elim (decLe k 0) [
+      | yes h ↦ subst (λ (m : ℕ). m ≤ 45) (sym (length-low k (omega arith))) (omega arith)
+      | no g ↦ elim (decLe k 5) [
+        | yes h ↦ subst (λ (m : ℕ). m ≤ 45) (sym (length-plan k (omega arith) h)) (omega arith)
+        | no h ↦ elim (decLe k 6) [
+          | yes e ↦ subst (λ (m : ℕ). m ≤ 45) (sym (length-bare k (omega arith))) (omega arith)
+          | no e ↦ elim (decLe k 8) [
+            | yes u ↦ subst (λ (m : ℕ). m ≤ 45) (sym (length-reports k (omega arith) u)) (omega arith)
+            | no u ↦ subst (λ (m : ℕ). m ≤ 45) (sym (length-high k (omega arith))) (omega arith)
+          ]
+        ]
+      ]
+    ]
+
+-- An entry has its recipient and at least the six bytes of a view-change.
+entryLeast : (e : Entry) → 7 ≤ length (entryBytes e)
+unfolding entryBytes
+entryLeast (ForAll f) = omega (arith, encode-head f)
+entryLeast (ForOne to f) = omega (arith, encode-head f)
+entryLeast (Timer view millis) = omega (arith, length-spell (hostFields 11 view 4 millis))
+entryLeast (Decision view plan) = omega (arith, length-spell (hostFields 10 view 8 plan))
+
+-- ---- entries one after the other
+
+-- What is known of the first entry of some bytes.
+record First (s : List ℕ) (e : Entry) : Type 0 where
+  size : sizeAt s ≡ length (entryBytes e)
+  here : take (sizeAt s) s ≡ entryBytes e
+  rest : Laid (drop (sizeAt s) s)
+  entries : entriesOf s ≡ e ∷ entriesOf (drop (sizeAt s) s)
+  fits : sizeAt s ≤ length s
+
+-- Bytes that are the entry e and then entries es.
+firstIs : (s : List ℕ) (e : Entry) (es : List Entry) → AllValid (e ∷ es) → s ≡ entryBytes e ++ layout es → entriesOf s ≡ e ∷ es → First s e
+firstIs s e es v is read =
+    let says = entry-says e (v .0) (layout es) in
+    let size : sizeAt s ≡ length (entryBytes e) = ap sizeAt is ∙ says .size in
+    let next : drop (sizeAt s) s ≡ layout es = ap (λ (k : ℕ). drop k s) size ∙ ap (λ (l : List ℕ). drop (length (entryBytes e)) l) is ∙ drop-at (entryBytes e) (layout es) (length (entryBytes e)) refl in
+    let back : entriesOf (layout es) ≡ es = entriesReadBack es (v .1) in
+    let again : entriesOf (drop (sizeAt s) s) ≡ es = ap entriesOf next ∙ back in
+    let all = length-append (entryBytes e) (layout es) in
+    let whole : length s ≡ length (entryBytes e ++ layout es) = ap length is in
+    record {
+      size = size;
+      here = ap (λ (k : ℕ). take k s) size ∙ ap (λ (l : List ℕ). take (length (entryBytes e)) l) is ∙ take-at (entryBytes e) (layout es) (length (entryBytes e)) refl;
+      rest = record { valid = subst AllValid (sym again) (v .1); entries = ap layout again ∙ sym next };
+      entries = read ∙ ap (λ (l : List Entry). e ∷ l) (sym again);
+      fits = omega arith;
+    }
+
+first : (s : List ℕ) → Laid s → 0 < length s → (e : Entry) × First s e
+first s laid there = go (entriesOf s) refl
+  where
+    go : (es : List Entry) → entriesOf s ≡ es → (e : Entry) × First s e
+    go [] is = let nothing : length {A = ℕ} [] ≡ length s = ap length (ap layout (sym is) ∙ laid .entries) in absurd (omega arith)
+    go (e ∷ es) is = (e, firstIs s e es (subst AllValid is (laid .valid)) (sym (laid .entries) ∙ ap layout is) is)
+
+-- What holds of the page after i bytes of s: it stands at end.
+pub record PutTo (page₀ : List ℕ) (at : ℕ) (s page : List ℕ) (i end : ℕ) : Type 0 where
+  pub within : i ≤ length s
+  pub laid : Laid (drop i s)
+  pub size : length page ≡ length page₀
+  pub room : end + 3 * (length s - i) ≤ length page
+  pub ends : end + length (entryLines (entriesOf (drop i s))) ≡ at + length (entryLines (entriesOf s))
+  pub shown : placed page end (entryLines (entriesOf (drop i s))) ≡ placed page₀ at (entryLines (entriesOf s))
+
+pub putNone : (page : List ℕ) (at : ℕ) (s : List ℕ) → at + 3 * length s ≤ length page → Laid s → PutTo page at s page 0 at
+putNone page at s room laid = record { within = omega arith; laid = laid; size = refl; room = omega arith; ends = refl; shown = refl }
+
+-- The next entry is found, and fits.
+pub record Next (s : List ℕ) (i size : ℕ) : Type 0 where
+  pub least : 7 ≤ size
+  pub fits : i + size ≤ length s
+  pub bytes : length (take (i + size - i) (drop i s)) ≡ size
+
+module _ (page₀ : List ℕ) (at : ℕ) (s page : List ℕ) (i end : ℕ) (so : PutTo page₀ at s page i end) (more : i < length s) where
+  restThere : 0 < length (drop i s)
+  restThere = rw length-drop (omega arith)
+
+  whole : take (length s - i) (drop i s) ≡ drop i s
+  whole = take-all (length s - i) (drop i s) (rw length-drop (omega arith))
+
+  -- An entry's two first bytes are there.
+  pub headThere : 2 ≤ length (take (length s - i) (drop i s))
+  headThere =
+      let (e, f) = first (drop i s) (so .laid) restThere in
+      rw whole (omega (arith, f .fits, f .size, entryLeast e))
+
+  pub nextIs : (size : ℕ) → size ≡ sizeAt (take (length s - i) (drop i s)) → Next s i size
+  nextIs size is =
+      let (e, f) = first (drop i s) (so .laid) restThere in
+      let same : size ≡ sizeAt (drop i s) = is ∙ ap sizeAt whole in
+      let long = length-drop i s in
+      let fits : i + size ≤ length s = omega (arith, f .fits) in
+      let step : i + size - i ≡ size = omega arith in
+      record {
+        least = omega (arith, f .size, entryLeast e);
+        fits = fits;
+        bytes = ap (λ (k : ℕ). length (take k (drop i s))) step ∙ length-take-le size (drop i s) (omega arith);
+      }
+
+  -- Its line is put where the lines before it end.
+  pub putMore : (size : ℕ) → size ≡ sizeAt (take (length s - i) (drop i s)) → (page′ : List ℕ) (end′ : ℕ)
+      → Shown (lineOf (take (i + size - i) (drop i s))) page end page′ end′ → PutTo page₀ at s page′ (i + size) end′
+  putMore size is page′ end′ put =
+      let (e, f) = first (drop i s) (so .laid) restThere in
+      let same : size ≡ sizeAt (drop i s) = is ∙ ap sizeAt whole in
+      let next = nextIs size is in
+      let step : i + size - i ≡ sizeAt (drop i s) = omega arith in
+      let line : take (i + size - i) (drop i s) ≡ entryBytes e = ap (λ (k : ℕ). take k (drop i s)) step ∙ f .here in
+      let rest : drop (sizeAt (drop i s)) (drop i s) ≡ drop (i + size) s = drop-drop (sizeAt (drop i s)) i s ∙ ap (λ (k : ℕ). drop (i + k) s) (sym same) in
+      let others = entryLines (entriesOf (drop (i + size) s)) in
+      let lines : entryLines (entriesOf (drop i s)) ≡ lineOf (entryBytes e) ++ others =
+      ap entryLines (f .entries) ∙ ap (λ (l : List ℕ). lineOf (entryBytes e) ++ entryLines (entriesOf l)) rest in
+      let long = lengthLine (entryBytes e) in
+      let all : length (entryLines (entriesOf (drop i s))) ≡ length (lineOf (entryBytes e)) + length others = ap length lines ∙ length-append (lineOf (entryBytes e)) others in
+      let here : length (take (i + size - i) (drop i s)) ≡ length (entryBytes e) = ap length line in
+      let after : end′ ≡ end + length (lineOf (entryBytes e)) = put .ends ∙ ap (λ (l : List ℕ). end + length (lineOf l)) line in
+      let page″ : page′ ≡ placed page end (lineOf (entryBytes e)) = put .shown ∙ ap (λ (l : List ℕ). placed page end (lineOf l)) line in
+      let length′ : length page′ ≡ length page = ap length page″ ∙ length-placed page end (lineOf (entryBytes e)) (omega (arith, next .fits, next .least, next .bytes, so .room)) in
+      record {
+        within = next .fits;
+        laid = subst Laid rest (f .rest);
+        size = length′ ∙ so .size;
+        room = omega (arith, next .fits, next .least, next .bytes, so .room);
+        ends = omega (arith, so .ends);
+        shown = (λ k. placed (page″ k) (after k) others) ∙ placed-more page end (lineOf (entryBytes e)) others (omega (arith, so .room))
+            ∙ ap (λ (l : List ℕ). placed page end l) (sym lines) ∙ so .shown;
+      }
+
+-- All are put.
+pub putAll : (page₀ : List ℕ) (at : ℕ) (s page : List ℕ) (i end : ℕ) → PutTo page₀ at s page i end → length s ≤ i
+    → Shown (entryLines (entriesOf s)) page₀ at page end
+unfolding entriesWithin
+putAll page₀ at s page i end so done =
+    let gone : drop i s ≡ [] = drop-of-length-le s {i = i} done in
+    let none-left : entryLines (entriesOf (drop i s)) ≡ [] = ap (λ (l : List ℕ). entryLines (entriesOf l)) gone in
+    let no-more : length (entryLines (entriesOf (drop i s))) ≡ 0 = ap length none-left in
+    record {
+      shown = sym (placed-none page end) ∙ ap (λ (l : List ℕ). placed page end l) (sym none-left) ∙ so .shown;
+      ends = omega (arith, so .ends);
+    }
+
+-- ---- room
+
+-- The lines of entries have at most three digits for each of their bytes.
+linesShort : (es : List Entry) → length (entryLines es) ≤ 3 * length (layout es)
+linesShort [] = omega arith
+linesShort (e ∷ es) =
+    omega (arith, linesShort es, entryLeast e, lengthLine (entryBytes e), length-append (lineOf (entryBytes e)) (entryLines es), length-append (entryBytes e) (layout es))
+
+pub laidShort : (s : List ℕ) → Laid s → length (entryLines (entriesOf s)) ≤ 3 * length s
+laidShort s laid = subst (λ (l : List ℕ). length (entryLines (entriesOf s)) ≤ 3 * length l) (laid .entries) (linesShort (entriesOf s))

@@ -1,0 +1,5 @@
+pub mod Answers
+pub mod Calls
+pub mod Entries
+pub mod Example
+pub mod Worked

@@ -1,0 +1,157 @@
+// One line of the line program of document 01: the call that its bytes make, and what that prints.
+//
+// What a line leaves and prints is a definition, `vaultLines` (specs/Lines); `answer_line` is exact.
+ghost use mathlib.Core.Path.{_≡_};
+ghost use mathlib.Core.List.{[]};
+ghost use Prim.Native.Nat.{_+_, _*_, _≤_, _<_};
+ghost use lib.ListN.{length};
+ghost use Rattle.entry.specs.Reading.{sizeAt, entriesOf};
+ghost use Rattle.vault.specs.Answers.{leftBy};
+ghost use Rattle.lines.specs.inside.Steps.{Shown, Answered};
+ghost use Rattle.answers.specs.Lines.{startOf, timerOf, frameOf, callOf, callLeft, zeroed, entryLines, printed, vaultLines};
+ghost use Rattle.answers.specs.inside.Steps.{answerSize, lineShare, Laid, Printable, Put};
+use lines::Spelling;
+use settings::Settings;
+use vault::Answer;
+
+// A line has at most 90 digits, so 45 bytes.
+const DIGITS: usize = 90;
+
+const BYTES: usize = 45;
+
+const OUTPUT: usize = 256;
+
+const START: u8 = 0;
+
+const TIMER: u8 = 9;
+
+const START_LENGTH: usize = 13;
+
+const TIMER_LENGTH: usize = 5;
+
+const BAD_LENGTH: u8 = 10;
+
+const BAD_LINE: u8 = 20;
+
+const HOST: u8 = 254;
+
+const TIMER_ENTRY: u8 = 11;
+
+// ---- the call that a line makes
+
+// "Kind 00 starts (n, f, id, class, one byte each, then plan; 13 bytes)"; "A wrong length .. gives 10, before the call".
+fn start(rec: &mut [u8], bytes: &[u8], out: &mut [u8]) -> Answer
+    ensures { λ r. ⌜ leftBy r (now (rec .exit)) (now (out .exit)) ≡ callLeft (now (rec .entry)) (now (out .entry)) (startOf (now (bytes .entry))) ⌝ }
+{
+    if bytes.len() != START_LENGTH {
+        return Answer::Refused(BAD_LENGTH);
+    }
+    let set = Settings {
+        n: bytes[1],
+        f: bytes[2],
+        id: bytes[3],
+        class: bytes[4],
+    };
+    let plan = wire::number64(bytes, 5);
+    vault::start(rec, set, plan, out)
+}
+
+// "kind 09 is a timer (view; 5 bytes)"
+fn timer(rec: &mut [u8], bytes: &[u8], out: &mut [u8]) -> Answer
+    ensures { λ r. ⌜ leftBy r (now (rec .exit)) (now (out .exit)) ≡ callLeft (now (rec .entry)) (now (out .entry)) (timerOf (now (bytes .entry))) ⌝ }
+{
+    if bytes.len() != TIMER_LENGTH {
+        return Answer::Refused(BAD_LENGTH);
+    }
+    vault::timer(rec, wire::number32(bytes, 1), out)
+}
+
+// "other lines are frames whose byte 1 is also the link's sender"; where there is no byte 1, no sender is looked at.
+fn frame(rec: &mut [u8], bytes: &[u8], out: &mut [u8]) -> Answer
+    ensures { λ r. ⌜ leftBy r (now (rec .exit)) (now (out .exit)) ≡ callLeft (now (rec .entry)) (now (out .entry)) (frameOf (now (bytes .entry))) ⌝ }
+{
+    if bytes.len() < 2 {
+        return vault::frame(rec, 0, bytes, out);
+    }
+    vault::frame(rec, bytes[1], bytes, out)
+}
+
+// The call that a line's bytes make.
+fn call(rec: &mut [u8], bytes: &[u8], out: &mut [u8]) -> Answer
+    ensures { λ r. ⌜ leftBy r (now (rec .exit)) (now (out .exit)) ≡ callLeft (now (rec .entry)) (now (out .entry)) (callOf (now (bytes .entry))) ⌝ }
+{
+    if bytes.len() == 0 {
+        return frame(rec, bytes, out);
+    }
+    match bytes[0] {
+        START => start(rec, bytes, out),
+        TIMER => timer(rec, bytes, out),
+        _ => frame(rec, bytes, out),
+    }
+}
+
+// ---- what it prints
+
+// How many bytes the entry at the start of some takes.
+fn size_at(s: &[u8]) -> usize
+    requires { ⌜ 2 ≤ length (now s) ⌝ }
+    ensures { λ r. ⌜ r ≡ sizeAt (now (s .entry)) ⌝ }
+{
+    if s[0] == HOST {
+        if s[1] == TIMER_ENTRY {
+            return 10;
+        }
+        return 14;
+    }
+    1 + frame::length_of(s[1])
+}
+
+// Puts entries that lie end to end on the page, each on a line of its own.
+fn put_entries(page: &mut [u8], at: usize, s: &[u8]) -> usize
+    requires { ⌜ (at + 3 * length (now s) ≤ length (now page)) × Laid (now s) ⌝ }
+    ensures { λ r. ⌜ Shown (entryLines (entriesOf (now (s .entry)))) (now (page .entry)) at (now (page .exit)) r ⌝ }
+{
+    let mut i = 0;
+    let mut end = at;
+    while i < s.len() {
+        let next = i + size_at(&s[i..]);
+        end = lines::put_line(page, end, &s[i..next]);
+        i = next;
+    }
+    end
+}
+
+// Puts what a call answered on the page: "one output entry a line, or fd and the refusal number as one byte".
+fn put_answer(page: &mut [u8], at: usize, answer: Answer, out: &[u8]) -> usize
+    requires { ⌜ (at + answerSize ≤ length (now page)) × Printable answer (now out) ⌝ }
+    ensures { λ r. ⌜ Shown (printed (leftBy answer [] (now (out .entry)))) (now (page .entry)) at (now (page .exit)) r ⌝ }
+{
+    match answer {
+        Answer::Written(count) => put_entries(page, at, &out[0..count]),
+        Answer::Refused(number) => lines::put_refusal(page, at, number),
+    }
+}
+
+// A line's bytes are called, with "a zeroed 256-byte output array", and the answer is put on the page.
+fn answer(rec: &mut [u8], bytes: &[u8], page: &mut [u8], at: usize) -> usize
+    requires { ⌜ at + answerSize ≤ length (now page) ⌝ }
+    ensures { λ r. ⌜ Put (callLeft (now (rec .entry)) zeroed (callOf (now (bytes .entry)))) (now (page .entry)) at (now (rec .exit)) (now (page .exit)) r ⌝ }
+{
+    let mut out = [0u8; OUTPUT];
+    let a = call(rec, bytes, &mut out);
+    put_answer(page, at, a, &out)
+}
+
+// One line: from its text, and the record, to the record and the lines printed. "20 is tested before all else".
+pub fn answer_line(rec: &mut [u8], text: &[u8], page: &mut [u8], at: usize) -> usize
+    requires { ⌜ at + answerSize ≤ length (now page) ⌝ }
+    ensures { λ r. ⌜ Answered vaultLines (now (rec .entry)) (now (text .entry)) (now (page .entry)) at (now (rec .exit)) (now (page .exit)) r ⌝ }
+    ensures { λ r. ⌜ r ≤ at + lineShare * (length (now (text .entry)) + 1) ⌝ }
+{
+    let mut bytes = [0u8; BYTES];
+    let spelling = lines::bytes_in(text, DIGITS, &mut bytes);
+    let Spelling::Count(count) = spelling else {
+        return lines::put_refusal(page, at, BAD_LINE);
+    };
+    answer(rec, &bytes[0..count], page, at)
+}
