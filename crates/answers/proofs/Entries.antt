@@ -1,65 +1,30 @@
--- Laws of entries on the page: 'Entries lie end to end', 'one output entry a line'. The first two bytes of an entry tell its size, so
--- entries laid end to end are found again, one after the other (`entry-says`, `entriesReadBack` of crate entry). The loop that prints
+-- Laws of entries on the page: 'Entries lie end to end', 'one output entry a line'. The size of an entry is found (crate entries), so
+-- entries laid end to end are found again, one after the other (`in-entry`, `entriesReadBack`). The loop that prints
 -- them keeps that what is on the page, with the lines of the rest put behind it, is the page with all the lines.
 -- Assumes nothing.
 use Prim.Native.Nat.{ℕ, _+_, _*_, _-_, _≤_, _<_}
 use mathlib.Core.Path.{_≡_, refl, sym, ap, subst, _∙_}
 use mathlib.Core.List.{List, [], _∷_, _++_}
 use native.Mathlib.Omega.{arith}
-use native.Mathlib.Decide.{decLe}
-use borrow.Author.Tests.{eq-eqb, ne-eqb}
-use lib.ListN.{length, getD, take, drop, length-append, length-drop, drop-of-length-le}
+use lib.ListN.{length, take, drop, length-append, length-drop, drop-of-length-le}
 use lib.Seq.{take-all, take-at, drop-at, drop-drop, length-take-le}
 use Rattle.wire.specs.Placed.{placed}
 use Rattle.wire.proofs.Output.{placed-none, placed-more, length-placed}
-use Rattle.frame.specs.Format.{lengthOf}
-use Rattle.frame.proofs.Laws.{length-plan, length-bare, length-reports, length-low, length-high}
 use Rattle.frame.proofs.Theorems.{encode-head}
 use Rattle.wire.proofs.Laws.{length-spell}
 use Rattle.entry.specs.declared.Entry.{Entry}
 use Rattle.entry.specs.declared.Entry.the-variants.{ForAll, ForOne, Timer, Decision}
 use Rattle.entry.specs.Layout.{hostFields, entryBytes, layout}
 use Rattle.entry.specs.Valid.{AllValid}
-use Rattle.entry.specs.Reading.{sizeAt, entriesWithin, entriesOf}
-use Rattle.entry.proofs.Theorems.{entry-says, entriesReadBack}
+use Rattle.entry.specs.Reading.{entriesWithin, entriesOf}
+use Rattle.entry.proofs.Theorems.{entriesReadBack}
+use Rattle.entries.specs.Walk.{sizeIn}
+use Rattle.entries.proofs.Walk.{in-entry}
 use Rattle.lines.specs.Digits.{lineOf}
 use Rattle.lines.specs.inside.Steps.{Shown}
 use Rattle.lines.proofs.Digits.{lengthLine}
 use Rattle.answers.specs.Lines.{entryLines}
 use Rattle.answers.specs.inside.Steps.{Laid}
-
--- ---- the size of an entry
-
--- 'Host entries: 0b, view (4), milliseconds (4) for a timer; 0a, view (4), plan (8) for a decision'
-pub sizeTimer : (s : List ℕ) → getD s 0 0 ≡ 254 → getD s 1 0 ≡ 11 → sizeAt s ≡ 10
-unfolding sizeAt
-sizeTimer s a b = simp (eq-eqb (getD s 0 0) 254 a, eq-eqb (getD s 1 0) 11 b)
-
-pub sizeDecision : (s : List ℕ) → getD s 0 0 ≡ 254 → (getD s 1 0 ≡ 11 → ⊥) → sizeAt s ≡ 14
-unfolding sizeAt
-sizeDecision s a b = simp (eq-eqb (getD s 0 0) 254 a, ne-eqb (getD s 1 0) 11 b)
-
--- 'a recipient byte .., then the frame'
-pub sizeFrame : (s : List ℕ) → (getD s 0 0 ≡ 254 → ⊥) → sizeAt s ≡ 1 + lengthOf (getD s 1 0)
-unfolding sizeAt
-sizeFrame s a = simp (ne-eqb (getD s 0 0) 254 a) (omega arith)
-
--- no frame is longer than 45 bytes
-pub lengthShort : (k : ℕ) → lengthOf k ≤ 45
-lengthShort k =
-    elim (decLe k 0) [
-      | yes h ↦ subst (λ (m : ℕ). m ≤ 45) (sym (length-low k (omega arith))) (omega arith)
-      | no g ↦ elim (decLe k 5) [
-        | yes h ↦ subst (λ (m : ℕ). m ≤ 45) (sym (length-plan k (omega arith) h)) (omega arith)
-        | no h ↦ elim (decLe k 6) [
-          | yes e ↦ subst (λ (m : ℕ). m ≤ 45) (sym (length-bare k (omega arith))) (omega arith)
-          | no e ↦ elim (decLe k 8) [
-            | yes u ↦ subst (λ (m : ℕ). m ≤ 45) (sym (length-reports k (omega arith) u)) (omega arith)
-            | no u ↦ subst (λ (m : ℕ). m ≤ 45) (sym (length-high k (omega arith))) (omega arith)
-          ]
-        ]
-      ]
-    ]
 
 -- An entry has its recipient and at least the six bytes of a view-change.
 entryLeast : (e : Entry) → 7 ≤ length (entryBytes e)
@@ -73,20 +38,19 @@ entryLeast (Decision view plan) = omega (arith, length-spell (hostFields 10 view
 
 -- What is known of the first entry of some bytes.
 record First (s : List ℕ) (e : Entry) : Type 0 where
-  size : sizeAt s ≡ length (entryBytes e)
-  here : take (sizeAt s) s ≡ entryBytes e
-  rest : Laid (drop (sizeAt s) s)
-  entries : entriesOf s ≡ e ∷ entriesOf (drop (sizeAt s) s)
-  fits : sizeAt s ≤ length s
+  size : sizeIn s ≡ length (entryBytes e)
+  here : take (sizeIn s) s ≡ entryBytes e
+  rest : Laid (drop (sizeIn s) s)
+  entries : entriesOf s ≡ e ∷ entriesOf (drop (sizeIn s) s)
+  fits : sizeIn s ≤ length s
 
 -- Bytes that are the entry e and then entries es.
 firstIs : (s : List ℕ) (e : Entry) (es : List Entry) → AllValid (e ∷ es) → s ≡ entryBytes e ++ layout es → entriesOf s ≡ e ∷ es → First s e
 firstIs s e es v is read =
-    let says = entry-says e (v .0) (layout es) in
-    let size : sizeAt s ≡ length (entryBytes e) = ap sizeAt is ∙ says .size in
-    let next : drop (sizeAt s) s ≡ layout es = ap (λ (k : ℕ). drop k s) size ∙ ap (λ (l : List ℕ). drop (length (entryBytes e)) l) is ∙ drop-at (entryBytes e) (layout es) (length (entryBytes e)) refl in
+    let size : sizeIn s ≡ length (entryBytes e) = ap sizeIn is ∙ in-entry e (v .0) (layout es) in
+    let next : drop (sizeIn s) s ≡ layout es = ap (λ (k : ℕ). drop k s) size ∙ ap (λ (l : List ℕ). drop (length (entryBytes e)) l) is ∙ drop-at (entryBytes e) (layout es) (length (entryBytes e)) refl in
     let back : entriesOf (layout es) ≡ es = entriesReadBack es (v .1) in
-    let again : entriesOf (drop (sizeAt s) s) ≡ es = ap entriesOf next ∙ back in
+    let again : entriesOf (drop (sizeIn s) s) ≡ es = ap entriesOf next ∙ back in
     let all = length-append (entryBytes e) (layout es) in
     let whole : length s ≡ length (entryBytes e ++ layout es) = ap length is in
     record {
@@ -129,16 +93,10 @@ module _ (page₀ : List ℕ) (at : ℕ) (s page : List ℕ) (i end : ℕ) (so :
   whole : take (length s - i) (drop i s) ≡ drop i s
   whole = take-all (length s - i) (drop i s) (rw length-drop (omega arith))
 
-  -- An entry's two first bytes are there.
-  pub headThere : 2 ≤ length (take (length s - i) (drop i s))
-  headThere =
-      let (e, f) = first (drop i s) (so .laid) restThere in
-      rw whole (omega (arith, f .fits, f .size, entryLeast e))
-
-  pub nextIs : (size : ℕ) → size ≡ sizeAt (take (length s - i) (drop i s)) → Next s i size
+  pub nextIs : (size : ℕ) → size ≡ sizeIn (take (length s - i) (drop i s)) → Next s i size
   nextIs size is =
       let (e, f) = first (drop i s) (so .laid) restThere in
-      let same : size ≡ sizeAt (drop i s) = is ∙ ap sizeAt whole in
+      let same : size ≡ sizeIn (drop i s) = is ∙ ap sizeIn whole in
       let long = length-drop i s in
       let fits : i + size ≤ length s = omega (arith, f .fits) in
       let step : i + size - i ≡ size = omega arith in
@@ -149,15 +107,15 @@ module _ (page₀ : List ℕ) (at : ℕ) (s page : List ℕ) (i end : ℕ) (so :
       }
 
   -- Its line is put where the lines before it end.
-  pub putMore : (size : ℕ) → size ≡ sizeAt (take (length s - i) (drop i s)) → (page′ : List ℕ) (end′ : ℕ)
+  pub putMore : (size : ℕ) → size ≡ sizeIn (take (length s - i) (drop i s)) → (page′ : List ℕ) (end′ : ℕ)
       → Shown (lineOf (take (i + size - i) (drop i s))) page end page′ end′ → PutTo page₀ at s page′ (i + size) end′
   putMore size is page′ end′ put =
       let (e, f) = first (drop i s) (so .laid) restThere in
-      let same : size ≡ sizeAt (drop i s) = is ∙ ap sizeAt whole in
+      let same : size ≡ sizeIn (drop i s) = is ∙ ap sizeIn whole in
       let next = nextIs size is in
-      let step : i + size - i ≡ sizeAt (drop i s) = omega arith in
+      let step : i + size - i ≡ sizeIn (drop i s) = omega arith in
       let line : take (i + size - i) (drop i s) ≡ entryBytes e = ap (λ (k : ℕ). take k (drop i s)) step ∙ f .here in
-      let rest : drop (sizeAt (drop i s)) (drop i s) ≡ drop (i + size) s = drop-drop (sizeAt (drop i s)) i s ∙ ap (λ (k : ℕ). drop (i + k) s) (sym same) in
+      let rest : drop (sizeIn (drop i s)) (drop i s) ≡ drop (i + size) s = drop-drop (sizeIn (drop i s)) i s ∙ ap (λ (k : ℕ). drop (i + k) s) (sym same) in
       let others = entryLines (entriesOf (drop (i + size) s)) in
       let lines : entryLines (entriesOf (drop i s)) ≡ lineOf (entryBytes e) ++ others =
       ap entryLines (f .entries) ∙ ap (λ (l : List ℕ). lineOf (entryBytes e) ++ entryLines (entriesOf l)) rest in

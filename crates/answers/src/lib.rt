@@ -5,7 +5,7 @@ ghost use mathlib.Core.Path.{_≡_};
 ghost use mathlib.Core.List.{[]};
 ghost use Prim.Native.Nat.{_+_, _*_, _≤_, _<_};
 ghost use lib.ListN.{length};
-ghost use Rattle.entry.specs.Reading.{sizeAt, entriesOf};
+ghost use Rattle.entry.specs.Reading.{entriesOf};
 ghost use Rattle.vault.specs.Answers.{leftBy};
 ghost use Rattle.lines.specs.inside.Steps.{Shown, Answered};
 ghost use Rattle.answers.specs.Lines.{startOf, timerOf, frameOf, callOf, callLeft, zeroed, entryLines, printed, vaultLines};
@@ -32,10 +32,6 @@ const TIMER_LENGTH: usize = 5;
 const BAD_LENGTH: u8 = 10;
 
 const BAD_LINE: u8 = 20;
-
-const HOST: u8 = 254;
-
-const TIMER_ENTRY: u8 = 11;
 
 // ---- the call that a line makes
 
@@ -92,20 +88,6 @@ fn call(rec: &mut [u8], bytes: &[u8], out: &mut [u8]) -> Answer
 
 // ---- what it prints
 
-// How many bytes the entry at the start of some takes.
-fn size_at(s: &[u8]) -> usize
-    requires { ⌜ 2 ≤ length (now s) ⌝ }
-    ensures { λ r. ⌜ r ≡ sizeAt (now (s .entry)) ⌝ }
-{
-    if s[0] == HOST {
-        if s[1] == TIMER_ENTRY {
-            return 10;
-        }
-        return 14;
-    }
-    1 + frame::length_of(s[1])
-}
-
 // Puts entries that lie end to end on the page, each on a line of its own.
 fn put_entries(page: &mut [u8], at: usize, s: &[u8]) -> usize
     requires { ⌜ (at + 3 * length (now s) ≤ length (now page)) × Laid (now s) ⌝ }
@@ -114,7 +96,7 @@ fn put_entries(page: &mut [u8], at: usize, s: &[u8]) -> usize
     let mut i = 0;
     let mut end = at;
     while i < s.len() {
-        let next = i + size_at(&s[i..]);
+        let next = i + entries::size_in(&s[i..]);
         end = lines::put_line(page, end, &s[i..next]);
         i = next;
     }

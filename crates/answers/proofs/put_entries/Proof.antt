@@ -5,7 +5,8 @@ use Prim.Native.Nat.{_-_}
 use lib.ListN.{length}
 use native.Mathlib.Omega.{arith}
 use denote.Ref.{now}
-use Rattle.answers.proofs.Entries.{PutTo, putNone, headThere, nextIs, putMore, putAll}
+use Rattle.answers.proofs.Entries.{PutTo, putNone, nextIs, putMore, putAll}
+use borrow.Author.Needs.{needs}
 use Rattle.answers.proofs.put_entries.Statement.{statement}
 use Rattle.answers.proofs.put_entries.Tie as tie
 
@@ -18,28 +19,28 @@ abbrev μ-loop : tie.MeasureT-loop
 loop-holds : tie.Need-loop-holds Inv-loop μ-loop
 loop-holds c = let a = c .before .before in putNone (now (a .args .page)) (a .args .at) (now (a .args .s)) (a .pre .0) (a .pre .1)
 
-sub-size-at : tie.Need-sub-size-at Inv-loop μ-loop
-sub-size-at c = omega arith
+sub-size-in : tie.Need-sub-size-in Inv-loop μ-loop
+sub-size-in c = omega arith
 
-part-size-at-start : tie.Need-part-size-at-start Inv-loop μ-loop
-part-size-at-start c = omega arith
+part-size-in-start : tie.Need-part-size-in-start Inv-loop μ-loop
+part-size-in-start c = omega arith
 
-part-size-at-end : tie.Need-part-size-at-end Inv-loop μ-loop
-part-size-at-end c = omega arith
+part-size-in-end : tie.Need-part-size-in-end Inv-loop μ-loop
+part-size-in-end c = omega arith
 
-size-at-requires : tie.Need-size-at-requires Inv-loop μ-loop
-size-at-requires c κs = let l = c .before .before .loop in headThere _ _ _ (l .page) (l .i) (l .end) (l .inv) (c .before .loop-test .taken)
+size-in-requires : tie.Need-size-in-requires Inv-loop μ-loop
+size-in-requires c κs = search needs
 
 add-next : tie.Need-add-next Inv-loop μ-loop
 add-next c =
     let l = c .before .before .before .loop in
-    let n = nextIs _ _ _ (l .page) (l .i) (l .end) (l .inv) (c .before .before .loop-test .taken) _ (c .size-at .ensures) in
+    let n = nextIs _ _ _ (l .page) (l .i) (l .end) (l .inv) (c .before .before .loop-test .taken) _ (c .size-in .ensures) in
     omega arith
 
 sub-put-line : tie.Need-sub-put-line Inv-loop μ-loop
 sub-put-line c =
     let l = c .before .before .before .before .loop in
-    let n = nextIs _ _ _ (l .page) (l .i) (l .end) (l .inv) (c .before .before .before .loop-test .taken) _ (c .before .size-at .ensures) in
+    let n = nextIs _ _ _ (l .page) (l .i) (l .end) (l .inv) (c .before .before .before .loop-test .taken) _ (c .before .size-in .ensures) in
     omega arith
 
 part-put-line-start : tie.Need-part-put-line-start Inv-loop μ-loop
@@ -48,20 +49,20 @@ part-put-line-start c = omega arith
 part-put-line-end : tie.Need-part-put-line-end Inv-loop μ-loop
 part-put-line-end c =
     let l = c .before .before .before .before .loop in
-    let n = nextIs _ _ _ (l .page) (l .i) (l .end) (l .inv) (c .before .before .before .loop-test .taken) _ (c .before .size-at .ensures) in
+    let n = nextIs _ _ _ (l .page) (l .i) (l .end) (l .inv) (c .before .before .before .loop-test .taken) _ (c .before .size-in .ensures) in
     omega arith
 
 put-line-requires : tie.Need-put-line-requires Inv-loop μ-loop
 put-line-requires c κs =
     let l = c .before .before .before .before .before .loop in
-    let n = nextIs _ _ _ (l .page) (l .i) (l .end) (l .inv) (c .before .before .before .before .loop-test .taken) _ (c .before .before .size-at .ensures) in
+    let n = nextIs _ _ _ (l .page) (l .i) (l .end) (l .inv) (c .before .before .before .before .loop-test .taken) _ (c .before .before .size-in .ensures) in
     omega arith
 
 loop-less : tie.Need-loop-less Inv-loop μ-loop
 loop-less c =
     let l = c .before .before .before .before .before .before .before .before .loop in
     let n = nextIs _ _ _ (l .page) (l .i) (l .end) (l .inv) (c .before .before .before .before .before .before .before .loop-test .taken) _
-    (c .before .before .before .before .before .size-at .ensures) in
+    (c .before .before .before .before .before .size-in .ensures) in
     omega arith
 
 loop-again : tie.Need-loop-again Inv-loop μ-loop
@@ -69,7 +70,7 @@ loop-again c =
     let l = c .before .before .before .before .before .before .before .before .loop in
     let p = c .before .before .put-line in
     putMore _ _ _ (l .page) (l .i) (l .end) (l .inv) (c .before .before .before .before .before .before .before .loop-test .taken) _
-    (c .before .before .before .before .before .size-at .ensures) (p .last .0) (p .result) (p .ensures)
+    (c .before .before .before .before .before .size-in .ensures) (p .last .0) (p .result) (p .ensures)
 
 same-length : tie.Need-same-length Inv-loop μ-loop
 same-length c = omega arith
@@ -84,10 +85,10 @@ put-entries-spec =
     Inv-loop
     μ-loop
     loop-holds
-    sub-size-at
-    part-size-at-start
-    part-size-at-end
-    size-at-requires
+    sub-size-in
+    part-size-in-start
+    part-size-in-end
+    size-in-requires
     add-next
     sub-put-line
     part-put-line-start
