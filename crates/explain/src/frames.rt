@@ -1,0 +1,117 @@
+// What frames say, in plain words.
+ghost use mathlib.Core.Path.{_≡_};
+ghost use Prim.Native.Nat.{_≤_};
+ghost use Rattle.frame.specs.Refusal.{first, formRows};
+ghost use Rattle.frame.specs.inside.Reading.{refusalOf};
+use crate::words::say;
+use crate::words::say_number;
+use crate::words::wide;
+use crate::words::wider;
+use frame::Body;
+use frame::Frame;
+use frame::Reading;
+use frame::Report;
+use frame::Reports;
+
+const SUGGEST: u8 = 7;
+
+// The frame that bytes say, or refusal 9 or 10.
+pub(crate) fn frame_in(s: &[u8]) -> Reading
+    ensures { λ r. ⌜ refusalOf r ≡ first (formRows (now (s .entry))) ⌝ }
+{
+    let why = frame::form_refusal(s);
+    if why != 0 {
+        return Reading::Refused(why);
+    }
+    Reading::Accepted(reader::parse(s))
+}
+
+pub(crate) fn say_kind(kind: u8) {
+    match kind {
+        1 => say(b"proposal"),
+        2..=5 => say_number(b"vote-", wide(kind - 1)),
+        6 => say(b"view-change"),
+        7 => say(b"suggest"),
+        8 => say(b"proof"),
+        _ => say(b"frame"),
+    }
+}
+
+// "A suggest reports highest vote-2, previous vote-2, highest vote-3. A proof reports highest vote-1, previous vote-1, highest vote-4."
+pub(crate) fn vote_of(kind: u8) -> u8
+    ensures { λ r. ⌜ r ≤ 2 ⌝ }
+{
+    if kind == SUGGEST { 2 } else { 1 }
+}
+
+pub(crate) fn lock_of(kind: u8) -> u8
+    ensures { λ r. ⌜ r ≤ 4 ⌝ }
+{
+    if kind == SUGGEST { 3 } else { 4 }
+}
+
+fn say_place(view: u32, plan: u64) {
+    say_number(b"view ", wider(view));
+    say_number(b", plan ", plan);
+    say(b"\n");
+}
+
+fn is_none(r: Report) -> bool {
+    if r.mark != 0 {
+        return false;
+    }
+    if r.view != 0 {
+        return false;
+    }
+    r.plan == 0
+}
+
+// A report: the vote, or none; where its mark fits neither, all of it.
+fn say_report(name: &[u8], vote: u8, r: Report) {
+    say_number(name, wide(vote));
+    say(b": ");
+    if is_none(r) {
+        say(b"none\n");
+        return;
+    }
+    if r.mark != 1 {
+        say_number(b"mark ", wide(r.mark));
+        say(b", ");
+    }
+    say_place(r.view, r.plan);
+}
+
+fn say_reports(kind: u8, r: Reports) {
+    let highest = r.highest;
+    let previous = r.previous;
+    let lock = r.lock;
+    say_report(b"        highest vote-", vote_of(kind), highest);
+    say_report(b"        previous vote-", vote_of(kind), previous);
+    say_report(b"        highest vote-", lock_of(kind), lock);
+}
+
+fn say_body(f: Frame) {
+    let body = f.body;
+    match body {
+        Body::Plan(plan) => {
+            say(b", ");
+            say_place(f.view, plan);
+        }
+        Body::Empty => {
+            say_number(b" for view ", wider(f.view));
+            say(b"\n");
+        }
+        Body::Told(r) => {
+            say_number(b", view ", wider(f.view));
+            say(b"\n");
+            say_reports(f.kind, r);
+        }
+    }
+}
+
+// Kind, sender and what the frame holds: "vote-2 of vault 1, view 0, plan 7".
+pub(crate) fn say_frame(f: Frame) {
+    say_kind(f.kind);
+    say_number(b" of vault ", wide(f.sender));
+    say_body(f);
+}
