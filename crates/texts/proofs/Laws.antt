@@ -59,6 +59,10 @@ beyond-four number k h r =
     let d = r .1 in
     omega arith
 
+-- No number is above 8 and below 9.
+pub too-high : (number : ℕ) → 8 < number → number < 9 → ⊥
+too-high number a b = omega arith
+
 -- A number that is no refusal's.
 pub none-said : (number : ℕ) (out : List ℕ) → sentenceOf number ≡ [] → Written (fitting (sentenceOf number) (length out)) out out 0
 none-said number out e =

@@ -1,4 +1,5 @@
 // A sentence for each refusal's number.
+ghost use Prim.Native.Nat.{_<_};
 ghost use lib.ListN.{length};
 ghost use Rattle.texts.specs.Texts.{sentenceOf, fitting, Written};
 
@@ -12,8 +13,9 @@ fn put(out: &mut [u8], text: &[u8]) -> usize
     bytes::copy(text, out)
 }
 
-// The sentence of a refusal, in ASCII, with nothing behind it. 0, and nothing written, where there is no such refusal or no room.
-pub fn refusal_text(number: u32, out: &mut [u8]) -> usize
+// The sentences of a call's way in, and of a start.
+fn call_text(number: u32, out: &mut [u8]) -> usize
+    requires { ⌜ number < 9 ⌝ }
     ensures { λ r. ⌜ Written (fitting (sentenceOf number) (length (now (out .entry)))) (now (out .entry)) (now (out .exit)) r ⌝ }
 {
     match number {
@@ -34,6 +36,16 @@ pub fn refusal_text(number: u32, out: &mut [u8]) -> usize
         6 => put(out, b"f is at least 1, and three times f is less than n"),
         7 => put(out, b"the vault's number must be below n"),
         8 => put(out, b"the link class is 0 to 7"),
+        _ => 0,
+    }
+}
+
+// The sentences of a frame, a timer and a line.
+fn frame_text(number: u32, out: &mut [u8]) -> usize
+    requires { ⌜ 8 < number ⌝ }
+    ensures { λ r. ⌜ Written (fitting (sentenceOf number) (length (now (out .entry)))) (now (out .entry)) (now (out .exit)) r ⌝ }
+{
+    match number {
         9 => put(out, b"the frame is empty, or of no known kind"),
         10 => put(out, b"the length does not fit the kind"),
         11 => put(
@@ -63,4 +75,14 @@ pub fn refusal_text(number: u32, out: &mut [u8]) -> usize
         ),
         _ => 0,
     }
+}
+
+// The sentence of a refusal, in ASCII, with nothing behind it. 0, and nothing written, where there is no such refusal or no room.
+pub fn refusal_text(number: u32, out: &mut [u8]) -> usize
+    ensures { λ r. ⌜ Written (fitting (sentenceOf number) (length (now (out .entry)))) (now (out .entry)) (now (out .exit)) r ⌝ }
+{
+    if number < 9 {
+        return call_text(number, out);
+    }
+    frame_text(number, out)
 }
