@@ -12,7 +12,7 @@ use inplace::Search;
 use reference::frame::{Frame, PROOF, PROPOSAL, SUGGEST, VOTE_3};
 use reference::record::{Record, Settings};
 use reference::rng::Rng;
-use reference::rules::{self, Rule};
+use reference::rules::{self, Question, Rule};
 use reference::vault::Step;
 
 use crate::calls;
@@ -24,11 +24,6 @@ use crate::table;
 /// Enough to find the bad sets, and to time those well.
 const QUICK_ROUNDS: u32 = 5;
 const ROUNDS: u32 = 40;
-/// How many of the worst sets are timed well.
-const FINALISTS: usize = 5;
-const RANDOM_SETS: u64 = 40;
-/// The vaults of the summary's slowest search.
-const LARGE: usize = 64;
 
 /// A report set in the forms of all sides, and what is asked of it.
 struct Input {
@@ -54,15 +49,15 @@ impl Input {
         let Input { n, f, flat, plan, .. } = self;
         match self.rule {
             Rule::One => choose_plan(flat, *n, *f, VIEW, *plan),
-            Rule::Three => safe_plan(flat, *n, *f, VIEW, *plan, true).then_some(*plan),
+            Rule::Three => safe_plan(flat, *n, *f, VIEW, *plan, self.rule).then_some(*plan),
         }
     }
 
     fn reference(&self) -> Option<u64> {
-        let Input { n, f, reports, plan, .. } = self;
+        let question = Question { n: self.n, f: self.f, v: VIEW, reports: &self.reports };
         match self.rule {
-            Rule::One => rules::choose(*n, *f, VIEW, reports, *plan),
-            Rule::Three => rules::safe(Rule::Three, *n, *f, VIEW, reports, *plan).map(|_| *plan),
+            Rule::One => rules::choose(&question, self.plan),
+            Rule::Three => rules::safe(self.rule, &question, self.plan).map(|_| self.plan),
         }
     }
 
@@ -142,6 +137,8 @@ fn kept(n: usize, f: usize, reports: &Reports, rule: Rule, plan: u64) -> Record 
     record
 }
 
+const RANDOM_SETS: u64 = 40;
+
 /// Every shape and some random sets, with the plans that are worth asking for.
 fn inputs(rule: Rule, n: usize, f: usize) -> Vec<Input> {
     let mut rng = Rng(9);
@@ -206,6 +203,11 @@ fn timed<'a>(clock: &Clock, rounds: u32, inputs: Vec<&'a Input>) -> Vec<(&'a Inp
     let times = race(rounds, groups);
     inputs.into_iter().zip(times).collect()
 }
+
+/// How many of the worst sets are timed well.
+const FINALISTS: usize = 5;
+/// The vaults of the summary's slowest search.
+const LARGE: usize = 64;
 
 /// The worst few of a quick race are timed well, and the worst of these is printed, with a whole
 /// call.

@@ -8,6 +8,8 @@ pub const VOTE_4: u8 = 5;
 pub const VIEW_CHANGE: u8 = 6;
 pub const SUGGEST: u8 = 7;
 pub const PROOF: u8 = 8;
+/// The kinds of frames, 1 to 8.
+pub const KINDS: usize = 8;
 
 /// The longest frame, a suggest or a proof.
 pub const MAX_LEN: usize = 45;

@@ -2,40 +2,26 @@
 //! set, every view below v, every pair of views and of plans. For n up to 7 and small views.
 //! Shares nothing with rules.rs but the types.
 
-use crate::rules::{Reports, Rule};
+use crate::rules::{Question, Reports, Rule};
 
 /// A set of vaults: bit i stands for vault i.
 type Set = u8;
 
-/// Everything one question is asked about.
-struct Question<'a> {
-    n: usize,
-    f: usize,
-    v: u32,
-    reports: &'a [Option<Reports>],
-}
-
-pub fn safe(
-    rule: Rule,
-    n: usize,
-    f: usize,
-    v: u32,
-    reports: &[Option<Reports>],
-    plan: u64,
-) -> bool {
-    assert!(n <= 7, "the literal reading is for n up to 7");
-    Question { n, f, v, reports }.safe(rule, plan)
+/// Whether the plan is safe in view v.
+pub fn safe(rule: Rule, question: &Question, plan: u64) -> bool {
+    assert!(question.n <= 7, "the literal reading is for n up to 7");
+    question.safe(rule, plan)
 }
 
 /// The starting plan if it is safe by Rule 1, else the smallest safe plan of all, else none.
-pub fn choose(n: usize, f: usize, v: u32, reports: &[Option<Reports>], start: u64) -> Option<u64> {
-    if safe(Rule::One, n, f, v, reports, start) {
+pub fn choose(question: &Question, start: u64) -> Option<u64> {
+    if safe(Rule::One, question, start) {
         return Some(start);
     }
     // Plans that no report names are all alike, so the smallest two of them stand for all.
-    let mut plans = plans_to_try(reports);
+    let mut plans = plans_to_try(question.reports);
     plans.sort_unstable();
-    plans.into_iter().find(|&plan| safe(Rule::One, n, f, v, reports, plan))
+    plans.into_iter().find(|&plan| safe(Rule::One, question, plan))
 }
 
 impl Question<'_> {

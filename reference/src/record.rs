@@ -1,12 +1,10 @@
 //! What a vault keeps (01, "What a vault keeps"), when a record is blank or sound, and the
 //! reference's own byte layout of it.
 
-use crate::frame::{self, bad_previous, leader, number4, number8, Frame, Report};
+use crate::frame::{self, bad_previous, leader, number4, number8, Frame, Report, KINDS};
 
 /// The most vaults there can be.
 pub const VAULTS: usize = 64;
-/// The kinds of frames, 1 to 8.
-pub const KINDS: usize = 8;
 
 #[derive(Clone, Copy, PartialEq, Eq, Debug, Hash)]
 pub struct Settings {

@@ -21,6 +21,16 @@ pub enum Clause {
 /// One reporter's three reports: highest, previous, lock.
 pub type Reports = [Option<Report>; 3];
 
+/// What is asked about: view v of n vaults of which f may lie. reports[i] is Some where the report
+/// frame of view v from vault i is kept, for i in 0..n.
+#[derive(Clone, Copy, PartialEq, Eq, Debug)]
+pub struct Question<'a> {
+    pub n: usize,
+    pub f: usize,
+    pub v: u32,
+    pub reports: &'a [Option<Reports>],
+}
+
 /// "A quorum is n - f or more vaults, a blocking set f + 1 or more."
 #[derive(Clone, Copy, PartialEq, Eq, Debug)]
 pub struct Sizes {
@@ -34,21 +44,15 @@ impl Sizes {
     }
 }
 
-/// Whether the plan is safe in view v, and by which clause. reports[i] is Some where the
-/// report frame of view v from vault i is kept, for i in 0..n.
-pub fn safe(
-    rule: Rule,
-    n: usize,
-    f: usize,
-    v: u32,
-    reports: &[Option<Reports>],
-    plan: u64,
-) -> Option<Clause> {
+/// Whether the plan is safe in view v, and by which clause.
+pub fn safe(rule: Rule, question: &Question, plan: u64) -> Option<Clause> {
+    let Question { n, f, v, reports } = *question;
     safe_by(rule, Sizes::of(n, f), v, &reports[..n], plan)
 }
 
 /// Step C: "its starting plan if that is safe by Rule 1, else the smallest safe plan, else waits".
-pub fn choose(n: usize, f: usize, v: u32, reports: &[Option<Reports>], start: u64) -> Option<u64> {
+pub fn choose(question: &Question, start: u64) -> Option<u64> {
+    let Question { n, f, v, reports } = *question;
     choose_by(Sizes::of(n, f), v, &reports[..n], start)
 }
 

@@ -49,6 +49,34 @@ fn a_written_frame_reads_back() {
     }
 }
 
+/// An acceptable frame spoilt, or random bytes; with the link that they come by.
+fn spoilt(rng: &mut Rng, n: u8, id: u8) -> (u8, Vec<u8>) {
+    let mut bytes = write(&acceptable(rng, n, id));
+    let mut link = bytes[1];
+    match rng.below(4) {
+        // damaged in up to three bytes
+        0 | 1 => {
+            for _ in 0..1 + rng.below(3) {
+                let at = rng.below(bytes.len() as u64) as usize;
+                bytes[at] =
+                    if rng.one_in(2) { rng.next() as u8 } else { bytes[at] ^ (1 << rng.below(8)) };
+            }
+        }
+        // a wrong length
+        2 => bytes.resize(rng.below(60) as usize, rng.next() as u8),
+        // random bytes
+        _ => {
+            bytes.resize(rng.below(60) as usize, 0);
+            rng.fill(&mut bytes);
+            if let Some(kind) = bytes.first_mut() {
+                *kind %= 10;
+            }
+            link = bytes.get(1).copied().unwrap_or(0);
+        }
+    }
+    (link, bytes)
+}
+
 #[test]
 fn accepted_bytes_are_the_only_spelling() {
     let mut rng = Rng(4);
@@ -56,32 +84,7 @@ fn accepted_bytes_are_the_only_spelling() {
     for _ in 0..200_000 {
         let n = 4 + rng.below(61) as u8;
         let id = rng.below(u64::from(n)) as u8;
-        let mut bytes = write(&acceptable(&mut rng, n, id));
-        let mut link = bytes[1];
-        match rng.below(4) {
-            // damaged in up to three bytes
-            0 | 1 => {
-                for _ in 0..1 + rng.below(3) {
-                    let at = rng.below(bytes.len() as u64) as usize;
-                    bytes[at] = if rng.one_in(2) {
-                        rng.next() as u8
-                    } else {
-                        bytes[at] ^ (1 << rng.below(8))
-                    };
-                }
-            }
-            // a wrong length
-            2 => bytes.resize(rng.below(60) as usize, rng.next() as u8),
-            // random bytes
-            _ => {
-                bytes.resize(rng.below(60) as usize, 0);
-                rng.fill(&mut bytes);
-                if let Some(kind) = bytes.first_mut() {
-                    *kind %= 10;
-                }
-                link = bytes.get(1).copied().unwrap_or(0);
-            }
-        }
+        let (link, bytes) = spoilt(&mut rng, n, id);
         match read(&bytes, link, n, id) {
             Ok(frame) => {
                 accepted += 1;

@@ -4,7 +4,7 @@ use common::*;
 use reference::entry::Entry;
 use reference::frame::{leader, Frame};
 use reference::rules::{Clause, Reports, Rule};
-use reference::{literal, rules, vault};
+use reference::vault;
 
 const A: u64 = 11;
 const B: u64 = 22;
@@ -13,8 +13,7 @@ const D: u64 = 44;
 
 /// n = 4, f = 1, reports are proofs: both readings.
 fn safe(v: u32, proofs: &[Option<Reports>; 4], plan: u64) -> Option<Clause> {
-    let clause = rules::safe(Rule::Three, 4, 1, v, proofs, plan);
-    assert_eq!(clause.is_some(), literal::safe(Rule::Three, 4, 1, v, proofs, plan));
+    let clause = safe_by_both(Rule::Three, &of_four(v, proofs), plan);
     assert_eq!(clause, by_vault(v, proofs, plan));
     clause
 }
@@ -92,8 +91,7 @@ const LOCK: Report = Report { view: 1, plan: C };
 fn m7_c_by_the_two_set_clause() {
     assert_eq!(safe(3, &M7_TO_M10, C), Some(Clause::TwoSets { at: 1 }));
     // Rule 1 has no such clause
-    assert_eq!(rules::safe(Rule::One, 4, 1, 3, &M7_TO_M10, C), None);
-    assert!(!literal::safe(Rule::One, 4, 1, 3, &M7_TO_M10, C));
+    assert_eq!(safe_by_both(Rule::One, &of_four(3, &M7_TO_M10), C), None);
 }
 
 #[test]

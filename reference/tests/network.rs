@@ -3,7 +3,7 @@
 
 use reference::frame::Report;
 use reference::literal;
-use reference::rules::{Clause, Reports, Rule};
+use reference::rules::{Clause, Question, Reports, Rule};
 use reference::sim::{self, Accepted, Mode, Setup, Style, Tally, Wrong, LOCKED, MADE_UP, SWITCHED};
 use reference::vault::Fault;
 
@@ -28,6 +28,15 @@ fn hold(n: u8, f: u8, liars: u8, mode: Mode, style: Style, count: u64) -> Tally 
     tally
 }
 
+/// So many seeds of each style, with f liars.
+fn hold_styles(n: u8, f: u8, styles: &[(Style, u64)]) -> Tally {
+    let mut tally = Tally::default();
+    for &(style, count) in styles {
+        tally.add(&hold(n, f, f, Mode::Contents, style, count));
+    }
+    tally
+}
+
 /// All that must have happened for the check to mean something.
 fn assert_eventful(tally: &Tally) {
     println!("{tally:?}");
@@ -46,39 +55,30 @@ fn assert_eventful(tally: &Tally) {
 
 #[test]
 fn agreement_holds_with_four_vaults_and_a_liar() {
-    let mut tally = Tally::default();
-    for (style, count) in [
+    let styles = [
         (Style::Rounds, 2500),
         (Style::Feints, 700),
         (Style::Partitions, 700),
         (Style::Chaos, 700),
         (Style::Camps, 700),
-    ] {
-        tally.add(&hold(4, 1, 1, Mode::Contents, style, count));
-    }
-    assert_eventful(&tally);
+    ];
+    assert_eventful(&hold_styles(4, 1, &styles));
 }
 
 #[test]
 fn agreement_holds_with_seven_vaults_and_two_liars() {
-    let mut tally = Tally::default();
-    for (style, count) in
-        [(Style::Rounds, 500), (Style::Feints, 300), (Style::Partitions, 150), (Style::Chaos, 150)]
-    {
-        tally.add(&hold(7, 2, 2, Mode::Contents, style, count));
-    }
+    let styles =
+        [(Style::Rounds, 500), (Style::Feints, 300), (Style::Partitions, 150), (Style::Chaos, 150)];
+    let mut tally = hold_styles(7, 2, &styles);
     tally.add(&hold(7, 2, 1, Mode::Contents, Style::Rounds, 150));
     assert_eventful(&tally);
 }
 
 #[test]
 fn agreement_holds_with_ten_vaults_and_three_liars() {
-    let mut tally = Tally::default();
-    for (style, count) in
-        [(Style::Rounds, 100), (Style::Feints, 60), (Style::Partitions, 40), (Style::Chaos, 40)]
-    {
-        tally.add(&hold(10, 3, 3, Mode::Contents, style, count));
-    }
+    let styles =
+        [(Style::Rounds, 100), (Style::Feints, 60), (Style::Partitions, 40), (Style::Chaos, 40)];
+    let tally = hold_styles(10, 3, &styles);
     assert!(tally.late_decisions > 0 && tally.one_set > 0 && tally.two_sets > 0, "{tally:?}");
 }
 
@@ -87,8 +87,7 @@ fn agreement_holds_with_ten_vaults_and_three_liars() {
 fn agreement_holds_with_more_vaults_than_needed() {
     let mut tally = Tally::default();
     for (n, f) in [(5, 1), (6, 1), (9, 2)] {
-        tally.add(&hold(n, f, f, Mode::Contents, Style::Rounds, 100));
-        tally.add(&hold(n, f, f, Mode::Contents, Style::Feints, 60));
+        tally.add(&hold_styles(n, f, &[(Style::Rounds, 100), (Style::Feints, 60)]));
     }
     assert!(tally.late_decisions > 0 && tally.one_set > 0, "{tally:?}");
 }
@@ -168,18 +167,10 @@ fn assert_found(fault: Fault, style: Style, more: u8) {
 }
 
 #[test]
-fn vaults_that_ignore_locks_disagree() {
-    assert_found(Fault::IgnoreLocks, Style::Rounds, 0);
-}
-
-#[test]
-fn vaults_with_small_quorums_disagree() {
-    assert_found(Fault::SmallQuorum, Style::Rounds, 0);
-}
-
-#[test]
-fn vaults_that_vote_for_every_proposal_disagree() {
-    assert_found(Fault::VoteEveryProposal, Style::Rounds, 0);
+fn vaults_that_break_a_rule_disagree() {
+    for fault in [Fault::IgnoreLocks, Fault::SmallQuorum, Fault::VoteEveryProposal] {
+        assert_found(fault, Style::Rounds, 0);
+    }
 }
 
 #[test]
@@ -242,9 +233,10 @@ fn two_set_run_is_accepted_by_the_two_set_clause_only() {
 #[test]
 fn two_set_run_has_no_other_clause() {
     let run = sim::two_set_run(Mode::Contents, Fault::None);
-    assert!(literal::safe(Rule::Three, 4, 1, run.view, &run.reports, LOCKED));
+    let question = Question { n: 4, f: 1, v: run.view, reports: &run.reports };
+    assert!(literal::safe(Rule::Three, &question, LOCKED));
     // Rule 1 reads reports in the same way, and lacks that clause alone.
-    assert!(!literal::safe(Rule::One, 4, 1, run.view, &run.reports, LOCKED));
+    assert!(!literal::safe(Rule::One, &question, LOCKED));
     assert!(!lock_free_quorum(&run.reports));
     assert!((0..run.view).all(|at| !one_set(&run.reports, LOCKED, at)));
     assert!(claimers(&run.reports, MADE_UP, 1) == 2 && claimers(&run.reports, SWITCHED, 5) == 2);

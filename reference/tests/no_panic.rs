@@ -3,7 +3,7 @@
 mod common;
 use common::*;
 use reference::frame::write;
-use reference::record::{classify, Lent, RECORD_LEN};
+use reference::record::{classify, Lent, Settings, RECORD_LEN};
 use reference::rng::Rng;
 use reference::{calls, entry};
 
@@ -58,53 +58,63 @@ fn any_frame(rng: &mut Rng, rec: &[u8]) -> (u8, Vec<u8>) {
     (link, bytes)
 }
 
+/// A record that calls left, some at the end of the view range.
+fn left_by_calls(rng: &mut Rng) -> Vec<u8> {
+    let calls = rng.below(50);
+    let mut rec = wandered(rng, calls).rec;
+    if rng.one_in(4) {
+        let view = u32::MAX - rng.below(3) as u32;
+        rec[12..16].copy_from_slice(&view.to_be_bytes());
+    }
+    rec
+}
+
+/// Settings of any kind, often good ones.
+fn any_settings(rng: &mut Rng) -> [u8; 4] {
+    let mut any = [0; 4];
+    rng.fill(&mut any);
+    if rng.one_in(2) {
+        let Settings { n, f, id, class } = likely_settings(rng);
+        any = [n, f, id, class];
+        if rng.one_in(3) {
+            any[rng.below(4) as usize] = rng.next() as u8;
+        }
+    }
+    any
+}
+
+/// A call of any kind, mostly of a frame.
+fn any_call(rng: &mut Rng, rec: &mut [u8], out: &mut [u8]) -> Result<usize, u8> {
+    match rng.below(6) {
+        0 => {
+            let [n, f, id, class] = any_settings(rng);
+            calls::start(rec, n, f, id, class, rng.next(), out)
+        }
+        1 => {
+            let view = match classify(rec) {
+                Lent::Sound(record) if rng.below(4) > 0 => record.view,
+                _ => rng.next() as u32,
+            };
+            calls::timer(rec, view, out)
+        }
+        _ => {
+            let (link, bytes) = any_frame(rng, rec);
+            calls::frame(rec, link, &bytes, out)
+        }
+    }
+}
+
 #[test]
 fn no_call_panics() {
     let mut rng = Rng(21);
-    let sound: Vec<Vec<u8>> = (0..200)
-        .map(|_| {
-            let calls = rng.below(50);
-            let mut rec = wandered(&mut rng, calls).rec;
-            // some at the end of the view range
-            if rng.one_in(4) {
-                let view = u32::MAX - rng.below(3) as u32;
-                rec[12..16].copy_from_slice(&view.to_be_bytes());
-            }
-            rec
-        })
-        .collect();
+    let sound: Vec<Vec<u8>> = (0..200).map(|_| left_by_calls(&mut rng)).collect();
     let mut results = [0u32; 21];
     for _ in 0..60_000 {
         let mut rec = any_record(&mut rng, &sound);
         let mut out = vec![0; if rng.one_in(2) { 256 } else { rng.below(401) as usize }];
         rng.fill(&mut out);
         let before = (rec.clone(), out.clone());
-        let result = match rng.below(6) {
-            0 => {
-                let mut s = [0; 4];
-                rng.fill(&mut s);
-                if rng.one_in(2) {
-                    let settings = likely_settings(&mut rng);
-                    s = [settings.n, settings.f, settings.id, settings.class];
-                    if rng.one_in(3) {
-                        s[rng.below(4) as usize] = rng.next() as u8;
-                    }
-                }
-                calls::start(&mut rec, s[0], s[1], s[2], s[3], rng.next(), &mut out)
-            }
-            1 => {
-                let view = match classify(&rec) {
-                    Lent::Sound(record) if rng.below(4) > 0 => record.view,
-                    _ => rng.next() as u32,
-                };
-                calls::timer(&mut rec, view, &mut out)
-            }
-            _ => {
-                let (link, bytes) = any_frame(&mut rng, &rec);
-                calls::frame(&mut rec, link, &bytes, &mut out)
-            }
-        };
-        match result {
+        match any_call(&mut rng, &mut rec, &mut out) {
             Ok(count) => {
                 results[0] += 1;
                 assert!(entry::parse_entries(&out[..count]).is_some());

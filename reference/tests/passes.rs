@@ -12,6 +12,17 @@ fn timer(view: u32) -> Entry {
     Entry::Timer { view, millis: 900 }
 }
 
+/// A vault without votes to report enters a view that another leads.
+fn entered(id: u8, view: u32, leader: u8) -> [Entry; 3] {
+    [timer(view), Entry::All(proof(id, view, NONE)), Entry::To(leader, suggest(id, view, NONE))]
+}
+
+/// It asks for the view, and enters it in the same pass.
+fn asked_and_entered(id: u8, view: u32, leader: u8) -> [Entry; 4] {
+    let [timer, proof, suggest] = entered(id, view, leader);
+    [Entry::All(view_change(id, view)), timer, proof, suggest]
+}
+
 #[test]
 fn start_enters_view_zero() {
     // a vault that does not lead view 0: the timer entry alone
@@ -105,10 +116,7 @@ fn view_changes_are_echoed_and_entered() {
     // the third is f + 1: the echo counts as the fourth
     assert_eq!(vault.take(&view_change(2, 3)), [Entry::All(view_change(6, 3))]);
     assert_eq!(vault.record().view, 0);
-    assert_eq!(
-        vault.take(&view_change(4, 3)),
-        [timer(3), Entry::All(proof(6, 3, NONE)), Entry::To(3, suggest(6, 3, NONE))]
-    );
+    assert_eq!(vault.take(&view_change(4, 3)), entered(6, 3, 3));
     assert_eq!(vault.record().view, 3);
     // the vault's suggest is not in its own row, its proof is
     assert_eq!(vault.record().rows[6][6], None);
@@ -123,15 +131,7 @@ fn echo_and_entry_in_one_pass() {
     assert_eq!(vault.take(&view_change(0, 5)), []);
     let done = vault::frame(&vault.record(), 1, &write(&view_change(1, 5))).expect("taken");
     assert_eq!(done.steps, [Step::A, Step::B]);
-    assert_eq!(
-        vault.take(&view_change(1, 5)),
-        [
-            Entry::All(view_change(3, 5)),
-            timer(5),
-            Entry::All(proof(3, 5, NONE)),
-            Entry::To(1, suggest(3, 5, NONE))
-        ]
-    );
+    assert_eq!(vault.take(&view_change(1, 5)), asked_and_entered(3, 5, 1));
 }
 
 /// A vault that has sent view-change for w or higher does not echo w.
@@ -190,11 +190,7 @@ fn entry_below_the_own_view_change() {
     let mut frames: Vec<_> = (0..4).map(|sender| view_change(sender, 4)).collect();
     frames.push(view_change(6, 9));
     let mut vault = Vault::of(&record_with(7, 2, 6, 9, 0, &frames));
-    let entries = vault.take(&view_change(5, 4));
-    assert_eq!(
-        entries,
-        [timer(4), Entry::All(proof(6, 4, NONE)), Entry::To(4, suggest(6, 4, NONE))]
-    );
+    assert_eq!(vault.take(&view_change(5, 4)), entered(6, 4, 4));
     assert_eq!(
         vault.timer(4),
         Ok(vec![Entry::All(view_change(6, 9))]),
@@ -232,16 +228,7 @@ fn a_timer_may_enter_the_next_view() {
     // four others are for view 1 in a seven-vault record where no echo went out
     let frames: Vec<_> = (0..4).map(|sender| view_change(sender, 1)).collect();
     let mut vault = Vault::of(&record_with(7, 2, 6, 9, 0, &frames));
-    let entries = vault.timer(0).expect("accepted");
-    assert_eq!(
-        entries,
-        [
-            Entry::All(view_change(6, 1)),
-            timer(1),
-            Entry::All(proof(6, 1, NONE)),
-            Entry::To(1, suggest(6, 1, NONE))
-        ]
-    );
+    assert_eq!(vault.timer(0).expect("accepted"), asked_and_entered(6, 1, 1));
 }
 
 /// "Its own broadcasts go into its own row; a suggest goes there only where the vault leads that

@@ -4,7 +4,7 @@ mod common;
 use common::*;
 use reference::calls;
 use reference::frame::write;
-use reference::record::{encode, RECORD_LEN};
+use reference::record::{encode, Record, RECORD_LEN};
 use reference::rng::Rng;
 
 /// Sound records to be refused on, and bytes that are unsound.
@@ -186,56 +186,57 @@ fn refusal_13_view_zero() {
     }
 }
 
+/// A vault that leads view 9 takes bytes from vault 2.
+fn reported(bytes: &[u8]) -> Option<u8> {
+    Vault::started(4, 1, 1, 7).bytes(2, bytes).err()
+}
+
 #[test]
 fn refusal_14_reports() {
-    // vault 1 leads view 9 of 4 vaults
-    let (n, id, sender, view) = (4, 1, 2, 9u32);
-    let fresh = Vault::started(n, 1, id, 7);
+    let good = [
+        NONE,
+        [rep(8, 5), None, None],
+        [None, None, rep(8, 5)],
+        [rep(8, 5), rep(7, 6), None],
+        [rep(8, 0), rep(0, 6), rep(0, 0)],
+        // lock and votes are not compared
+        [rep(3, 5), rep(2, 6), rep(8, 7)],
+    ];
+    let bad = [
+        // view not below the frame's
+        [rep(9, 5), None, None],
+        [rep(u32::MAX, 5), None, None],
+        [None, None, rep(9, 5)],
+        [rep(9, 5), rep(8, 6), None],
+        // previous without highest
+        [None, rep(3, 5), None],
+        [None, rep(3, 5), rep(4, 5)],
+        // previous not below highest
+        [rep(5, 5), rep(5, 6), None],
+        [rep(5, 5), rep(6, 6), None],
+        // previous for highest's plan
+        [rep(5, 5), rep(4, 5), None],
+    ];
     for write_frame in [suggest, proof] {
-        let result = |reports| {
-            Vault { rec: fresh.rec.clone() }.frame(&write_frame(sender, view, reports)).err()
-        };
-        let good = [
-            NONE,
-            [rep(8, 5), None, None],
-            [None, None, rep(8, 5)],
-            [rep(8, 5), rep(7, 6), None],
-            [rep(8, 0), rep(0, 6), rep(0, 0)],
-            // lock and votes are not compared
-            [rep(3, 5), rep(2, 6), rep(8, 7)],
-        ];
         for reports in good {
-            assert_eq!(result(reports), None);
+            assert_eq!(reported(&write(&write_frame(2, 9, reports))), None);
         }
-        let bad = [
-            // view not below the frame's
-            [rep(9, 5), None, None],
-            [rep(u32::MAX, 5), None, None],
-            [None, None, rep(9, 5)],
-            [rep(9, 5), rep(8, 6), None],
-            // previous without highest
-            [None, rep(3, 5), None],
-            [None, rep(3, 5), rep(4, 5)],
-            // previous not below highest
-            [rep(5, 5), rep(5, 6), None],
-            [rep(5, 5), rep(6, 6), None],
-            // previous for highest's plan
-            [rep(5, 5), rep(4, 5), None],
-        ];
         for reports in bad {
-            assert_eq!(result(reports), Some(14));
+            assert_eq!(reported(&write(&write_frame(2, 9, reports))), Some(14));
         }
-        // marks, and nonzero bytes of absent reports
+    }
+}
+
+#[test]
+fn refusal_14_marks_and_bytes_of_absent_reports() {
+    for write_frame in [suggest, proof] {
         for report in 0..3 {
-            for mark in 2..=255 {
-                let mut bytes = write(&write_frame(sender, view, NONE));
-                bytes[6 + 13 * report] = mark;
-                assert_eq!(Vault { rec: fresh.rec.clone() }.bytes(sender, &bytes), Err(14));
-            }
-            for place in 1..13 {
-                let mut bytes = write(&write_frame(sender, view, NONE));
-                bytes[6 + 13 * report + place] = 1;
-                assert_eq!(Vault { rec: fresh.rec.clone() }.bytes(sender, &bytes), Err(14));
+            let marks = (2..=255).map(|mark| (0, mark));
+            let nonzero = (1..13).map(|place| (place, 1));
+            for (place, byte) in marks.chain(nonzero) {
+                let mut bytes = write(&write_frame(2, 9, NONE));
+                bytes[6 + 13 * report + place] = byte;
+                assert_eq!(reported(&bytes), Some(14));
             }
         }
     }
@@ -358,62 +359,70 @@ fn order_of_start() {
     }
 }
 
+/// The bytes of contents, the same made blank, and made unsound; with the refusal of each.
+fn lent(record: &Record) -> [(Vec<u8>, Option<u8>); 3] {
+    let sound = encode(record);
+    let (mut blank, mut unsound) = (sound.clone(), sound.clone());
+    blank[0] = 0;
+    unsound[2] = 4;
+    [(sound, None), (blank, Some(2)), (unsound, Some(3))]
+}
+
+/// A frame call with any of the faults 1 and 9 to 17, at vault 1 of 4. It is in view 6, and keeps a
+/// suggest of vault 2 for view 9, which it leads. Bit i stands for refusal i; bit 0 tells two wrong
+/// links apart, and two wrong views.
+#[derive(Clone, Copy)]
+struct Faulty(u32);
+
+impl Faulty {
+    fn every() -> impl Iterator<Item = Faulty> {
+        (0..1 << 11).map(|bits| Faulty(bits & 3 | bits >> 2 << 9))
+    }
+
+    fn has(self, refusal: u8) -> bool {
+        self.0 & (1 << refusal) != 0
+    }
+
+    fn link(self) -> u8 {
+        match (self.has(11), self.has(0)) {
+            (false, _) => 2,
+            (true, false) => 1,
+            (true, true) => 4,
+        }
+    }
+
+    fn view(self) -> u32 {
+        let not_led = if self.has(0) { 11 } else { 4 };
+        let views = [(13, 0), (15, not_led), (16, 5), (17, 9)];
+        views.into_iter().find(|&(refusal, _)| self.has(refusal)).map_or(13, |(_, view)| view)
+    }
+
+    fn bytes(self) -> Vec<u8> {
+        let mut bytes = write(&suggest(if self.has(12) { 3 } else { 2 }, self.view(), NONE));
+        if self.has(14) {
+            bytes[6] = 2;
+        }
+        if self.has(10) {
+            bytes.push(0);
+        }
+        if self.has(9) {
+            bytes[0] = 9;
+        }
+        bytes
+    }
+}
+
 #[test]
 fn order_of_frame() {
-    // vault 1 of 4 is in view 6 and keeps a suggest of vault 2 for view 9, which it leads
-    let record = record_with(4, 1, 1, 7, 6, &[suggest(2, 9, NONE)]);
-    let sound = encode(&record);
-    let mut unsound = sound.clone();
-    unsound[1] = 2;
-    for bits in 0..1 << 11 {
-        let on = |bit: u32| bits & (1 << bit) != 0;
-        let (short, kind, length, link, sender) = (on(0), on(1), on(2), on(3), on(4));
-        let (zero, report, misplaced, old, kept) = (on(5), on(6), on(7), on(8), on(9));
-        // 2 and 3 exclude each other
-        for (blank, bad) in [(false, false), (true, false), (false, true)] {
-            let mut rec = if bad { unsound.clone() } else { sound.clone() };
-            if blank {
-                rec[0] = 0;
-            }
-            let view = match (zero, misplaced, old, kept) {
-                (true, ..) => 0,
-                (_, true, ..) if on(10) => 11,
-                (_, true, ..) => 4,
-                (_, _, true, _) => 5,
-                (_, _, _, true) => 9,
-                _ => 13,
-            };
-            let mut bytes = write(&suggest(if sender { 3 } else { 2 }, view, NONE));
-            if report {
-                bytes[6] = 2;
-            }
-            if length {
-                bytes.push(0);
-            }
-            if kind {
-                bytes[0] = 9;
-            }
-            let link = match (link, on(10)) {
-                (false, _) => 2,
-                (true, false) => 1,
-                (true, true) => 4,
-            };
-            let faults = [
-                (1, short),
-                (2, blank),
-                (3, bad),
-                (9, kind),
-                (10, length),
-                (11, link != 2),
-                (12, sender),
-                (13, zero),
-                (14, report),
-                (15, misplaced),
-                (16, old),
-                (17, kept),
-            ];
-            let out_len = if short { 255 } else { 256 };
-            let number = refused(&rec, out_len, |r, o| calls::frame(r, link, &bytes, o));
+    let lent = lent(&record_with(4, 1, 1, 7, 6, &[suggest(2, 9, NONE)]));
+    for faulty in Faulty::every() {
+        let (link, bytes) = (faulty.link(), faulty.bytes());
+        let out_len = if faulty.has(1) { 255 } else { 256 };
+        for (rec, refusal) in &lent {
+            let mut faults =
+                vec![(1, faulty.has(1)), (2, *refusal == Some(2)), (3, *refusal == Some(3))];
+            faults.extend((9..=17).map(|number| (number, faulty.has(number))));
+            let number = refused(rec, out_len, |r, o| calls::frame(r, link, &bytes, o));
             assert_eq!(number, first(&faults), "{faults:?}");
         }
     }
@@ -424,14 +433,8 @@ fn order_of_timer() {
     for bits in 0..1 << 4 {
         let on = |bit: u32| bits & (1 << bit) != 0;
         let record = record_with(4, 1, 1, 7, if on(3) { u32::MAX } else { 6 }, &[]);
-        for (blank, bad) in [(false, false), (true, false), (false, true)] {
-            let mut rec = encode(&record);
-            if blank {
-                rec[0] = 0;
-            }
-            if bad {
-                rec[2] = 4;
-            }
+        for (rec, refusal) in lent(&record) {
+            let (blank, bad) = (refusal == Some(2), refusal == Some(3));
             let view = if on(2) { 17 } else { record.view };
             let faults = [(1, on(0)), (2, blank), (3, bad), (18, on(2)), (19, on(3))];
             let out_len = if on(0) { 0 } else { 256 };
@@ -477,7 +480,7 @@ fn frames_against_the_table_as_a_list() {
 }
 
 /// The rows 9 to 17 of the table, written down once more over bytes alone.
-fn table_9_to_17(record: &reference::record::Record, link: u8, bytes: &[u8]) -> Option<u8> {
+fn table_9_to_17(record: &Record, link: u8, bytes: &[u8]) -> Option<u8> {
     let (n, id) = (record.settings.n, record.settings.id);
     let lengths = [0, 14, 14, 14, 14, 14, 6, 45, 45];
     let kind = usize::from(*bytes.first().unwrap_or(&0));

@@ -93,9 +93,14 @@ fn a_seed_gives_one_script() {
 
 #[test]
 fn line_program_equals_the_calls_by_contents() {
-    for seed in SEED..SEED + count(600) {
+    assert_alike(600, by_contents);
+}
+
+/// The line program prints what another program does, on so many random scripts.
+fn assert_alike(scripts: u64, other: fn(&[u8]) -> Vec<u8>) {
+    for seed in SEED..SEED + count(scripts) {
         let input = script(seed);
-        let (one, other) = (line_program(&input), by_contents(&input));
+        let (one, other) = (line_program(&input), other(&input));
         assert!(one == other, "script {seed}: {}", first_difference(&one, &other));
     }
 }
@@ -185,11 +190,7 @@ fn contents_call(record: &mut Option<Record>, line: &[u8]) -> Result<Vec<Vec<u8>
 
 #[test]
 fn line_program_equals_the_second_vault() {
-    for seed in SEED..SEED + count(1200) {
-        let input = script(seed);
-        let (one, other) = (line_program(&input), by_second(&input));
-        assert!(one == other, "script {seed}: {}", first_difference(&one, &other));
-    }
+    assert_alike(1200, by_second);
 }
 
 /// The example of document 01.

@@ -3,14 +3,11 @@
 mod common;
 use common::*;
 use reference::entry::Entry;
-use reference::rules::{Clause, Rule};
-use reference::{literal, rules};
+use reference::rules::{Clause, Reports, Rule};
 
 /// Both readings of Rule 1 and Rule 3.
-fn safe(rule: Rule, v: u32, reports: &[Option<rules::Reports>; 4], plan: u64) -> Option<Clause> {
-    let clause = rules::safe(rule, 4, 1, v, reports, plan);
-    assert_eq!(clause.is_some(), literal::safe(rule, 4, 1, v, reports, plan));
-    clause
+fn safe(rule: Rule, v: u32, reports: &[Option<Reports>; 4], plan: u64) -> Option<Clause> {
+    safe_by_both(rule, &of_four(v, reports), plan)
 }
 
 /// "Algorithm 4 sets its two counters once per view, so one plan's supporters add to the next
@@ -30,8 +27,7 @@ fn counters_are_set_for_each_plan() {
         }
     }
     // "Its last line also hands out a plan when none was found."
-    assert_eq!(rules::choose(4, 1, 3, &reports, 5), None);
-    assert_eq!(literal::choose(4, 1, 3, &reports, 5), None);
+    assert_eq!(chosen_by_both(&of_four(3, &reports), 5), None);
 }
 
 /// The same by a leader: it waits while no plan is safe, and proposes when one is.

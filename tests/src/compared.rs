@@ -91,7 +91,7 @@ impl Compared {
         let answer = match call {
             Call::Frame { link, bytes } => {
                 let frame = self.bytes.lend(bytes, edge);
-                let answer = Rattle::frame(lent, *link, frame, lent_out);
+                let answer = (Rattle::FRAME)(lent, *link, frame, lent_out);
                 assert!(frame == bytes, "difference: the frame lent was changed");
                 answer
             }

@@ -23,6 +23,7 @@ pub mod vaults;
 use records::Class;
 use reference::{entry, frame, rng, rules, vault};
 use rows::Table;
+use rules::Rule;
 
 /// The reference's simulator, its own source compiled over other calls and another layout: its vaults by bytes are the Rattle ones.
 #[allow(dead_code)]
@@ -60,9 +61,9 @@ pub fn safe_plan_raw(table: &[u64], n: u8, f: u8, v: u32, p: u64, three: u8) -> 
     unsafe { sys::safe_plan(table.as_ptr(), table.len(), n, f, v, p, three) }
 }
 
-/// Whether a plan is safe in view v, by Rule 3 or by Rule 1.
-pub fn safe_plan(table: &Table, n: usize, f: usize, v: u32, plan: u64, three: bool) -> bool {
-    match safe_plan_raw(table, n as u8, f as u8, v, plan, u8::from(three)) {
+/// Whether a plan is safe in view v.
+pub fn safe_plan(table: &Table, n: usize, f: usize, v: u32, plan: u64, rule: Rule) -> bool {
+    match safe_plan_raw(table, n as u8, f as u8, v, plan, u8::from(rule == Rule::Three)) {
         0 => false,
         1 => true,
         answer => panic!("refused: {answer}"),

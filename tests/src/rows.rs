@@ -42,10 +42,8 @@ pub fn random(rng: &mut Rng, n: usize, v: u32, plans: u64) -> Reports {
             }
             let vote = |rng: &mut Rng, below: u32| Report { view: rng.below(u64::from(below)) as u32, plan: rng.below(plans) };
             let highest = (rng.below(5) > 0).then(|| vote(rng, v));
-            let previous = highest
-                .filter(|h| h.view > 0 && rng.below(2) == 0)
-                .map(|h| vote(rng, h.view))
-                .filter(|p| p.plan != highest.unwrap().plan);
+            let previous = highest.filter(|h| h.view > 0 && rng.below(2) == 0).map(|h| vote(rng, h.view));
+            let previous = previous.filter(|p| highest.is_some_and(|h| p.plan != h.plan));
             let lock = (rng.below(4) < locks).then(|| vote(rng, v));
             Some([highest, previous, lock])
         })

@@ -4,7 +4,7 @@ use comparison::{choose_plan, safe_plan};
 use reference::frame::Report;
 use reference::literal;
 use reference::rng::Rng;
-use reference::rules::{self, Clause, Rule};
+use reference::rules::{self, Clause, Question, Rule};
 
 const SETS: u64 = 200_000;
 const LARGE_SETS: u64 = 4_000;
@@ -20,10 +20,6 @@ fn index(clause: Option<Clause>) -> usize {
     }
 }
 
-fn rule_of(three: bool) -> Rule {
-    if three { Rule::Three } else { Rule::One }
-}
-
 #[test]
 fn search_equals_trying_every_set() {
     let mut rng = Rng(4);
@@ -37,14 +33,15 @@ fn search_equals_trying_every_set() {
         let reports = if v == 0 { vec![None; n] } else { random(&mut rng, n, v, plans) };
         let flat = table_of(&mut rng, v, &reports);
         let plan = rng.below(plans + 1);
-        let three = rng.below(2) == 0;
-        let expected = literal::safe(rule_of(three), n, f, v, &reports, plan);
-        assert_eq!(safe_plan(&flat, n, f, v, plan, three), expected, "n {n} f {f} v {v} plan {plan} three {three} {reports:?}");
-        decided[usize::from(three)][index(rules::safe(rule_of(three), n, f, v, &reports, plan))] += 1;
+        let rule = rng.pick(&[Rule::Three, Rule::One]);
+        let question = Question { n, f, v, reports: &reports };
+        let expected = literal::safe(rule, &question, plan);
+        assert_eq!(safe_plan(&flat, n, f, v, plan, rule), expected, "{rule:?} plan {plan} {question:?}");
+        decided[usize::from(rule == Rule::Three)][index(rules::safe(rule, &question, plan))] += 1;
         if rng.below(4) == 0 {
             let start = rng.below(plans + 1);
-            let expected = literal::choose(n, f, v, &reports, start);
-            assert_eq!(choose_plan(&flat, n, f, v, start), expected, "n {n} f {f} v {v} start {start} {reports:?}");
+            let expected = literal::choose(&question, start);
+            assert_eq!(choose_plan(&flat, n, f, v, start), expected, "start {start} {question:?}");
             chosen[expected.map_or(0, |p| if p == start { 1 } else { 2 })] += 1;
         }
     }
@@ -70,12 +67,13 @@ fn search_equals_counting_up_to_64_vaults() {
         let reports = random(&mut rng, n, v, plans);
         let flat = table_of(&mut rng, v, &reports);
         let plan = rng.below(plans + 1);
-        for three in [false, true] {
-            let clause = rules::safe(rule_of(three), n, f, v, &reports, plan);
-            assert_eq!(safe_plan(&flat, n, f, v, plan, three), clause.is_some(), "n {n} f {f} v {v} plan {plan} three {three} {reports:?}");
+        let question = Question { n, f, v, reports: &reports };
+        for rule in [Rule::One, Rule::Three] {
+            let clause = rules::safe(rule, &question, plan);
+            assert_eq!(safe_plan(&flat, n, f, v, plan, rule), clause.is_some(), "{rule:?} plan {plan} {question:?}");
             decided[index(clause)] += 1;
         }
-        assert_eq!(choose_plan(&flat, n, f, v, plan), rules::choose(n, f, v, &reports, plan));
+        assert_eq!(choose_plan(&flat, n, f, v, plan), rules::choose(&question, plan));
     }
     println!("by clause {decided:?}");
 }
@@ -96,7 +94,7 @@ fn marked_edges() {
         Some([vote(2, B), None, vote(1, C)]),
         Some([vote(2, B), None, None]),
     ];
-    let safe = |reports: &Vec<_>, v, plan| safe_plan(&table_of(&mut Rng(1), v, reports), 4, 1, v, plan, true);
+    let safe = |reports: &Vec<_>, v, plan| safe_plan(&table_of(&mut Rng(1), v, reports), 4, 1, v, plan, Rule::Three);
     assert!(safe(&vec![bare, bare, bare, None], 1, D));
     assert!(safe(&vec![locked, bare, bare, None], 1, A));
     assert!(!safe(&vec![locked, bare, bare, None], 1, B));
@@ -114,15 +112,12 @@ fn two_set_clause_alone_serves() {
     const B: u64 = 2;
     const C: u64 = 3;
     let vote = |view, plan| Some(Report { view, plan });
-    let reports = vec![
-        Some([vote(1, B), vote(0, A), vote(0, A)]),
-        None,
-        Some([vote(5, A), vote(1, B), None]),
-        Some([vote(5, A), None, None]),
-    ];
-    let flat = table_of(&mut Rng(1), 6, &reports);
-    assert!(safe_plan(&flat, 4, 1, 6, C, true));
-    assert!(!safe_plan(&flat, 4, 1, 6, C, false));
+    let locked = Some([vote(1, B), vote(0, A), vote(0, A)]);
+    let moved = Some([vote(5, A), vote(1, B), None]);
+    let late = Some([vote(5, A), None, None]);
+    let flat = table_of(&mut Rng(1), 6, &vec![locked, None, moved, late]);
+    assert!(safe_plan(&flat, 4, 1, 6, C, Rule::Three));
+    assert!(!safe_plan(&flat, 4, 1, 6, C, Rule::One));
 }
 
 /// Where lengths or sizes are out of range the answer is 2, and nothing is read or written.

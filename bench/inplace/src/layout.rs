@@ -75,15 +75,10 @@ impl Slot {
         u32::from_be_bytes(self.view)
     }
 
-    /// The view and the mark, wide enough to be added.
+    /// The view, wide enough to be added to.
     #[inline(always)]
     pub fn wide_view(&self) -> u64 {
         u64::from(self.view())
-    }
-
-    #[inline(always)]
-    pub fn marks(&self) -> u64 {
-        u64::from(self.mark)
     }
 
     #[inline(always)]

@@ -84,8 +84,9 @@ fn reports(rec: &Record, present: &Present, row: usize, n: usize) -> bool {
         [&rec.rows[first], &rec.rows[first + 1], &rec.rows[first + 2]];
     let wrong = |s: usize| {
         let (frame, high, previous) = (&frames[s], &highs[s], &previous_votes[s]);
-        let late = high.wide_view().max(locks[s].wide_view()) + frame.marks() > frame.wide_view();
-        let order = previous.wide_view() + previous.marks() > high.wide_view();
+        let reported = high.wide_view().max(locks[s].wide_view());
+        let late = reported + u64::from(frame.mark) > frame.wide_view();
+        let order = previous.wide_view() + u64::from(previous.mark) > high.wide_view();
         let same = (previous.mark != 0) & (previous.raw_plan() == high.raw_plan());
         u64::from(late | order | same) | frame.raw_plan()
     };

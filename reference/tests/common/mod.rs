@@ -9,7 +9,9 @@ use reference::frame::{
 };
 use reference::record::{classify, decode, encode, Lent, Record, Settings, RECORD_LEN};
 use reference::rng::Rng;
+use reference::rules::{Clause, Question, Reports, Rule};
 use reference::vault::{self, Done};
+use reference::{literal, rules};
 
 pub fn rep(view: u32, plan: u64) -> Option<Report> {
     Some(Report { view, plan })
@@ -37,6 +39,26 @@ pub fn proof(sender: u8, view: u32, reports: [Option<Report>; 3]) -> Frame {
 }
 
 pub const NONE: [Option<Report>; 3] = [None; 3];
+
+/// A question about four vaults of which one may lie.
+pub fn of_four(v: u32, reports: &[Option<Reports>; 4]) -> Question<'_> {
+    Question { n: 4, f: 1, v, reports }
+}
+
+/// Whether the plan is safe, by both readings of the rules; the clause by which counting found it.
+pub fn safe_by_both(rule: Rule, question: &Question, plan: u64) -> Option<Clause> {
+    let clause = rules::safe(rule, question, plan);
+    let literally = literal::safe(rule, question, plan);
+    assert_eq!(clause.is_some(), literally, "{rule:?} plan {plan} {question:?}");
+    clause
+}
+
+/// A leader's choice, by both readings of the rules.
+pub fn chosen_by_both(question: &Question, start: u64) -> Option<u64> {
+    let chosen = rules::choose(question, start);
+    assert_eq!(chosen, literal::choose(question, start), "start {start} {question:?}");
+    chosen
+}
 
 /// A vault over lent bytes. Every call is checked: a refusal leaves record and output byte for
 /// byte; an accepted call leaves a sound record and the output beyond the count.
@@ -173,6 +195,27 @@ pub fn valid_reports(rng: &mut Rng, v: u32, plans: u64) -> [Option<Report>; 3] {
     [highest, previous, lock]
 }
 
+/// Kinds, each as often as it is to come.
+const LIKELY_KINDS: [u8; 17] = [
+    PROPOSAL,
+    PROPOSAL,
+    VOTE_1,
+    VOTE_1,
+    VOTE_2,
+    VOTE_2,
+    VOTE_3,
+    VOTE_3,
+    VOTE_4,
+    VOTE_4,
+    VIEW_CHANGE,
+    VIEW_CHANGE,
+    VIEW_CHANGE,
+    SUGGEST,
+    SUGGEST,
+    PROOF,
+    PROOF,
+];
+
 /// A frame as another vault might send it to this one, mostly acceptable.
 pub fn likely_frame(rng: &mut Rng, record: &Record) -> Frame {
     let Settings { n, id, .. } = record.settings;
@@ -183,25 +226,7 @@ pub fn likely_frame(rng: &mut Rng, record: &Record) -> Frame {
         }
     };
     let mut view = record.view.saturating_add(rng.pick(&[0, 0, 0, 0, 0, 0, 1, 1, 2, 3]));
-    let kind = rng.pick(&[
-        PROPOSAL,
-        PROPOSAL,
-        VOTE_1,
-        VOTE_1,
-        VOTE_2,
-        VOTE_2,
-        VOTE_3,
-        VOTE_3,
-        VOTE_4,
-        VOTE_4,
-        VIEW_CHANGE,
-        VIEW_CHANGE,
-        VIEW_CHANGE,
-        SUGGEST,
-        SUGGEST,
-        PROOF,
-        PROOF,
-    ]);
+    let kind = rng.pick(&LIKELY_KINDS);
     let plan = rng.pick(&[5, 5, 5, 5, 6, 7]);
     match kind {
         PROPOSAL if rng.below(8) > 0 && frame::leader(view, n) != id => {
