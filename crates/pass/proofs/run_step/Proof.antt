@@ -6,7 +6,7 @@ use Prim.Native.Nat.{ℕ}
 use denote.Ref.{now}
 use Rattle.contents.specs.Contents.{contentsIn, Ready}
 use Rattle.acts.specs.Acts.{actAt}
-use Rattle.pass.specs.Passes.{stepAt}
+use Rattle.steps.specs.Order.{stepAt}
 use Rattle.pass.proofs.Runs.{tookFrom, roomWritten, ranStored}
 use borrow.Author.Needs.{needs}
 use Rattle.pass.proofs.run_step.Statement.{statement}
