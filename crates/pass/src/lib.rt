@@ -4,6 +4,7 @@ use acts::Act;
 use settings::Settings;
 use steps::Entries;
 use steps::Record;
+use steps::Wrote;
 ghost use Prim.Native.Nat.{_+_, _≤_, _<_};
 ghost use mathlib.Core.Path.{_≡_};
 ghost use mathlib.Core.Option.{some};
@@ -28,7 +29,8 @@ fn load(rec: &[u8]) -> Record
 {
     let mut bytes = [0; layout::SIZE];
     let count = bytes::copy(&rec[0..layout::SIZE], &mut bytes);
-    Record { bytes }
+    let wrote = Wrote { entries: Entries::Zero };
+    Record { bytes, wrote }
 }
 
 // One copy back.
@@ -70,9 +72,9 @@ fn run_step(rec: &mut [u8], k: u8, act: Act, out: &mut [u8], at: usize) -> usize
 {
     let r = load(rec);
     let s = r.step_at(k, act);
-    let entries = s.entries;
-    store(s.left, rec);
-    write_entries(out, at, entries)
+    let wrote = s.wrote;
+    store(s, rec);
+    write_entries(out, at, wrote.entries)
 }
 
 // The same; where there is nothing to do, no record is loaded.

@@ -16,8 +16,8 @@ use Rattle.rules.specs.Options.{isNone}
 use Rattle.quorum.specs.Sets.{isBlocking}
 use Rattle.settings.specs.declared.Settings.{Settings}
 use Rattle.settings.specs.Settings.{delayOf}
-use Rattle.frame.specs.declared.Report.{Report}
-use Rattle.frame.specs.declared.Body.the-variants.{Plan, Empty, Told}
+use Rattle.frame.specs.declared.Reports.{Reports}
+use Rattle.frame.specs.declared.Body.the-variants.{Plan, Empty}
 use Rattle.frame.specs.declared.Frame.{Frame}
 use Rattle.frame.specs.Format.{fits}
 use Rattle.frame.specs.Refusal.{leaderOf}
@@ -27,7 +27,7 @@ use Rattle.entry.specs.declared.Entry.the-variants.{ForAll, ForOne, Timer, Deci
 use Rattle.record.specs.Slots as slots
 use Rattle.record.specs.Slots.{rows, slotOf, withView}
 use Rattle.layout.specs.Layout.{decodeRecord, Holds}
-use Rattle.keeping.specs.Kept.{keepFrame}
+use Rattle.keeping.specs.Kept.{told, keepFrame}
 use Rattle.keeping.specs.Keeping.{ownBroadcast}
 use Rattle.rules.specs.Rules.{Vote}
 use Rattle.frame.specs.Refusal.{badPrevious}
@@ -47,12 +47,12 @@ use Rattle.contents.proofs.Parts.{decided, cleanDecide}
 use Rattle.contents.proofs.Acts.{contentsCast, cleanCast, contentsAsk, cleanAsk, tellsAt, enteredBy, contentsEnter, cleanEnter, contentsDecided}
 use Rattle.contents.proofs.Ready.{contentsHeld, readyAllowed, readyRow}
 use Rattle.acts.specs.declared.Act as acts
-use Rattle.acts.specs.declared.Act.the-variants.{Cast}
+use Rattle.acts.specs.declared.Act.the-variants.{Ask, Enter, Cast, Decide}
 use Rattle.acts.specs.Acts.{asAct, actAt}
 use Rattle.steps.specs.declared.Entries.{Entries}
 use Rattle.steps.specs.declared.Entries.the-variants.{Zero, One, Two, Three}
-use Rattle.steps.specs.declared.Stepped.{Stepped}
-use Rattle.steps.specs.Steps.{listOf, Votes, toldFor, Did, Took}
+use Rattle.steps.specs.declared.Record as by
+use Rattle.steps.specs.Steps.{listOf, OfView, OfPlan, toldOf, Did, Took}
 use Rattle.steps.specs.Order.{stepAt}
 
 -- ---- what an act does
@@ -68,11 +68,6 @@ didHeld held left clean wrote = record {
 
 pub fitsVote : (k p : ℕ) → k ≤ 4 → fits (k + 1) (Plan p) ≡ true
 fitsVote k p low = inside 1 5 (k + 1) (omega arith) (omega arith)
-
-pub fitsTold : (slots : ℕ → Report) (id w kind claim lock : ℕ) → 7 ≤ kind → kind ≤ 8 → {f : Frame} → f ≡ toldFor slots id w kind claim lock
-    → fits (f .kind) (f .body) ≡ true
-fitsTold slots id w kind claim lock low high e =
-    subst (λ (x : Frame). fits (x .kind) (x .body) ≡ true) (sym e) (inside 7 8 kind low high)
 
 module _ (rec : List ℕ) (h : Ready rec) where
   abbrev r : slots.Record
@@ -126,21 +121,28 @@ module _ (rec : List ℕ) (h : Ready rec) where
   didNothing = record { size = h .size; left = refl; clean = h .clean; wrote = refl }
 
   -- To enter a view: the frames that are told, the timer and the leader as the code has them.
-  module _ (set : Settings) (own : set ≡ r .set) (w : ℕ) (proof suggest : Frame) (ep : proof ≡ toldFor (slotOf r) (set .id) w 8 2 5)
-      (es : suggest ≡ toldFor (slotOf r) (set .id) w 7 3 4) where
-    told : (rule : Rule) {f : Frame} → f ≡ toldFor (slotOf r) (set .id) w (kindOf rule) (suc (claimVote rule)) (suc (lockVote rule))
-        → f ≡ reportFrame c rule w
+  module _ (set : Settings) (own : set ≡ r .set) (w : ℕ) (proofs suggests : Reports) (ep : proofs ≡ toldOf (slotOf r) (set .id) 2 5)
+      (es : suggests ≡ toldOf (slotOf r) (set .id) 3 4) where
+    abbrev proof : Frame
+    proof = told 8 (set .id) w proofs
+
+    abbrev suggest : Frame
+    suggest = told 7 (set .id) w suggests
+
+    tells : (rule : Rule) {t : Reports} → t ≡ toldOf (slotOf r) (set .id) (suc (claimVote rule)) (suc (lockVote rule))
+        → told (kindOf rule) (set .id) w t ≡ reportFrame c rule w
     unfolding contents
-    told rule e =
-        let tells = tellsAt r rule (h .clean) row in
-        e ∙ (λ i. toldFor (slotOf r) (own i .id) w (kindOf rule) (suc (claimVote rule)) (suc (lockVote rule)))
-        ∙ (λ i. record { kind = kindOf rule; sender = r .set .id; view = w; body = Told (sym tells i) })
+    tells rule e =
+        let there = tellsAt r rule (h .clean) row in
+        (λ i. told (kindOf rule) (set .id) w (e i))
+        ∙ (λ i. told (kindOf rule) (own i .id) w (toldOf (slotOf r) (own i .id) (suc (claimVote rule)) (suc (lockVote rule))))
+        ∙ (λ i. told (kindOf rule) (r .set .id) w (sym there i))
 
     proofTold : proof ≡ reportFrame c rule3 w
-    proofTold = told rule3 ep
+    proofTold = tells rule3 ep
 
     suggestTold : suggest ≡ reportFrame c rule1 w
-    suggestTold = told rule1 es
+    suggestTold = tells rule1 es
 
     module _ (millis to : ℕ) (em : millis ≡ 9 * delayOf (set .class)) (et : to ≡ leaderOf w (set .n)) {viewed proved : List ℕ}
         (hv : Holds viewed (withView r w)) (hp : Holds proved (keepFrame (decodeRecord viewed) (set .id) proof)) where
@@ -183,8 +185,22 @@ pub didAct : (c : Record) (act was : acts.Act) → act ≡ was → {left : List 
     → Did (taken c (asAct act)) left e
 didAct c act was is {left} {e} = subst (λ (a : acts.Act). Did (taken c (asAct a)) left e) (sym is)
 
-pub votesBy : (act : acts.Act) (k p : ℕ) → act ≡ Cast k p → Votes (asAct act) → k ≤ 4
-votesBy act k p is = subst (λ (a : acts.Act). Votes (asAct a)) is
+pub votesBy : (act : acts.Act) (k p : ℕ) → act ≡ Cast k p → OfPlan (asAct act) → k ≤ 4
+votesBy act k p is = subst (λ (a : acts.Act). OfPlan (asAct a)) is
+
+-- A and B have nothing to do with plans, and the others nothing with view-changes.
+module _ (act : acts.Act) where
+  pub noCast : {k p : ℕ} → act ≡ Cast k p → OfView (asAct act) → ⊥
+  noCast is = subst (λ (a : acts.Act). OfView (asAct a)) is
+
+  pub noDecide : {p : ℕ} → act ≡ Decide p → OfView (asAct act) → ⊥
+  noDecide is = subst (λ (a : acts.Act). OfView (asAct a)) is
+
+  pub noAsk : {w : ℕ} → act ≡ Ask w → OfPlan (asAct act) → ⊥
+  noAsk is = subst (λ (a : acts.Act). OfPlan (asAct a)) is
+
+  pub noEnter : {w : ℕ} → act ≡ Enter w → OfPlan (asAct act) → ⊥
+  noEnter is = subst (λ (a : acts.Act). OfPlan (asAct a)) is
 
 -- ---- steps
 
@@ -217,7 +233,7 @@ isH k low high e f g = omega arith
 pub numbered : {k j : ℕ} (c : Record) → k ≡ j → actAt k c ≡ actAt j c
 numbered c e = ap (λ (i : ℕ). actAt i c) e
 
-pub tookAs : {k j : ℕ} (c : Record) → k ≡ j → {t : Stepped} → Took (stepAt j c) t → Took (stepAt k c) t
+pub tookAs : {k j : ℕ} (c : Record) → k ≡ j → {t : by.Record} → Took (stepAt j c) t → Took (stepAt k c) t
 tookAs c e {t} = subst (λ (i : ℕ). Took (stepAt i c) t) (sym e)
 
 pub idleStep : (k : ℕ) (c : Record) → actAt k c ≡ none → stepAt k c ≡ taken c none
@@ -253,42 +269,56 @@ module _ (k : ℕ) (low : k < 8) (rec : List ℕ) (h : Ready rec) (a : acts.Act)
   same = ap (taken (contentsIn rec)) e ∙ sym (stepBy k (contentsIn rec))
 
   -- What a step's act does is what the step does, and leaves a record for the next.
-  pub took : (t : Stepped) → Did (taken (contentsIn rec) (asAct a)) (t .left .bytes) (t .entries) → Took (stepAt k (contentsIn rec)) t
+  pub took : (t : by.Record) → Did (taken (contentsIn rec) (asAct a)) (t .bytes) (t .wrote .entries) → Took (stepAt k (contentsIn rec)) t
   took t did =
-      let d : Did (stepAt k (contentsIn rec)) (t .left .bytes) (t .entries) = subst (λ (o : Out). Did o (t .left .bytes) (t .entries)) same did in
+      let d : Did (stepAt k (contentsIn rec)) (t .bytes) (t .wrote .entries) = subst (λ (o : Out). Did o (t .bytes) (t .wrote .entries)) same did in
       record {
         left = d .left;
         ready = readyDid d (wholeStep (stepAt k) (lawAt sureA k low) (contentsIn rec) (record { sound = h .sound; ranged = h .ranged }));
         wrote = d .wrote;
       }
 
--- ---- the votes of a step are votes that there are
+-- ---- what a step may be to do
 
 module _ (c : Record) {a : Act} where
-  abbrev isOne : {x : Act} → x ≡ a → Votes (some x) → Votes (some a)
-  isOne e = subst (λ (b : Act). Votes (some b)) e
+  abbrev isOne : (may : Option Act → Type 0) {x : Act} → x ≡ a → may (some x) → may (some a)
+  isOne may e = subst (λ (b : Act). may (some b)) e
 
-  votesVote : (k : ℕ) → k ≤ 3 → actVote c k ≡ some a → Votes (some a)
-  votesVote k high e = isOne (actIs (agreed c k) (λ p. not (sentNow c (suc k))) (cast (suc k)) e .1) (omega arith)
+  planVote : (k : ℕ) → k ≤ 3 → actVote c k ≡ some a → OfPlan (some a)
+  planVote k high e = isOne OfPlan (actIs (agreed c k) (λ p. not (sentNow c (suc k))) (cast (suc k)) e .1) (omega arith)
 
-  votesAt : (k : ℕ) → actAt k c ≡ some a → Votes (some a)
+  viewAt : (k : ℕ) → k < 2 → actAt k c ≡ some a → OfView (some a)
   unfolding actAt
-  votesAt zero e = isOne (actIs (highest (asked c isBlocking) (changeOf c) (c .set .n)) (isNews c) ask e .1) tt
-  votesAt (suc zero) e = isOne (actIs (highest (canEnter c) (changeOf c) (c .set .n)) (λ w. true) enter e .1) tt
-  votesAt (suc (suc zero)) e = isOne (actIs (chosen c) (λ p. true) (cast 0) (whenSome (mayPropose c) _ e .1) .1) (omega arith)
-  votesAt (suc (suc (suc zero))) e = isOne (actIs (planNow c 0 (leader c (c .view))) (approves c) (cast 1) e .1) (omega arith)
-  votesAt (suc (suc (suc (suc zero)))) e = votesVote 1 (omega arith) e
-  votesAt (suc (suc (suc (suc (suc zero))))) e = votesVote 2 (omega arith) e
-  votesAt (suc (suc (suc (suc (suc (suc zero)))))) e = votesVote 3 (omega arith) e
-  votesAt (suc (suc (suc (suc (suc (suc (suc zero))))))) e = isOne (actIs (agreed c 4) (λ p. isNone (c .decision)) decide e .1) tt
-  votesAt (suc (suc (suc (suc (suc (suc (suc (suc k)))))))) e = absurd (none≢some e)
+  viewAt zero low e = isOne OfView (actIs (highest (asked c isBlocking) (changeOf c) (c .set .n)) (isNews c) ask e .1) tt
+  viewAt (suc zero) low e = isOne OfView (actIs (highest (canEnter c) (changeOf c) (c .set .n)) (λ w. true) enter e .1) tt
+  viewAt (suc (suc k)) low e = absurd (omega arith)
 
-pub votesOf : (k : ℕ) (c : Record) (a : acts.Act) → asAct a ≡ actAt k c → Votes (asAct a)
-votesOf k c a e = go (asAct a) e
-  where
-    go : (o : Option Act) → o ≡ actAt k c → Votes o
-    go none is = tt
-    go (some x) is = votesAt c k (sym is)
+  planAt : (k : ℕ) → 2 ≤ k → actAt k c ≡ some a → OfPlan (some a)
+  unfolding actAt
+  planAt zero high e = absurd (omega arith)
+  planAt (suc zero) high e = absurd (omega arith)
+  planAt (suc (suc zero)) high e = isOne OfPlan (actIs (chosen c) (λ p. true) (cast 0) (whenSome (mayPropose c) _ e .1) .1) (omega arith)
+  planAt (suc (suc (suc zero))) high e = isOne OfPlan (actIs (planNow c 0 (leader c (c .view))) (approves c) (cast 1) e .1) (omega arith)
+  planAt (suc (suc (suc (suc zero)))) high e = planVote 1 (omega arith) e
+  planAt (suc (suc (suc (suc (suc zero))))) high e = planVote 2 (omega arith) e
+  planAt (suc (suc (suc (suc (suc (suc zero)))))) high e = planVote 3 (omega arith) e
+  planAt (suc (suc (suc (suc (suc (suc (suc zero))))))) high e = isOne OfPlan (actIs (agreed c 4) (λ p. isNone (c .decision)) decide e .1) tt
+  planAt (suc (suc (suc (suc (suc (suc (suc (suc k)))))))) high e = absurd (none≢some e)
+
+module _ (k : ℕ) (c : Record) (a : acts.Act) (e : asAct a ≡ actAt k c) where
+  pub ofView : k < 2 → OfView (asAct a)
+  ofView low = go (asAct a) e
+    where
+      go : (o : Option Act) → o ≡ actAt k c → OfView o
+      go none is = tt
+      go (some x) is = viewAt c k low (sym is)
+
+  pub ofPlan : 2 ≤ k → OfPlan (asAct a)
+  ofPlan high = go (asAct a) e
+    where
+      go : (o : Option Act) → o ≡ actAt k c → OfPlan o
+      go none is = tt
+      go (some x) is = planAt c k high (sym is)
 
 -- ---- to ask for a view when the timer says so
 

@@ -1,5 +1,6 @@
 -- `steps::cast_in` meets its contract: the vote goes into the own row.
 -- Assumes nothing.
+use native.Mathlib.Omega.{arith}
 use native.Mathlib.Numerals.{add-one}
 use Rattle.steps.proofs.Steps.{rowOf, fitsVote, didCast}
 use borrow.Author.Needs.{needs}
@@ -12,7 +13,7 @@ add-t7 c = search needs
 own-broadcast-requires : tie.Need-own-broadcast-requires
 own-broadcast-requires c κs =
     let s = c .before .before in
-    (fitsVote (s .args .k) (s .args .p) (s .pre .3), rowOf _ (s .pre .0) (s .pre .1), s .pre .1, s .pre .0 .size)
+    (fitsVote (s .args .k) (s .args .p) (s .pre .3), omega (arith, s .pre .3), rowOf _ (s .pre .0) (s .pre .1), s .pre .1, s .pre .0 .size)
 
 same-length : tie.Need-same-length
 same-length c = search needs

@@ -3,21 +3,21 @@
 use native.Mathlib.Omega.{arith}
 use Rattle.contents.specs.Contents.{contentsIn}
 use Rattle.acts.specs.Acts.{actAt}
-use Rattle.steps.proofs.Steps.{votesOf, took}
+use Rattle.steps.proofs.Steps.{ofPlan, took}
 use Rattle.steps.proofs.Record.step_g.Statement.{statement}
 use Rattle.steps.proofs.Record.step_g.Tie as tie
 
-act-here-requires : tie.Need-act-here-requires
+plan-act-requires : tie.Need-plan-act-requires
 unfolding actAt
-act-here-requires c κs =
+plan-act-requires c κs =
     let s = c .before in
-    (s .pre .0, votesOf 6 (contentsIn (s .args .t1 .bytes)) (s .args .act) (s .pre .1))
+    (s .pre .0, ofPlan 6 (contentsIn (s .args .t1 .bytes)) (s .args .act) (s .pre .1) (omega arith))
 
 returns : tie.Need-returns
 unfolding actAt
 returns c =
     let s = c .before .before in
-    took 6 (omega arith) (s .args .t1 .bytes) (s .pre .0) (s .args .act) (s .pre .1) _ (c .act-here .ensures)
+    took 6 (omega arith) (s .args .t1 .bytes) (s .pre .0) (s .args .act) (s .pre .1) _ (c .plan-act .ensures)
 
 pub step-g-spec : {M : Type 1} → statement M
-step-g-spec = tie.close (tie.spec act-here-requires returns)
+step-g-spec = tie.close (tie.spec plan-act-requires returns)

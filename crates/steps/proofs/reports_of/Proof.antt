@@ -1,12 +1,11 @@
--- `steps::report_for` meets its contract: each report is what its slot holds.
+-- `steps::reports_of` meets its contract: each report is what its slot holds.
 -- Assumes nothing.
 use mathlib.Core.Path.{ap, _∙_}
-use Rattle.frame.specs.declared.Body.the-variants.{Told}
 use Rattle.record.specs.Slots.{slotOf}
 use Rattle.layout.specs.Layout.{decodeRecord}
 use borrow.Author.Needs.{needs}
-use Rattle.steps.proofs.report_for.Statement.{statement}
-use Rattle.steps.proofs.report_for.Tie as tie
+use Rattle.steps.proofs.reports_of.Statement.{statement}
+use Rattle.steps.proofs.reports_of.Tie as tie
 
 frame-slot-requires : tie.Need-frame-slot-requires
 frame-slot-requires c κs = search needs
@@ -32,18 +31,13 @@ returns c =
     let a = d .before .before .before .args in
     let at = slotOf (decodeRecord (a .rec .now)) in
     λ i. record {
-      kind = a .kind;
-      sender = a .id;
-      view = a .w;
-      body = Told (record {
-        highest = (d .slot-of .ensures ∙ ap at (d .before .frame-slot .ensures .0)) i;
-        previous = (c .before .before .slot-of2 .ensures ∙ ap at (c .before .before .before .previous-slot .ensures .0)) i;
-        lock = (c .slot-of3 .ensures ∙ ap at (c .before .frame-slot2 .ensures .0)) i;
-      });
+      highest = (d .slot-of .ensures ∙ ap at (d .before .frame-slot .ensures .0)) i;
+      previous = (c .before .before .slot-of2 .ensures ∙ ap at (c .before .before .before .previous-slot .ensures .0)) i;
+      lock = (c .slot-of3 .ensures ∙ ap at (c .before .frame-slot2 .ensures .0)) i;
     }
 
-pub report-for-spec : {M : Type 1} → statement M
-report-for-spec =
+pub reports-of-spec : {M : Type 1} → statement M
+reports-of-spec =
     tie.close
     (tie.spec
     frame-slot-requires
