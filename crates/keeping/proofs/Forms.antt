@@ -17,7 +17,7 @@ use Rattle.frame.proofs.Laws.{inside, over, bounds}
 use Rattle.record.specs.Slots.{Record, frameSlot}
 use Rattle.record.specs.inside.Slots.{withSlot}
 use Rattle.keeping.specs.Kept.{reportsIn, bodyIn, frameIn, keptIn, planOf}
-use Rattle.keeping.specs.inside.Kept.{withReports, withBody, keepFrame}
+use Rattle.keeping.specs.inside.Kept.{withReports, withBody, told, keepFrame}
 
 module _ (slots : ℕ → Report) (kind sender : ℕ) where
   pub bodyPlan : 1 ≤ kind → kind ≤ 5 → bodyIn slots kind sender ≡ Plan (slots (frameSlot kind sender) .plan)
@@ -49,6 +49,15 @@ fitsKind kind (Told t) e = let h = bounds 7 8 kind e in (omega arith, h .1)
 pub toldKind : (kind : ℕ) {body : Body} {t : Reports} → body ≡ Told t → fits kind body ≡ true → 7 ≤ kind
 toldKind kind {body} {t} e h = let k : fits kind (Told t) ≡ true = ap (fits kind) (sym e) ∙ h in bounds 7 8 kind k .0
 
+-- frames without reports are of kinds 1 to 6
+pub planKind : (kind : ℕ) {body : Body} {p : ℕ} → body ≡ Plan p → fits kind body ≡ true → kind ≤ 6
+planKind kind {body} {p} e h =
+    let k : fits kind (Plan p) ≡ true = ap (fits kind) (sym e) ∙ h in
+    let b = bounds 1 5 kind k in omega arith
+
+pub bareKind : (kind : ℕ) {body : Body} → body ≡ Empty → fits kind body ≡ true → kind ≤ 6
+bareKind kind e h = let k : kind ≡ 6 = eqb-true kind 6 (ap (fits kind) (sym e) ∙ h) in omega arith
+
 module _ (r : Record) (sender : ℕ) (f : Frame) where
   -- the record with the frame's head and what follows it, by the form of the body
   keepBody : {b : Body} → f .body ≡ b
@@ -69,3 +78,8 @@ module _ (r : Record) (sender : ℕ) (f : Frame) where
       → keepFrame r sender f
       ≡ withReports (withSlot r (frameSlot (f .kind) sender) (record { mark = 1; view = f .view; plan = 0 })) (f .kind) sender t
   keepTold e = keepBody e
+
+  -- it does not ask for the frame's own sender
+  pub keepToldAs : {t : Reports} → f .body ≡ Told t → keepFrame r sender (told (f .kind) sender (f .view) t) ≡ keepFrame r sender f
+  unfolding keepFrame
+  keepToldAs e = sym (keepTold e)

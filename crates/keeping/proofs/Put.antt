@@ -1,12 +1,15 @@
 -- Bytes that hold a record, through calls that put one slot after another.
 -- Assumes nothing.
-use Prim.Native.Nat.{ℕ}
-use mathlib.Core.Path.{_≡_, ap, sym, _∙_}
+use Prim.Native.Nat.{ℕ, _≤_}
+use mathlib.Core.Path.{_≡_, refl, ap, sym, _∙_}
+use mathlib.Core.Bool.{true}
 use mathlib.Core.List.{List}
+use native.Mathlib.Omega.{arith}
 use Rattle.frame.specs.declared.Reports.{Reports}
 use Rattle.frame.specs.declared.Body.{Body}
 use Rattle.frame.specs.declared.Body.the-variants.{Plan, Empty, Told}
 use Rattle.frame.specs.declared.Frame.{Frame}
+use Rattle.frame.specs.Valid.{fits}
 use Rattle.record.specs.Slots.{Record, frameSlot, reportSlot}
 use Rattle.record.specs.inside.Slots.{withSlot}
 use Rattle.layout.specs.Layout.{decodeRecord}
@@ -14,6 +17,7 @@ use Rattle.layout.specs.inside.Layout.{Holds}
 use Rattle.keeping.specs.Kept.{planOf, headSlot}
 use Rattle.keeping.specs.inside.Kept.{withReports, withBody, keepFrame}
 use Rattle.keeping.specs.inside.Keeping.{shifted, ownBroadcast}
+use Rattle.keeping.proofs.Forms.{toldKind}
 
 -- the same bytes hold an equal record
 pub heldAs : {o : List ℕ} {r s : Record} → Holds o r → r ≡ s → Holds o s
@@ -45,15 +49,24 @@ module _ (o o₁ : List ℕ) (sender : ℕ) (f : Frame) {at plan : ℕ} (e : at 
   unfolding keepFrame
   kept g = let d = sym g in λ i. withBody (head i) (f .kind) sender (d i)
 
-  pub heldPlan : {q : ℕ} → f .body ≡ Plan q → Holds o₁ (keepFrame (decodeRecord o) sender f)
+  heldPlan : {q : ℕ} → f .body ≡ Plan q → Holds o₁ (keepFrame (decodeRecord o) sender f)
   heldPlan g = record { size = h .size; is = kept g }
 
-  pub heldBare : f .body ≡ Empty → Holds o₁ (keepFrame (decodeRecord o) sender f)
+  heldBare : f .body ≡ Empty → Holds o₁ (keepFrame (decodeRecord o) sender f)
   heldBare g = record { size = h .size; is = kept g }
 
   pub heldTold : {o₂ : List ℕ} {t : Reports} → f .body ≡ Told t → Holds o₂ (withReports (decodeRecord o₁) (f .kind) sender t)
       → Holds o₂ (keepFrame (decodeRecord o) sender f)
   heldTold g x = heldAs x (kept g)
+
+  -- a frame of a kind without reports is its head
+  pub heldHead : fits (f .kind) (f .body) ≡ true → f .kind ≤ 6 → Holds o₁ (keepFrame (decodeRecord o) sender f)
+  heldHead fit low = go (f .body) refl
+    where
+      go : (b : Body) → f .body ≡ b → Holds o₁ (keepFrame (decodeRecord o) sender f)
+      go (Plan q) g = heldPlan g
+      go Empty g = heldBare g
+      go (Told t) g = absurd (omega (arith, low, toldKind (f .kind) g fit))
 
 pub heldBroadcast : (o o₁ : List ℕ) (f : Frame) {o₂ : List ℕ} {id plan : ℕ} → id ≡ decodeRecord o .set .id → plan ≡ planOf (f .body)
     → Holds o₁ (shifted (decodeRecord o) (f .kind) plan) → Holds o₂ (keepFrame (decodeRecord o₁) id f)

@@ -11,11 +11,11 @@ ghost use Rattle.frame.specs.Valid.{fits};
 ghost use Rattle.frame.specs.Refusal.{first};
 ghost use Rattle.record.specs.Slots.{rows, slotOf};
 ghost use Rattle.record.specs.inside.Slots.{Place};
-ghost use Rattle.layout.specs.Layout.{decodeRecord};
 ghost use Rattle.layout.specs.Size.{recordSize};
+ghost use Rattle.layout.specs.Layout.{decodeRecord};
 ghost use Rattle.layout.specs.inside.Layout.{Holds};
 ghost use Rattle.keeping.specs.Kept.{planOf};
-ghost use Rattle.keeping.specs.inside.Kept.{withReports, keepFrame};
+ghost use Rattle.keeping.specs.inside.Kept.{withReports, told, keepFrame};
 ghost use Rattle.keeping.specs.inside.Keeping.{stale, outdone, keepRows, moves, shifted, ownBroadcast};
 
 fn is_stale(current: u32, kind: u8, view: u32) -> bool
@@ -79,9 +79,9 @@ fn plan_of(body: Body) -> u64
     }
 }
 
-// Puts a frame into a sender's row.
-pub fn keep(rec: &mut [u8], sender: u8, f: Frame)
-    requires { ⌜ (fits (f .kind) (f .body) ≡ true) × (sender < rows) × (length (now rec) ≡ recordSize) ⌝ }
+// Puts a frame that has no reports into a sender's row.
+pub fn keep_head(rec: &mut [u8], sender: u8, f: Frame)
+    requires { ⌜ (fits (f .kind) (f .body) ≡ true) × (f .kind ≤ 6) × (sender < rows) × (length (now rec) ≡ recordSize) ⌝ }
     ensures { λ _. ⌜ Holds (now (rec .exit)) (keepFrame (decodeRecord (now (rec .entry))) sender f) ⌝ }
 {
     let at = layout::frame_slot(f.kind, sender);
@@ -92,10 +92,33 @@ pub fn keep(rec: &mut [u8], sender: u8, f: Frame)
         plan: plan_of(body),
     };
     layout::put_slot(rec, at, head);
+}
+
+// Puts a suggest or a proof with its reports into a sender's row.
+pub fn keep_told(rec: &mut [u8], sender: u8, kind: u8, view: u32, t: Reports)
+    requires { ⌜ (7 ≤ kind) × Place kind sender × (length (now rec) ≡ recordSize) ⌝ }
+    ensures { λ _. ⌜ Holds (now (rec .exit)) (keepFrame (decodeRecord (now (rec .entry))) sender (told kind sender view t)) ⌝ }
+{
+    let at = layout::frame_slot(kind, sender);
+    let head = Report {
+        mark: 1,
+        view,
+        plan: 0,
+    };
+    layout::put_slot(rec, at, head);
+    put_reports(rec, kind, sender, t);
+}
+
+// Puts a frame into a sender's row.
+pub fn keep(rec: &mut [u8], sender: u8, f: Frame)
+    requires { ⌜ (fits (f .kind) (f .body) ≡ true) × (sender < rows) × (length (now rec) ≡ recordSize) ⌝ }
+    ensures { λ _. ⌜ Holds (now (rec .exit)) (keepFrame (decodeRecord (now (rec .entry))) sender f) ⌝ }
+{
+    let body = f.body;
     match body {
-        Body::Plan(_) => return,
-        Body::Empty => return,
-        Body::Told(t) => put_reports(rec, f.kind, sender, t),
+        Body::Told(t) => keep_told(rec, sender, f.kind, f.view, t),
+        Body::Plan(_) => keep_head(rec, sender, f),
+        Body::Empty => keep_head(rec, sender, f),
     }
 }
 
@@ -129,13 +152,13 @@ fn shift(rec: &mut [u8], id: u8, kind: u8, plan: u64)
     layout::put_slot(rec, before, slot);
 }
 
-// Puts a frame that the vault itself broadcasts into its own row, and the kept vote that it moves to the previous one.
+// Puts a vote or a proposal that the vault itself broadcasts into its own row, and the kept vote that it moves to the previous one.
 pub fn own_broadcast(rec: &mut [u8], id: u8, f: Frame)
-    requires { ⌜ (fits (f .kind) (f .body) ≡ true) × (id < rows) × (id ≡ decodeRecord (now rec) .set .id) × (length (now rec) ≡ recordSize) ⌝ }
+    requires { ⌜ (fits (f .kind) (f .body) ≡ true) × (f .kind ≤ 6) × (id < rows) × (id ≡ decodeRecord (now rec) .set .id) × (length (now rec) ≡ recordSize) ⌝ }
     ensures { λ _. ⌜ Holds (now (rec .exit)) (ownBroadcast (decodeRecord (now (rec .entry))) f) ⌝ }
 {
     let body = f.body;
     let plan = plan_of(body);
     shift(rec, id, f.kind, plan);
-    keep(rec, id, f);
+    keep_head(rec, id, f);
 }

@@ -19,8 +19,9 @@ use Rattle.acts.specs.declared.Act as acts
 use Rattle.acts.specs.declared.Act.the-variants.{Nothing}
 use Rattle.acts.specs.inside.Acts.{asAct, actAt}
 use Rattle.pass.specs.inside.Steps.{Room, Ran}
-use Rattle.pass.specs.inside.Passes.{stepAt, stepsFrom, Going}
-use Rattle.pass.proofs.Steps.{idleStep, stepSet}
+use Rattle.steps.specs.inside.Order.{stepAt}
+use Rattle.pass.specs.inside.Passes.{stepsFrom, Going}
+use Rattle.steps.proofs.Steps.{idleStep, stepSet}
 use Rattle.pass.proofs.Runs.{ranNothing, joined, roomFirst, sizeNext, roomNext, ranJoin}
 
 -- One step, and then those that follow it.

@@ -17,10 +17,11 @@ use Rattle.protocol.specs.Record.{Record}
 use Rattle.protocol.specs.Pass.{Out, Step, onward, pass}
 use Rattle.contents.specs.Contents.{contentsIn}
 use Rattle.contents.specs.inside.Ready.{Ready}
-use Rattle.pass.specs.declared.Entries.{Entries}
-use Rattle.pass.specs.declared.Entries.the-variants.{Zero, One, Two, Three}
-use Rattle.pass.specs.declared.Stepped.{Stepped}
-use Rattle.pass.specs.inside.Steps.{listOf, Took, Room, Ran}
+use Rattle.steps.specs.declared.Entries.{Entries}
+use Rattle.steps.specs.declared.Entries.the-variants.{Zero, One, Two, Three}
+use Rattle.steps.specs.declared.Stepped.{Stepped}
+use Rattle.steps.specs.inside.Steps.{listOf, Took}
+use Rattle.pass.specs.inside.Steps.{Room, Ran}
 
 -- ---- a record copied
 

@@ -18,6 +18,10 @@ withReports r kind sender t =
     (reportSlot kind 1 sender) (t .previous))
     (reportSlot kind 2 sender) (t .lock)
 
+-- A suggest or a proof from a sender.
+abbrev pub told : ℕ → ℕ → ℕ → Reports → Frame
+told kind sender view t = record { kind = kind; sender = sender; view = view; body = Told t }
+
 -- The record with what follows a frame's head: only reports have slots of their own.
 abbrev pub withBody : Record → ℕ → ℕ → Body → Record
 withBody r kind sender (Plan p) = r

@@ -7,7 +7,7 @@ use denote.Ref.{now}
 use Rattle.settings.specs.declared.Settings.{Settings}
 use Rattle.protocol.specs.Pass.{ask, taken}
 use Rattle.contents.specs.Contents.{contentsIn}
-use Rattle.pass.proofs.Steps.{readyAsk}
+use Rattle.steps.proofs.Steps.{readyAsk}
 use Rattle.pass.proofs.Runs.{roomWritten, ranWritten}
 use borrow.Author.Needs.{needs}
 use Rattle.pass.proofs.ask_for.Statement.{statement}

@@ -7,7 +7,7 @@ use denote.Ref.{now}
 use Rattle.contents.specs.Contents.{contentsIn}
 use Rattle.contents.specs.inside.Ready.{Ready}
 use Rattle.acts.specs.inside.Acts.{actAt}
-use Rattle.pass.specs.inside.Passes.{stepAt}
+use Rattle.steps.specs.inside.Order.{stepAt}
 use Rattle.pass.proofs.Runs.{tookFrom, roomWritten, ranStored}
 use borrow.Author.Needs.{needs}
 use Rattle.pass.proofs.run_step.Statement.{statement}

@@ -1,19 +1,14 @@
--- The steps of a pass by number, 0 to 7 for A to H, and a pass on its way (document 01, 'One pass').
+-- A pass on its way (document 01, 'One pass').
 -- Assumes nothing.
 use Prim.Native.Nat.{ℕ, _≤_}
 use mathlib.Core.Path.{_≡_}
 use mathlib.Core.List.{List}
-use mathlib.Core.Option.{none}
-use lib.ListN.{length, getD, drop}
+use lib.ListN.{length, drop}
 use Rattle.layout.specs.Layout.{decodeRecord}
-use Rattle.protocol.specs.Pass.{Step, taken, pass, fromA}
+use Rattle.protocol.specs.Pass.{Step, pass, fromA}
 use Rattle.contents.specs.Contents.{contentsIn}
 use Rattle.contents.specs.inside.Ready.{Ready}
 use Rattle.pass.specs.inside.Steps.{Room, Ran}
-
--- The step of a number.
-abbrev pub stepAt : ℕ → Step
-stepAt k = getD fromA k (λ c. taken c none)
 
 -- 'in this order': the steps from a number on.
 abbrev pub stepsFrom : ℕ → List Step

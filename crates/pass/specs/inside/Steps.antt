@@ -1,69 +1,14 @@
--- What a step leaves: the record's bytes and the entries, as document 01's definition of the step gives them for the contents.
+-- Steps that are taken over lent bytes: the record's bytes afterwards, and the entries from a place of the output on.
 -- Assumes nothing.
 use Prim.Native.Nat.{ℕ, _+_, _≤_}
 use mathlib.Core.Path.{_≡_}
-use mathlib.Core.List.{List, [], _∷_}
-use mathlib.Core.Option.{Option, none, some}
+use mathlib.Core.List.{List}
 use lib.ListN.{length}
-use Rattle.frame.specs.declared.Report.{Report}
-use Rattle.frame.specs.declared.Body.the-variants.{Told}
-use Rattle.frame.specs.declared.Frame.{Frame}
 use Rattle.wire.specs.Placed.{placed}
-use Rattle.entry.specs.declared.Entry.{Entry}
 use Rattle.entry.specs.Layout.{layout}
-use Rattle.record.specs.Slots.{frameSlot, previousSlot}
-use Rattle.layout.specs.Layout.{decodeRecord}
-use Rattle.layout.specs.Size.{recordSize}
-use Rattle.protocol.specs.Pass.{Act, ask, enter, cast, decide, Out}
+use Rattle.protocol.specs.Pass.{Out}
 use Rattle.contents.specs.Contents.{contentsIn}
 use Rattle.contents.specs.inside.Ready.{Ready}
-use Rattle.contents.specs.Lent.{Clean}
-use Rattle.pass.specs.declared.Entries.{Entries}
-use Rattle.pass.specs.declared.Entries.the-variants.{Zero, One, Two, Three}
-use Rattle.pass.specs.declared.Stepped.{Stepped}
-
--- 'Entries lie end to end': those that a step writes, in their order.
-abbrev pub listOf : Entries → List Entry
-listOf Zero = []
-listOf (One a) = a ∷ []
-listOf (Two a b) = a ∷ b ∷ []
-listOf (Three a b c) = a ∷ b ∷ c ∷ []
-
--- The votes that there are: vote-1 to vote-4, and the proposal as vote-0.
-abbrev pub Votes : Option Act → Type 0
-Votes none = Unit {0}
-Votes (some (ask w)) = Unit {0}
-Votes (some (enter w)) = Unit {0}
-Votes (some (cast k p)) = k ≤ 4
-Votes (some (decide p)) = Unit {0}
-
--- 'reports highest vote-2, previous vote-2, highest vote-3': the slots that hold the own votes of a kind, and the lock of another, in
--- the suggest or the proof for view w.
-abbrev pub toldFor : (ℕ → Report) → ℕ → ℕ → ℕ → ℕ → ℕ → Frame
-toldFor slots id w kind claim lock =
-    record {
-      kind = kind;
-      sender = id;
-      view = w;
-      body = Told (record {
-        highest = slots (frameSlot claim id);
-        previous = slots (previousSlot claim);
-        lock = slots (frameSlot lock id);
-      });
-    }
-
--- An act is done: the record's bytes hold what it leaves, and the entries are those that it writes.
-pub record Did (o : Out) (rec : List ℕ) (e : Entries) : Type 0 where
-  pub size : length rec ≡ recordSize
-  pub left : contentsIn rec ≡ o .left
-  pub clean : Clean (decodeRecord rec)
-  pub wrote : listOf e ≡ o .wrote
-
--- A step is taken: the same, and the record is one that calls leave.
-pub record Took (o : Out) (s : Stepped) : Type 0 where
-  pub left : contentsIn (s .left .bytes) ≡ o .left
-  pub ready : Ready (s .left .bytes)
-  pub wrote : listOf (s .entries) ≡ o .wrote
 
 -- There is room for the entries from a place on.
 abbrev pub Room : Out → ℕ → List ℕ → Type 0

@@ -1,0 +1,32 @@
+-- `keeping::keep_told` meets its contract: the head, then the three reports.
+-- Assumes nothing.
+use mathlib.Core.Path.{refl}
+use Rattle.keeping.specs.inside.Kept.{told}
+use Rattle.keeping.proofs.Put.{heldTold}
+use borrow.Author.Needs.{needs}
+use Rattle.keeping.proofs.keep_told.Statement.{statement}
+use Rattle.keeping.proofs.keep_told.Tie as tie
+
+frame-slot-requires : tie.Need-frame-slot-requires
+frame-slot-requires c κs = search needs
+
+put-slot-requires : tie.Need-put-slot-requires
+put-slot-requires c κs = search needs
+
+put-reports-requires : tie.Need-put-reports-requires
+put-reports-requires c κs = search needs
+
+same-length : tie.Need-same-length
+same-length c = search needs
+
+returns : tie.Need-returns
+returns c =
+    let k = c .before .before .before .before .before .before in
+    let s = k .before .before .before .before in
+    let f = told (s .args .kind) (s .args .sender) (s .args .view) (s .args .t) in
+    heldTold _ _ (s .args .sender) f (k .before .before .frame-slot .ensures .0) refl (k .put-slot .ensures) refl (c .before .before .put-reports .ensures)
+
+pub keep-told-spec : {M : Type 1} → statement M
+keep-told-spec =
+    tie.close
+    (tie.spec frame-slot-requires put-slot-requires put-reports-requires same-length returns)

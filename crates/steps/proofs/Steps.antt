@@ -1,0 +1,370 @@
+-- What the code of an act leaves in bytes and entries is what document 01's act leaves by contents ('One pass').
+-- A frame goes into the own row by the laws of crate contents; the entries are the same frames. A step that does only what it may
+-- leaves a sound record (`actWhole` of crate protocol), so the next step finds one.
+-- Assumes nothing.
+use Prim.Native.Nat.{ℕ, zero, suc, _+_, _*_, _^_, _≤_, _<_}
+use mathlib.Core.Path.{_≡_, refl, sym, _∙_, ap, subst}
+use mathlib.Core.Logic.{_≢_, ⊎-elim}
+use mathlib.Core.Bool.{Bool, true, false, not}
+use mathlib.Core.List.{List, [], _∷_}
+use mathlib.Core.Option.{Option, none, some}
+use native.Mathlib.Omega.{arith}
+use lib.ListN.{length, getD}
+use borrow.Author.Tests.{eq-eqb, ne-eqb}
+use Rattle.rules.specs.Rules.{Rule, rule1, rule3, claimVote, lockVote}
+use Rattle.rules.specs.Options.{isNone}
+use Rattle.quorum.specs.Quorums.{isBlocking}
+use Rattle.settings.specs.declared.Settings.{Settings}
+use Rattle.settings.specs.Settings.{delayOf}
+use Rattle.frame.specs.declared.Reports.{Reports}
+use Rattle.frame.specs.declared.Body.the-variants.{Plan, Empty}
+use Rattle.frame.specs.declared.Frame.{Frame}
+use Rattle.frame.specs.Valid.{fits}
+use Rattle.frame.specs.Refusal.{leaderOf}
+use Rattle.frame.proofs.Laws.{inside}
+use Rattle.entry.specs.declared.Entry.{Entry}
+use Rattle.entry.specs.declared.Entry.the-variants.{ForAll, ForOne, Timer, Decision}
+use Rattle.record.specs.Slots as slots
+use Rattle.record.specs.Slots.{rows, slotOf}
+use Rattle.record.specs.inside.Slots.{withView}
+use Rattle.layout.specs.Layout.{decodeRecord}
+use Rattle.layout.specs.inside.Layout.{Holds}
+use Rattle.keeping.specs.inside.Kept.{told, keepFrame}
+use Rattle.keeping.specs.inside.Keeping.{ownBroadcast}
+use Rattle.rules.specs.Rules.{Vote}
+use Rattle.frame.specs.Refusal.{badPrevious}
+use Rattle.protocol.specs.Sound.{InRow}
+use Rattle.protocol.specs.Record.{Record, spelt, kindOf, highest, leads, leader, changeOf, planNow, sentNow, reportFrame}
+use Rattle.protocol.specs.Pass.{Act, ask, enter, cast, decide, does, writes, suggestEntry, taken, Out, Step}
+use Rattle.protocol.specs.Pass.{asked, isNews, canEnter, mayPropose, chosen, approves, agreed, actVote, stepA, stepB, stepC, stepD, stepVote, stepH}
+use Rattle.agreement.proofs.Reports.{none≢some}
+use Rattle.protocol.proofs.May.{Lawful, Sure, done, and, sureA}
+use Rattle.protocol.proofs.Tables.{whenSome, keepWas}
+use Rattle.protocol.proofs.Size.{actIs}
+use Rattle.protocol.proofs.Good.{voteKept, previousBelow}
+use Rattle.protocol.proofs.Slots.{Sendable, changeSendable}
+use Rattle.protocol.proofs.Sound.{Whole, idBelow, sizeBelow, rowsBy, actWhole}
+use Rattle.contents.specs.Contents.{contents, contentsIn}
+use Rattle.contents.specs.Lent.{Clean}
+use Rattle.contents.specs.inside.Ready.{Ready}
+use Rattle.contents.proofs.Parts.{decided, cleanDecide}
+use Rattle.contents.proofs.Acts.{contentsCast, cleanCast, contentsAsk, cleanAsk, tellsAt, enteredBy, contentsEnter, cleanEnter, contentsDecided}
+use Rattle.contents.proofs.Ready.{contentsHeld, readyAllowed, readyRow}
+use Rattle.acts.specs.declared.Act as acts
+use Rattle.acts.specs.declared.Act.the-variants.{Ask, Enter, Cast, Decide}
+use Rattle.acts.specs.inside.Acts.{asAct, actAt}
+use Rattle.steps.specs.declared.Entries.{Entries}
+use Rattle.steps.specs.declared.Entries.the-variants.{Zero, One, Two, Three}
+use Rattle.steps.specs.declared.Record as by
+use Rattle.steps.specs.inside.Steps.{listOf, OfView, OfPlan, toldOf, Did, Took}
+use Rattle.steps.specs.inside.Order.{stepAt}
+
+-- ---- what an act does
+
+-- Bytes that hold the record that an act leaves.
+didHeld : {o : Out} {rec : List ℕ} {r : slots.Record} {e : Entries} → Holds rec r → contents r ≡ o .left → Clean r → listOf e ≡ o .wrote → Did o rec e
+didHeld held left clean wrote = record {
+  size = held .size;
+  left = contentsHeld held ∙ left;
+  clean = subst Clean (sym (held .is)) clean;
+  wrote = wrote;
+}
+
+pub fitsVote : (k p : ℕ) → k ≤ 4 → fits (k + 1) (Plan p) ≡ true
+fitsVote k p low = inside 1 5 (k + 1) (omega arith) (omega arith)
+
+module _ (rec : List ℕ) (h : Ready rec) where
+  abbrev r : slots.Record
+  r = decodeRecord rec
+
+  abbrev c : Record
+  c = contents r
+
+  row : r .set .id < rows
+  row = readyRow h
+
+  -- The settings as the code has them: the own number has a row, and there are vaults.
+  pub rowOf : {id : ℕ} → id ≡ r .set .id → id < rows
+  rowOf own = subst (λ (i : ℕ). i < rows) (sym own) row
+
+  pub rowSet : {set : Settings} → set ≡ r .set → set .id < rows
+  rowSet own = rowOf (ap (λ (s : Settings). s .id) own)
+
+  pub someSet : {set : Settings} → set ≡ r .set → 0 < set .n
+  someSet own = subst (λ (s : Settings). 0 < s .n) (sym own) (omega (arith, readyAllowed h .own))
+
+  -- The frames of the code, whose sender is the own number.
+  abbrev pub changes : ℕ → ℕ → Frame
+  changes id w = record { kind = 6; sender = id; view = w; body = Empty }
+
+  abbrev pub votes : ℕ → ℕ → ℕ → ℕ → Frame
+  votes kind id view p = record { kind = kind; sender = id; view = view; body = Plan p }
+
+  pub didAsk : {id w : ℕ} {left : List ℕ} → id ≡ r .set .id → Holds left (keepFrame r id (changes id w))
+      → Did (taken c (some (ask w))) left (One (ForAll (changes id w)))
+  unfolding contents writes
+  didAsk {id} {w} {left} own held =
+      didHeld (subst (Holds left) (λ i. keepFrame r (own i) (changes (own i) w)) held)
+      (contentsAsk r w row) (cleanAsk r w row (h .clean)) (λ i. ForAll (changes (own i) w) ∷ [])
+
+  pub didCast : {k p kind id view : ℕ} {left : List ℕ} → k ≤ 4 → kind ≡ suc k → id ≡ r .set .id → view ≡ r .view
+      → Holds left (ownBroadcast r (votes kind id view p)) → Did (taken c (some (cast k p))) left (One (ForAll (votes kind id view p)))
+  unfolding contents writes
+  didCast {k} {p} {left = left} low is own now held =
+      didHeld (subst (Holds left) (λ i. ownBroadcast r (votes (is i) (own i) (now i) p)) held)
+      (contentsCast r k p low row) (cleanCast r k p low row (h .clean)) (λ i. ForAll (votes (is i) (own i) (now i) p) ∷ [])
+
+  pub didDecide : {p view : ℕ} {left : List ℕ} → view ≡ r .view → Holds left (decided r view p)
+      → Did (taken c (some (decide p))) left (One (Decision view p))
+  unfolding contents writes
+  didDecide {p} {left = left} now held =
+      didHeld (subst (Holds left) (λ i. decided r (now i) p) held)
+      (contentsDecided r p) (cleanDecide r (r .view) p (h .clean)) (λ i. Decision (now i) p ∷ [])
+
+  pub didNothing : Did (taken c none) rec Zero
+  didNothing = record { size = h .size; left = refl; clean = h .clean; wrote = refl }
+
+  -- To enter a view: the frames that are told, the timer and the leader as the code has them.
+  module _ (set : Settings) (own : set ≡ r .set) (w : ℕ) (proofs suggests : Reports) (ep : proofs ≡ toldOf (slotOf r) (set .id) 2 5)
+      (es : suggests ≡ toldOf (slotOf r) (set .id) 3 4) where
+    abbrev proof : Frame
+    proof = told 8 (set .id) w proofs
+
+    abbrev suggest : Frame
+    suggest = told 7 (set .id) w suggests
+
+    tells : (rule : Rule) {t : Reports} → t ≡ toldOf (slotOf r) (set .id) (suc (claimVote rule)) (suc (lockVote rule))
+        → told (kindOf rule) (set .id) w t ≡ reportFrame c rule w
+    unfolding contents
+    tells rule e =
+        let there = tellsAt r rule (h .clean) row in
+        (λ i. told (kindOf rule) (set .id) w (e i))
+        ∙ (λ i. told (kindOf rule) (own i .id) w (toldOf (slotOf r) (own i .id) (suc (claimVote rule)) (suc (lockVote rule))))
+        ∙ (λ i. told (kindOf rule) (r .set .id) w (sym there i))
+
+    proofTold : proof ≡ reportFrame c rule3 w
+    proofTold = tells rule3 ep
+
+    suggestTold : suggest ≡ reportFrame c rule1 w
+    suggestTold = tells rule1 es
+
+    module _ (millis to : ℕ) (em : millis ≡ 9 * delayOf (set .class)) (et : to ≡ leaderOf w (set .n)) {viewed proved : List ℕ}
+        (hv : Holds viewed (withView r w)) (hp : Holds proved (keepFrame (decodeRecord viewed) (set .id) proof)) where
+      abbrev heads : List Entry → List Entry
+      heads l = Timer w (9 * delayOf (r .set .class)) ∷ ForAll (reportFrame c rule3 w) ∷ l
+
+      there : Holds proved (enteredBy r w false)
+      there = subst (Holds proved) (λ i. keepFrame (hv .is i) (own i .id) (proofTold i)) hp
+
+      timed : millis ≡ 9 * delayOf (r .set .class)
+      timed = em ∙ ap (λ (s : Settings). 9 * delayOf (s .class)) own
+
+      led : to ≡ leaderOf w (r .set .n)
+      led = et ∙ ap (λ (s : Settings). leaderOf w (s .n)) own
+
+      entered : (b : Bool) → leads c w ≡ b → {left : List ℕ} → Holds left (enteredBy r w b) → (l : Entries)
+          → listOf l ≡ heads (suggestEntry c w b) → Did (taken c (some (enter w))) left l
+      unfolding contents writes
+      entered b lead held l same =
+          didHeld held (ap (λ (x : Bool). contents (enteredBy r w x)) (sym lead) ∙ contentsEnter r w row)
+          (cleanEnter r w (h .clean) row b) (same ∙ ap (λ (x : Bool). heads (suggestEntry c w x)) (sym lead))
+
+      pub didLead : to ≡ set .id → {left : List ℕ} → Holds left (keepFrame (decodeRecord proved) (set .id) suggest)
+          → Did (taken c (some (enter w))) left (Two (Timer w millis) (ForAll proof))
+      unfolding contents
+      didLead mine {left} held =
+          entered true (eq-eqb (leaderOf w (r .set .n)) (r .set .id) (sym led ∙ mine ∙ ap (λ (s : Settings). s .id) own))
+          (subst (Holds left) (λ i. keepFrame (there .is i) (own i .id) (suggestTold i)) held)
+          (Two (Timer w millis) (ForAll proof)) (λ i. Timer w (timed i) ∷ ForAll (proofTold i) ∷ [])
+
+      pub didFollow : (to ≡ set .id → ⊥) → Did (taken c (some (enter w))) proved (Three (Timer w millis) (ForAll proof) (ForOne to suggest))
+      unfolding contents
+      didFollow other =
+          entered false (ne-eqb (leaderOf w (r .set .n)) (r .set .id) (λ e. other (led ∙ e ∙ ap (λ (s : Settings). s .id) (sym own)))) there
+          (Three (Timer w millis) (ForAll proof) (ForOne to suggest))
+          (λ i. Timer w (timed i) ∷ ForAll (proofTold i) ∷ ForOne (led i) (suggestTold i) ∷ [])
+
+-- The act, as the code's match has it.
+pub didAct : (c : Record) (act was : acts.Act) → act ≡ was → {left : List ℕ} {e : Entries} → Did (taken c (asAct was)) left e
+    → Did (taken c (asAct act)) left e
+didAct c act was is {left} {e} = subst (λ (a : acts.Act). Did (taken c (asAct a)) left e) (sym is)
+
+pub votesBy : (act : acts.Act) (k p : ℕ) → act ≡ Cast k p → OfPlan (asAct act) → k ≤ 4
+votesBy act k p is = subst (λ (a : acts.Act). OfPlan (asAct a)) is
+
+-- A and B have nothing to do with plans, and the others nothing with view-changes.
+module _ (act : acts.Act) where
+  pub noCast : {k p : ℕ} → act ≡ Cast k p → OfView (asAct act) → ⊥
+  noCast is = subst (λ (a : acts.Act). OfView (asAct a)) is
+
+  pub noDecide : {p : ℕ} → act ≡ Decide p → OfView (asAct act) → ⊥
+  noDecide is = subst (λ (a : acts.Act). OfView (asAct a)) is
+
+  pub noAsk : {w : ℕ} → act ≡ Ask w → OfPlan (asAct act) → ⊥
+  noAsk is = subst (λ (a : acts.Act). OfPlan (asAct a)) is
+
+  pub noEnter : {w : ℕ} → act ≡ Enter w → OfPlan (asAct act) → ⊥
+  noEnter is = subst (λ (a : acts.Act). OfPlan (asAct a)) is
+
+-- ---- steps
+
+-- The steps of a list do only what they may, so the one of a number does.
+lawAt : {l : List Step} → Sure l → (k : ℕ) → k < length l → Lawful (getD l k (λ c. taken c none))
+lawAt done k low = absurd (omega arith)
+lawAt (and law rest) zero low = law
+lawAt (and law rest) (suc k) low = lawAt rest k (omega arith)
+
+-- The step of a number does the act of that number.
+stepBy : (k : ℕ) (c : Record) → stepAt k c ≡ taken c (actAt k c)
+unfolding actAt stepA stepB stepC stepD stepVote stepH
+stepBy zero c = refl
+stepBy (suc zero) c = refl
+stepBy (suc (suc zero)) c = refl
+stepBy (suc (suc (suc zero))) c = refl
+stepBy (suc (suc (suc (suc zero)))) c = refl
+stepBy (suc (suc (suc (suc (suc zero))))) c = refl
+stepBy (suc (suc (suc (suc (suc (suc zero)))))) c = refl
+stepBy (suc (suc (suc (suc (suc (suc (suc zero))))))) c = refl
+stepBy (suc (suc (suc (suc (suc (suc (suc (suc k)))))))) c = refl
+
+-- H is what is left, where the number is none of the others.
+pub fromE : (k : ℕ) → k ≢ 0 → k ≢ 1 → k ≢ 2 → k ≢ 3 → 4 ≤ k
+fromE k a b c d = omega arith
+
+pub isH : (k : ℕ) → k < 8 → 4 ≤ k → k ≢ 4 → k ≢ 5 → k ≢ 6 → k ≡ 7
+isH k low high e f g = omega arith
+
+pub numbered : {k j : ℕ} (c : Record) → k ≡ j → actAt k c ≡ actAt j c
+numbered c e = ap (λ (i : ℕ). actAt i c) e
+
+pub tookAs : {k j : ℕ} (c : Record) → k ≡ j → {t : by.Record} → Took (stepAt j c) t → Took (stepAt k c) t
+tookAs c e {t} = subst (λ (i : ℕ). Took (stepAt i c) t) (sym e)
+
+pub idleStep : (k : ℕ) (c : Record) → actAt k c ≡ none → stepAt k c ≡ taken c none
+idleStep k c e = stepBy k c ∙ ap (taken c) e
+
+wholeStep : (s : Step) → Lawful s → (c : Record) → Whole c → Whole ((s c) .left)
+wholeStep s law c w = subst (λ (o : Out). Whole (o .left)) (sym (law .does c)) (go (law .act c) refl)
+  where
+    go : (o : Option Act) → law .act c ≡ o → Whole ((taken c o) .left)
+    go none e = w
+    go (some a) e = actWhole w a (law .may c a e)
+
+-- No act changes the settings.
+takenSet : (c : Record) (o : Option Act) → (taken c o) .left .set ≡ c .set
+unfolding does
+takenSet c none = refl
+takenSet c (some (ask w)) = refl
+takenSet c (some (enter w)) = refl
+takenSet c (some (cast k p)) = refl
+takenSet c (some (decide p)) = refl
+
+pub stepSet : (k : ℕ) (c : Record) → (stepAt k c) .left .set ≡ c .set
+stepSet k c = ap (λ (o : Out). o .left .set) (stepBy k c) ∙ takenSet c (actAt k c)
+
+-- Bytes whose contents are sound and have their widths.
+readyDid : {o : Out} {rec : List ℕ} {e : Entries} → Did o rec e → Whole (o .left) → Ready rec
+readyDid did whole =
+    let there : Whole (contentsIn _) = subst Whole (sym (did .left)) whole in
+    record { size = did .size; clean = did .clean; sound = there .sound; ranged = there .ranged }
+
+module _ (k : ℕ) (low : k < 8) (rec : List ℕ) (h : Ready rec) (a : acts.Act) (e : asAct a ≡ actAt k (contentsIn rec)) where
+  same : taken (contentsIn rec) (asAct a) ≡ stepAt k (contentsIn rec)
+  same = ap (taken (contentsIn rec)) e ∙ sym (stepBy k (contentsIn rec))
+
+  -- What a step's act does is what the step does, and leaves a record for the next.
+  pub took : (t : by.Record) → Did (taken (contentsIn rec) (asAct a)) (t .bytes) (t .wrote .entries) → Took (stepAt k (contentsIn rec)) t
+  took t did =
+      let d : Did (stepAt k (contentsIn rec)) (t .bytes) (t .wrote .entries) = subst (λ (o : Out). Did o (t .bytes) (t .wrote .entries)) same did in
+      record {
+        left = d .left;
+        ready = readyDid d (wholeStep (stepAt k) (lawAt sureA k low) (contentsIn rec) (record { sound = h .sound; ranged = h .ranged }));
+        wrote = d .wrote;
+      }
+
+-- ---- what a step may be to do
+
+module _ (c : Record) {a : Act} where
+  abbrev isOne : (may : Option Act → Type 0) {x : Act} → x ≡ a → may (some x) → may (some a)
+  isOne may e = subst (λ (b : Act). may (some b)) e
+
+  planVote : (k : ℕ) → k ≤ 3 → actVote c k ≡ some a → OfPlan (some a)
+  planVote k high e = isOne OfPlan (actIs (agreed c k) (λ p. not (sentNow c (suc k))) (cast (suc k)) e .1) (omega arith)
+
+  viewAt : (k : ℕ) → k < 2 → actAt k c ≡ some a → OfView (some a)
+  unfolding actAt
+  viewAt zero low e = isOne OfView (actIs (highest (asked c isBlocking) (changeOf c) (c .set .n)) (isNews c) ask e .1) tt
+  viewAt (suc zero) low e = isOne OfView (actIs (highest (canEnter c) (changeOf c) (c .set .n)) (λ w. true) enter e .1) tt
+  viewAt (suc (suc k)) low e = absurd (omega arith)
+
+  planAt : (k : ℕ) → 2 ≤ k → actAt k c ≡ some a → OfPlan (some a)
+  unfolding actAt
+  planAt zero high e = absurd (omega arith)
+  planAt (suc zero) high e = absurd (omega arith)
+  planAt (suc (suc zero)) high e = isOne OfPlan (actIs (chosen c) (λ p. true) (cast 0) (whenSome (mayPropose c) _ e .1) .1) (omega arith)
+  planAt (suc (suc (suc zero))) high e = isOne OfPlan (actIs (planNow c 0 (leader c (c .view))) (approves c) (cast 1) e .1) (omega arith)
+  planAt (suc (suc (suc (suc zero)))) high e = planVote 1 (omega arith) e
+  planAt (suc (suc (suc (suc (suc zero))))) high e = planVote 2 (omega arith) e
+  planAt (suc (suc (suc (suc (suc (suc zero)))))) high e = planVote 3 (omega arith) e
+  planAt (suc (suc (suc (suc (suc (suc (suc zero))))))) high e = isOne OfPlan (actIs (agreed c 4) (λ p. isNone (c .decision)) decide e .1) tt
+  planAt (suc (suc (suc (suc (suc (suc (suc (suc k)))))))) high e = absurd (none≢some e)
+
+module _ (k : ℕ) (c : Record) (a : acts.Act) (e : asAct a ≡ actAt k c) where
+  pub ofView : k < 2 → OfView (asAct a)
+  ofView low = go (asAct a) e
+    where
+      go : (o : Option Act) → o ≡ actAt k c → OfView o
+      go none is = tt
+      go (some x) is = viewAt c k low (sym is)
+
+  pub ofPlan : 2 ≤ k → OfPlan (asAct a)
+  ofPlan high = go (asAct a) e
+    where
+      go : (o : Option Act) → o ≡ actAt k c → OfPlan o
+      go none is = tt
+      go (some x) is = planAt c k high (sym is)
+
+-- ---- to ask for a view when the timer says so
+
+-- Whatever later view is asked for, the record stays sound: the view-change is sendable, and nothing else changes.
+askWhole : (c : Record) → Whole c → (w : ℕ) → c .view < w → w < 2 ^ 32 → Whole (does c (ask w))
+unfolding does
+askWhole c whole w later low = record {
+  sound = record {
+    settings = whole .sound .settings;
+    kept = rowsBy whole new (c .kept) here (whole .sound .kept);
+    own = λ k x e other. ⊎-elim (λ (kind, sender, same). absurd (other (sym kind))) (λ was. whole .sound .own k x was other)
+        (keepWas new (c .kept) k (c .set .id) e);
+    previous = λ k has. subst (λ (o : Option Vote). badPrevious (spelt o) (spelt (c .previous k)) ≡ false)
+        (sym (voteKept c (ask w) k (c .set .id) (previousBelow k has) (λ p e. noCast e))) (whole .sound .previous k has);
+  };
+  ranged =
+      let was = whole .ranged in
+      record { start = was .start; view = was .view; previous = was .previous; decision = was .decision };
+}
+  where
+    new : Frame
+    new = record { kind = 6; sender = c .set .id; view = w; body = Empty }
+
+    noCast : {k p : ℕ} → ask w ≡ cast k p → ⊥
+    noCast e = let z : _≡_ {A = ℕ} 0 1 = cc in omega arith
+
+    fine : Sendable (c .set .n) (c .set .id) new
+    fine =
+        let set = whole .sound .settings in
+        changeSendable (c .set .n) (c .set .id) (omega (arith, idBelow (c .set) set, sizeBelow (c .set) set)) w (omega arith) low
+
+    here : InRow (c .set) 6 (c .set .id) new
+    here = record {
+      row = idBelow (c .set) (whole .sound .settings);
+      kind = refl;
+      sender = refl;
+      valid = fine .valid;
+      content = fine .content;
+      leader = fine .leader (λ (e : 6 ≡ 7). absurd (omega arith));
+    }
+
+module _ (rec : List ℕ) (h : Ready rec) (w : ℕ) (later : decodeRecord rec .view < w) (low : w < 2 ^ 32) where
+  pub readyAsk : {left : List ℕ} {e : Entries} → Did (taken (contentsIn rec) (some (ask w))) left e → Ready left
+  unfolding contents
+  readyAsk did = readyDid did (askWhole (contentsIn rec) (record { sound = h .sound; ranged = h .ranged }) w later low)

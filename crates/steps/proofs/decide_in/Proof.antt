@@ -1,0 +1,20 @@
+-- `steps::decide_in` meets its contract: the decision goes into its slot.
+-- Assumes nothing.
+use Rattle.steps.proofs.Steps.{didDecide}
+use borrow.Author.Needs.{needs}
+use Rattle.steps.proofs.decide_in.Statement.{statement}
+use Rattle.steps.proofs.decide_in.Tie as tie
+
+put-slot-requires : tie.Need-put-slot-requires
+put-slot-requires c κs = search needs
+
+same-length : tie.Need-same-length
+same-length c = search needs
+
+returns : tie.Need-returns
+returns c =
+    let s = c .before .before .before .before .before in
+    didDecide _ (s .pre .0) (s .pre .1) (c .before .before .put-slot .ensures)
+
+pub decide-in-spec : {M : Type 1} → statement M
+decide-in-spec = tie.close (tie.spec put-slot-requires same-length returns)
