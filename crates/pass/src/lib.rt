@@ -31,7 +31,9 @@ fn load(rec: &[u8]) -> Record
 {
     let mut bytes = [0; layout::SIZE];
     let count = bytes::copy(&rec[0..layout::SIZE], &mut bytes);
-    let wrote = Wrote { entries: Entries::Zero };
+    let wrote = Wrote {
+        entries: Entries::Zero,
+    };
     Record { bytes, wrote }
 }
 
