@@ -69,7 +69,9 @@ is-of-view-requires c κs =
 
 plan-at-requires : tie.Need-plan-at-requires
 plan-at-requires c κs =
-    let e = c .before .before .before .before .before .before .before .before .before in
+    let midway = c .before .before .before .before .before .before .before .before in
+    let atPlace = midway .before in
+    let e = atPlace in
     let set = seat (e .args .rec .now) (e .args .set) (e .args .view) (e .pre .0) (e .pre .1) (e .pre .2) in
     let size = blockLength (e .args .rec .now) (e .pre .0) in
     omega (arith, size, set .most, c .before .before .before .leader .ensures .1, c .before .before .vote-place .ensures .1)

@@ -44,18 +44,26 @@ is-at-requires-2 c κs = search needs
 
 returns-2 : tie.Need-returns-2
 returns-2 c =
-    let a = c .before .before .before .before .before .before .before .before .before .args in
-    let told = c .before .before .before .before .before .before .before .reported .ensures in
-    let reports = sym told ∙ c .before .before .before .before .before .before .if1 .taken in
-    let few = sym (c .before .before .before .before .is-at .ensures) ∙ c .before .before .before .if2 .left in
+    let atIsAt = c .before .before .before .before in
+    let atIf1 = atIsAt .before .before in
+    let atReported = atIf1 .before in
+    let atEntry = atReported .before .before in
+    let a = atEntry .args in
+    let told = atReported .reported .ensures in
+    let reports = sym told ∙ atIf1 .if1 .taken in
+    let few = sym (atIsAt .is-at .ensures) ∙ c .before .before .before .if2 .left in
     forOne refl refl (claimsOne (a .table .now) (a .r) (a .w) reports few (sym (c .before .is-at2 .ensures) ∙ c .if3 .taken))
 
 returns-3 : tie.Need-returns-3
 returns-3 c =
-    let a = c .before .before .before .before .before .before .before .before .before .args in
-    let told = c .before .before .before .before .before .before .before .reported .ensures in
-    let reports = sym told ∙ c .before .before .before .before .before .before .if1 .taken in
-    let few = sym (c .before .before .before .before .is-at .ensures) ∙ c .before .before .before .if2 .left in
+    let atIsAt = c .before .before .before .before in
+    let atIf1 = atIsAt .before .before in
+    let atReported = atIf1 .before in
+    let atEntry = atReported .before .before in
+    let a = atEntry .args in
+    let told = atReported .reported .ensures in
+    let reports = sym told ∙ atIf1 .if1 .taken in
+    let few = sym (atIsAt .is-at .ensures) ∙ c .before .before .before .if2 .left in
     forNone refl refl (claimsNone (a .table .now) (a .r) (a .w) reports few (sym (c .before .is-at2 .ensures) ∙ c .if3 .left))
 
 returns-4 : tie.Need-returns-4

@@ -65,11 +65,14 @@ add-every c =
 
 add-some : tie.Need-add-some Inv-loop μ-loop
 add-some c =
-    let a = c .before .before .before .before .before .before .before .before .before .args in
-    let at = c .before .before .before .before .before .loop in
+    let atLoop = c .before .before .before .before .before in
+    let atLong = atLoop .before in
+    let atEntry = atLong .before .before .before in
+    let a = atEntry .args in
+    let at = atLoop .loop in
     let add = c .before .before .before .claim-share in
     let x = getD (a .table .now) (column * 2 + at .r) 0 in
-    let view = c .before .before .before .before .before .before .long .result in
+    let view = atLong .long .result in
     let s = add .result in
     let most = shareFits (λ p. reporting (reportsIn (a .table .now)) (claims p view) (at .r)) x (s .every) (s .some) (add .ensures) in
     omega (arith, at .inv .3 .most, most)
@@ -82,10 +85,13 @@ loop-less c = search needs
 
 loop-again : tie.Need-loop-again Inv-loop μ-loop
 loop-again c =
-    let a = c .before .before .before .before .before .before .before .before .before .args in
-    let at = c .before .before .before .before .before .loop in
+    let atLoop = c .before .before .before .before .before in
+    let atLong = atLoop .before in
+    let atEntry = atLong .before .before .before in
+    let a = atEntry .args in
+    let at = atLoop .loop in
     let add = c .before .before .before .claim-share in
-    let view = c .before .before .before .before .before .before .long .result in
+    let view = atLong .long .result in
     let x = getD (a .table .now) (column * 2 + at .r) 0 in
     let low : a .at + at .some < length (at .plans) = omega (arith, at .inv .3 .most) in (
       omega arith,

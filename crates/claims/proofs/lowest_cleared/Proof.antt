@@ -79,17 +79,24 @@ reporters-again c =
 
 views-less : tie.Need-views-less Inv-reporters μ-reporters Inv-views μ-views
 views-less c =
-    let a = c .before .before .before .before .before .before .before .before .before .args in
-    let t = c .before .before .before .before .before .before .highest-to in
-    let last = c .before .before .before .before .before .before .before .views .last in
+    let atHighestTo = c .before .before .before .before .before .before in
+    let atViews = atHighestTo .before in
+    let atEntry = atViews .before .before in
+    let a = atEntry .args in
+    let t = atHighestTo .highest-to in
+    let last = atViews .views .last in
     omega (arith, t .ensures, highestLow (a .spans .now) (a .n) (a .f) last (a .n))
 
 views-again : tie.Need-views-again Inv-reporters μ-reporters Inv-views μ-views
 views-again c =
-    let a = c .before .before .before .before .before .before .before .before .before .args in
-    let t = c .before .before .before .before .before .before .highest-to in
-    let last = c .before .before .before .before .before .before .before .views .last in
-    let at = c .before .before .before .before .reporters in
+    let atReporters = c .before .before .before .before in
+    let atHighestTo = atReporters .before .before in
+    let atViews = atHighestTo .before in
+    let atEntry = atViews .before .before in
+    let a = atEntry .args in
+    let t = atHighestTo .highest-to in
+    let last = atViews .views .last in
+    let at = atReporters .reporters in
     let count = c .before .before .wide in (
       omega (arith, t .ensures, highestLow (a .spans .now) (a .n) (a .f) last (a .n)),
       omega (
@@ -110,13 +117,18 @@ returns c =
 
 returns-2 : tie.Need-returns-2 Inv-reporters μ-reporters Inv-views μ-views
 returns-2 c =
-    let a = c .before .before .before .before .before .before .before .before .before .args in
-    let last = c .before .before .before .before .before .before .before .views in
-    let t = c .before .before .before .before .before .before .highest-to in
-    let at = c .before .before .before .before .reporters in
+    let atReporters = c .before .before .before .before in
+    let atIf1 = atReporters .before in
+    let atHighestTo = atIf1 .before in
+    let atViews = atHighestTo .before in
+    let atEntry = atViews .before .before in
+    let a = atEntry .args in
+    let last = atViews .views in
+    let t = atHighestTo .highest-to in
+    let at = atReporters .reporters in
     let count = c .before .before .wide in
     searchFound (a .spans .now) (a .n) (a .f) (a .v) (last .last) (t .result) (last .inv .0) (last .inv .1) (t .ensures)
-    (c .before .before .before .before .before .if1 .left)
+    (atIf1 .if1 .left)
     (omega (
       arith,
       leb-true (a .f + 1) (count .result) (sym (c .before .is-blocking .ensures) ∙ c .if3 .taken),

@@ -72,9 +72,11 @@ same-requires c κs = search needs
 
 add-claimers : tie.Need-add-claimers Inv-reporters μ-reporters Inv-views μ-views
 add-claimers c =
-    let a = c .before .before .before .before .before .before .before .before .before .before .args in
+    let atPlaceAt = c .before .before .before .before .before in
+    let atEntry = atPlaceAt .before .before .before .before .before in
+    let a = atEntry .args in
     let at = c .before .before .before .reporters in
-    let row = c .before .before .before .before .before .place-at .result in
+    let row = atPlaceAt .place-at .result in
     omega (arith, shareMost (eqb (getD (a .plans .now) (row + at .r) 0) (a .p)) 1 (c .same .result) (c .same .ensures))
 
 add-r : tie.Need-add-r Inv-reporters μ-reporters Inv-views μ-views
@@ -85,10 +87,13 @@ reporters-less c = search needs
 
 reporters-again : tie.Need-reporters-again Inv-reporters μ-reporters Inv-views μ-views
 reporters-again c =
-    let a = c .before .before .before .before .before .before .before .before .before .before .args in
+    let atTallyAt = c .before .before .before .before in
+    let atPlaceAt = atTallyAt .before in
+    let atEntry = atPlaceAt .before .before .before .before .before in
+    let a = atEntry .args in
     let at = c .before .before .before .reporters in
-    let t = c .before .before .before .before .tally-at .result in
-    let row = c .before .before .before .before .before .place-at .result in
+    let t = atTallyAt .tally-at .result in
+    let row = atPlaceAt .place-at .result in
     let most = shareMost (eqb (getD (a .plans .now) (row + at .r) 0) (a .p)) 1 (c .same .result) (c .same .ensures) in (
       omega arith,
       omega (arith, most),
@@ -103,12 +108,17 @@ views-less c = search needs
 
 views-again : tie.Need-views-again Inv-reporters μ-reporters Inv-views μ-views
 views-again c =
-    let a = c .before .before .before .before .before .before .before .before .before .before .args in
+    let atTallyAt = c .before .before .before .before in
+    let atPlaceAt = atTallyAt .before in
+    let atIf1 = atPlaceAt .before in
+    let atViews = atIf1 .before in
+    let atEntry = atViews .before .before .before in
+    let a = atEntry .args in
     let at = c .before .before .before .reporters in
-    let t = c .before .before .before .before .tally-at in
-    let row = c .before .before .before .before .before .place-at in
-    let last = c .before .before .before .before .before .before .before .views in
-    walkOn (a .plans .now) (a .c) (a .low) (a .p) (last .end) _ _ _ _ _ (last .inv) (c .before .before .before .before .before .before .if1 .left) refl
+    let t = atTallyAt .tally-at in
+    let row = atPlaceAt .place-at in
+    let last = atViews .views in
+    walkOn (a .plans .now) (a .c) (a .low) (a .p) (last .end) _ _ _ _ _ (last .inv) (atIf1 .if1 .left) refl
     (row .ensures) (t .ensures) (c .before .before .if2 .taken) (at .inv .2)
     (sym (c .before .is-blocking .ensures) ∙ c .if3 .left)
 
@@ -120,12 +130,17 @@ returns c =
 
 returns-2 : tie.Need-returns-2 Inv-reporters μ-reporters Inv-views μ-views
 returns-2 c =
-    let a = c .before .before .before .before .before .before .before .before .before .before .args in
+    let atTallyAt = c .before .before .before .before in
+    let atPlaceAt = atTallyAt .before in
+    let atIf1 = atPlaceAt .before in
+    let atViews = atIf1 .before in
+    let atEntry = atViews .before .before .before in
+    let a = atEntry .args in
     let at = c .before .before .before .reporters in
-    let t = c .before .before .before .before .tally-at in
-    let row = c .before .before .before .before .before .place-at in
-    let last = c .before .before .before .before .before .before .before .views in
-    walkFound (a .plans .now) (a .c) (a .low) (a .p) (last .end) _ _ _ _ _ (last .inv) (c .before .before .before .before .before .before .if1 .left) refl
+    let t = atTallyAt .tally-at in
+    let row = atPlaceAt .place-at in
+    let last = atViews .views in
+    walkFound (a .plans .now) (a .c) (a .low) (a .p) (last .end) _ _ _ _ _ (last .inv) (atIf1 .if1 .left) refl
     (row .ensures) (t .ensures) (c .before .before .if2 .taken) (at .inv .2)
     (sym (c .before .is-blocking .ensures) ∙ c .if3 .taken)
 

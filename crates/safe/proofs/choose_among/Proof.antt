@@ -33,37 +33,51 @@ safe-one-requires c κs = c .before .before .before .before .prepare .ensures .0
 
 returns-3 : tie.Need-returns-3
 returns-3 c =
-    let a = c .before .before .before .before .before .before .before .before .before .before .before .before .before .args in
+    let atPrepare = c .before .before .before .before .before .before in
+    let atIf3 = atPrepare .before in
+    let atLowestView = atIf3 .before in
+    let atIf2 = atLowestView .before in
+    let atFree = atIf2 .before in
+    let atEntry = atFree .before .before .before in
+    let a = atEntry .args in
     let rs = reportsIn (a .table .now) in
-    let u = c .before .before .before .before .before .before .before .before .lowest-view .result in
+    let u = atLowestView .lowest-view .result in
     let l : Lowest (equals (a .n) (a .f)) rs (a .v) u
     = record {
-      locked = sym (c .before .before .before .before .before .before .before .before .before .before .free .ensures)
-          ∙ c .before .before .before .before .before .before .before .before .before .if2 .left;
-      below = c .before .before .before .before .before .before .before .if3 .taken;
-      is = c .before .before .before .before .before .before .before .before .lowest-view .ensures;
+      locked = sym (atFree .free .ensures)
+          ∙ atIf2 .if2 .left;
+      below = atIf3 .if3 .taken;
+      is = atLowestView .lowest-view .ensures;
     } in
-    let s = c .before .before .before .before .before .before .prepare in
+    let s = atPrepare .prepare in
     let (ready, en, ef, eu, ev) = s .ensures in
     choiceStart _ _ _ _ (oneSame rs (s .result .search) (s .result .plans) ready (a .n) (a .f) u (a .v) en ef eu ev l (a .start) true
     (sym (c .if4 .taken) ∙ c .before .safe-one .ensures))
 
 smallest-safe-requires : tie.Need-smallest-safe-requires
 smallest-safe-requires c κs =
-    let a = c .before .before .before .before .before .before .before .before .before .before .before .before .before .before .before .before .before .args in
+    let atIf4 = c .before .before .before .before in
+    let atSafeOne = atIf4 .before in
+    let atPrepare = atSafeOne .before .before .before .before .before in
+    let atIf3 = atPrepare .before in
+    let atLowestView = atIf3 .before in
+    let atIf2 = atLowestView .before in
+    let atFree = atIf2 .before in
+    let atEntry = atFree .before .before .before in
+    let a = atEntry .args in
     let rs = reportsIn (a .table .now) in
-    let u = c .before .before .before .before .before .before .before .before .before .before .before .before .lowest-view .result in
+    let u = atLowestView .lowest-view .result in
     let l : Lowest (equals (a .n) (a .f)) rs (a .v) u
     = record {
       locked = sym
-          (c .before .before .before .before .before .before .before .before .before .before .before .before .before .before .free .ensures)
-          ∙ c .before .before .before .before .before .before .before .before .before .before .before .before .before .if2 .left;
-      below = c .before .before .before .before .before .before .before .before .before .before .before .if3 .taken;
-      is = c .before .before .before .before .before .before .before .before .before .before .before .before .lowest-view .ensures;
+          (atFree .free .ensures)
+          ∙ atIf2 .if2 .left;
+      below = atIf3 .if3 .taken;
+      is = atLowestView .lowest-view .ensures;
     } in
-    let s = c .before .before .before .before .before .before .before .before .before .before .prepare in
+    let s = atPrepare .prepare in
     let (ready, en, ef, eu, ev) = s .ensures in
-    let never = sym (c .before .before .before .before .before .safe-one .ensures) ∙ c .before .before .before .before .if4 .left in
+    let never = sym (atSafeOne .safe-one .ensures) ∙ atIf4 .if4 .left in
     let low = lowestIn rs (s .result .search) (s .result .plans) ready (a .n) (a .f) u (a .v) en ef eu ev l in (
       ready .laid,
       unsafePasses rs (s .result .search) (s .result .plans) ready low true (a .start) never,
@@ -72,22 +86,31 @@ smallest-safe-requires c κs =
 
 returns-4 : tie.Need-returns-4
 returns-4 c =
-    let entry = c .before .before .before .before .before .before .before .before .before in
-    let a = entry .before .before .before .before .before .before .before .before .before .args in
+    let atIf4 = c .before .before .before .before .before in
+    let atSafeOne = atIf4 .before in
+    let atPlace = atSafeOne .before .before .before in
+    let atPrepare = atPlace .before .before in
+    let atIf3 = atPrepare .before in
+    let atLowestView = atIf3 .before in
+    let atIf2 = atLowestView .before in
+    let atFree = atIf2 .before in
+    let entry = atPlace in
+    let far = entry .before .before .before .before in
+    let a = far .before .before .before .before .before .args in
     let rs = reportsIn (a .table .now) in
-    let u = c .before .before .before .before .before .before .before .before .before .before .before .before .before .lowest-view .result in
+    let u = atLowestView .lowest-view .result in
     let l : Lowest (equals (a .n) (a .f)) rs (a .v) u
     = record {
       locked = sym
-          (c .before .before .before .before .before .before .before .before .before .before .before .before .before .before .before .free .ensures)
-          ∙ c .before .before .before .before .before .before .before .before .before .before .before .before .before .before .if2 .left;
-      below = c .before .before .before .before .before .before .before .before .before .before .before .before .if3 .taken;
-      is = c .before .before .before .before .before .before .before .before .before .before .before .before .before .lowest-view .ensures;
+          (atFree .free .ensures)
+          ∙ atIf2 .if2 .left;
+      below = atIf3 .if3 .taken;
+      is = atLowestView .lowest-view .ensures;
     } in
-    let s = c .before .before .before .before .before .before .before .before .before .before .before .prepare in
+    let s = atPrepare .prepare in
     let (ready, en, ef, eu, ev) = s .ensures in
     choiceSame rs (s .result .search) (s .result .plans) ready (a .n) (a .f) u (a .v) en ef eu ev l (a .start) _
-    (sym (c .before .before .before .before .before .before .safe-one .ensures) ∙ c .before .before .before .before .before .if4 .left)
+    (sym (atSafeOne .safe-one .ensures) ∙ atIf4 .if4 .left)
     (c .smallest-safe .ensures)
 
 returns-5 : tie.Need-returns-5

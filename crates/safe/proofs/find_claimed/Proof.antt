@@ -62,16 +62,25 @@ mul-x : tie.Need-mul-x Inv-loop μ-loop
 mul-x c = omega arith
 
 shared-slice-read-x : tie.Need-shared-slice-read-x Inv-loop μ-loop
-shared-slice-read-x c = omega (arith, c .before .before .before .before .before .before .before .before .before .pre .0 .size)
+shared-slice-read-x c =
+    let midway = c .before .before .before .before .before .before .before .before in
+    let atEntry = midway .before in
+    omega (arith, atEntry .pre .0 .size)
 
 other-claimed-requires : tie.Need-other-claimed-requires Inv-loop μ-loop
-other-claimed-requires c κs = (c .before .before .before .before .before .before .before .before .before .pre .0, c .before .before .loop .inv .1)
+other-claimed-requires c κs =
+    let midway = c .before .before .before .before .before .before .before .before in
+    let atEntry = midway .before in
+    (atEntry .pre .0, c .before .before .loop .inv .1)
 
 returns-2 : tie.Need-returns-2 Inv-loop μ-loop
 returns-2 c =
-    let a = c .before .before .before .before .before .before .before .before .before .before .before .args in
-    let pre = c .before .before .before .before .before .before .before .before .before .before .before .pre in
-    let first = c .before .before .before .before .before .before .before .before .before .first-plan in
+    let midway = c .before .before .before .before .before .before .before .before in
+    let atFirstPlan = midway .before in
+    let atEntry = atFirstPlan .before .before in
+    let a = atEntry .args in
+    let pre = atEntry .pre in
+    let first = atFirstPlan .first-plan in
     foundOther (a .plans .now) (a .c) (a .w) (chosen (a .spare)) (λ x. servedAt (a .plans .now) (a .c) (a .w) x (pre .0 .below) (pre .1) (pre .2) (pre .3))
     (first .result) (first .ensures) _ (sym (c .before .other-claimed .ensures) ∙ c .if2 .taken)
 
@@ -83,9 +92,12 @@ loop-less c = search needs
 
 loop-again : tie.Need-loop-again Inv-loop μ-loop
 loop-again c =
-    let a = c .before .before .before .before .before .before .before .before .before .before .before .args in
-    let at = c .before .before .before .before .loop in
-    let row = c .before .before .before .before .before .before .place-at in
+    let atLoop = c .before .before .before .before in
+    let atPlaceAt = atLoop .before .before in
+    let atEntry = atPlaceAt .before .before .before .before .before in
+    let a = atEntry .args in
+    let at = atLoop .loop in
+    let row = atPlaceAt .place-at in
     let x = getD (a .plans .now) (row .result + at .r) 0 in
     let fails = sym (c .before .other-claimed .ensures) ∙ c .if2 .left in
     let is = ap (λ (o : ℕ). getD (a .plans .now) (o + at .r) 0) (row .ensures) in

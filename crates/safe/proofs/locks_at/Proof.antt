@@ -72,13 +72,16 @@ add-every c =
 
 add-some : tie.Need-add-some Inv-loop μ-loop
 add-some c =
-    let a = c .before .before .before .before .before .before .before .before .before .args in
-    let at = c .before .before .before .before .before .loop in
+    let atLoop = c .before .before .before .before .before in
+    let atLong = atLoop .before in
+    let atEntry = atLong .before .before .before in
+    let a = atEntry .args in
+    let at = atLoop .loop in
     let add = c .before .before .before .allow-share in
     omega (
       arith,
       at .inv .3 .most,
-      shareFits (λ p. reporting (reportsIn (a .table .now)) (allows p (c .before .before .before .before .before .before .long .result)) (at .r))
+      shareFits (λ p. reporting (reportsIn (a .table .now)) (allows p (atLong .long .result)) (at .r))
           (getD (a .table .now) (column * 6 + at .r) 0)
           (add .result .every) (add .result .some) (add .ensures),
     )
@@ -91,10 +94,13 @@ loop-less c = search needs
 
 loop-again : tie.Need-loop-again Inv-loop μ-loop
 loop-again c =
-    let a = c .before .before .before .before .before .before .before .before .before .args in
-    let at = c .before .before .before .before .before .loop in
+    let atLoop = c .before .before .before .before .before in
+    let atLong = atLoop .before in
+    let atEntry = atLong .before .before .before in
+    let a = atEntry .args in
+    let at = atLoop .loop in
     let add = c .before .before .before .allow-share in
-    let view = c .before .before .before .before .before .before .long .result in
+    let view = atLong .long .result in
     let x = getD (a .table .now) (column * 6 + at .r) 0 in
     let low : lockRow + at .some < length (at .plans) = omega (arith, at .inv .3 .most) in (
       omega arith,

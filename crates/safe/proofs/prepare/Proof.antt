@@ -31,10 +31,13 @@ locks-at-requires c κs = search needs
 
 returns : tie.Need-returns
 returns c =
-    let a = c .before .before .before .before .before .before .before .before .before .before .args in
-    let pre = c .before .before .before .before .before .before .before .before .before .before .pre in
-    let here = c .before .before .before .before .before .before .before .claims-at .ensures in
-    let next = c .before .before .before .before .claims-at2 .ensures in
+    let atClaimsAt2 = c .before .before .before .before in
+    let atClaimsAt = atClaimsAt2 .before .before .before in
+    let atEntry = atClaimsAt .before .before .before in
+    let a = atEntry .args in
+    let pre = atEntry .pre in
+    let here = atClaimsAt .claims-at .ensures in
+    let next = atClaimsAt2 .claims-at2 .ensures in
     let locks = c .before .locks-at .ensures in (
       prepares (reportsIn (a .table .now)) _ _ _ _ (pre .1) (pre .2) (pre .3) (locks .0) (here .2) (next .1) (next .2) (locks .1)
           (locks .2),

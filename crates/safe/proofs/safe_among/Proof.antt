@@ -31,37 +31,50 @@ prepare-requires c κs = search needs
 
 safe-three-requires : tie.Need-safe-three-requires
 safe-three-requires c κs =
-    let a = c .before .before .before .before .before .before .before .before .before .before .before .before .args in
+    let atPrepare = c .before .before .before .before .before in
+    let atIf3 = atPrepare .before in
+    let atLowestView = atIf3 .before in
+    let atIf2 = atLowestView .before in
+    let atFree = atIf2 .before in
+    let atEntry = atFree .before .before .before in
+    let a = atEntry .args in
     let rs = reportsIn (a .table .now) in
-    let u = c .before .before .before .before .before .before .before .lowest-view .result in
+    let u = atLowestView .lowest-view .result in
     let l : Lowest (equals (a .n) (a .f)) rs (a .v) u
     = record {
-      locked = sym (c .before .before .before .before .before .before .before .before .before .free .ensures)
-          ∙ c .before .before .before .before .before .before .before .before .if2 .left;
-      below = c .before .before .before .before .before .before .if3 .taken;
-      is = c .before .before .before .before .before .before .before .lowest-view .ensures;
+      locked = sym (atFree .free .ensures)
+          ∙ atIf2 .if2 .left;
+      below = atIf3 .if3 .taken;
+      is = atLowestView .lowest-view .ensures;
     } in
-    let s = c .before .before .before .before .before .prepare in
+    let s = atPrepare .prepare in
     let (ready, en, ef, eu, ev) = s .ensures in
-    let pre = c .before .before .before .before .before .before .before .before .before .before .before .before .pre in
+    let pre = atEntry .pre in
     let most : s .result .search .n ≤ column = omega (arith, en, pre .1) in
     (pre .0, most, ready, lowestIn rs (s .result .search) (s .result .plans) ready (a .n) (a .f) u (a .v) en ef eu ev l)
 
 returns-3 : tie.Need-returns-3
 returns-3 c =
-    let a = c .before .before .before .before .before .before .before .before .before .before .before .before .before .args in
+    let atIf4 = c .before .before .before .before .before in
+    let atPrepare = atIf4 .before in
+    let atIf3 = atPrepare .before in
+    let atLowestView = atIf3 .before in
+    let atIf2 = atLowestView .before in
+    let atFree = atIf2 .before in
+    let atEntry = atFree .before .before .before in
+    let a = atEntry .args in
     let rs = reportsIn (a .table .now) in
-    let u = c .before .before .before .before .before .before .before .before .lowest-view .result in
+    let u = atLowestView .lowest-view .result in
     let l : Lowest (equals (a .n) (a .f)) rs (a .v) u
     = record {
-      locked = sym (c .before .before .before .before .before .before .before .before .before .before .free .ensures)
-          ∙ c .before .before .before .before .before .before .before .before .before .if2 .left;
-      below = c .before .before .before .before .before .before .before .if3 .taken;
-      is = c .before .before .before .before .before .before .before .before .lowest-view .ensures;
+      locked = sym (atFree .free .ensures)
+          ∙ atIf2 .if2 .left;
+      below = atIf3 .if3 .taken;
+      is = atLowestView .lowest-view .ensures;
     } in
-    let s = c .before .before .before .before .before .before .prepare in
+    let s = atPrepare .prepare in
     let (ready, en, ef, eu, ev) = s .ensures in
-    byRule _ _ _ _ _ true _ (c .before .before .before .before .before .if4 .taken)
+    byRule _ _ _ _ _ true _ (atIf4 .if4 .taken)
     (threeSame rs (s .result .search) (s .result .plans) ready (a .n) (a .f) u (a .v) en ef eu ev l (a .p) _ (c .safe-three .ensures))
 
 safe-one-requires : tie.Need-safe-one-requires
@@ -69,19 +82,26 @@ safe-one-requires c κs = c .before .before .before .before .before .prepare .en
 
 returns-4 : tie.Need-returns-4
 returns-4 c =
-    let a = c .before .before .before .before .before .before .before .before .before .before .before .before .before .args in
+    let atIf4 = c .before .before .before .before .before in
+    let atPrepare = atIf4 .before in
+    let atIf3 = atPrepare .before in
+    let atLowestView = atIf3 .before in
+    let atIf2 = atLowestView .before in
+    let atFree = atIf2 .before in
+    let atEntry = atFree .before .before .before in
+    let a = atEntry .args in
     let rs = reportsIn (a .table .now) in
-    let u = c .before .before .before .before .before .before .before .before .lowest-view .result in
+    let u = atLowestView .lowest-view .result in
     let l : Lowest (equals (a .n) (a .f)) rs (a .v) u
     = record {
-      locked = sym (c .before .before .before .before .before .before .before .before .before .before .free .ensures)
-          ∙ c .before .before .before .before .before .before .before .before .before .if2 .left;
-      below = c .before .before .before .before .before .before .before .if3 .taken;
-      is = c .before .before .before .before .before .before .before .before .lowest-view .ensures;
+      locked = sym (atFree .free .ensures)
+          ∙ atIf2 .if2 .left;
+      below = atIf3 .if3 .taken;
+      is = atLowestView .lowest-view .ensures;
     } in
-    let s = c .before .before .before .before .before .before .prepare in
+    let s = atPrepare .prepare in
     let (ready, en, ef, eu, ev) = s .ensures in
-    byRule _ _ _ _ _ false _ (c .before .before .before .before .before .if4 .left)
+    byRule _ _ _ _ _ false _ (atIf4 .if4 .left)
     (oneSame rs (s .result .search) (s .result .plans) ready (a .n) (a .f) u (a .v) en ef eu ev l (a .p) _ (c .safe-one .ensures))
 
 returns-5 : tie.Need-returns-5

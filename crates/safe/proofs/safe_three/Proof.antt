@@ -26,33 +26,43 @@ allowed-requires c κs = c .before .before .before .before .before .before .befo
 
 two-sets-requires : tie.Need-two-sets-requires
 two-sets-requires c κs =
-    let a = c .before .before .before .before .before .before .before .before .before .args in
+    let midway = c .before .before .before .before .before .before .before .before in
+    let atEntry = midway .before in
+    let a = atEntry .args in
     let rs = reportsIn (a .table .now) in
-    let pre = c .before .before .before .before .before .before .before .before .before .pre in
+    let pre = atEntry .pre in
     (pre .2 .laid, falling rs (a .c) (a .plans .now) (pre .2), c .before .before .if2 .taken)
 
 returns-2 : tie.Need-returns-2
 returns-2 c =
-    let a = c .before .before .before .before .before .before .before .before .before .before .args in
+    let atIf1 = c .before .before .before .before .before .before in
+    let atSafeOne = atIf1 .before in
+    let atEntry = atSafeOne .before .before .before in
+    let a = atEntry .args in
     let rs = reportsIn (a .table .now) in
-    let pre = c .before .before .before .before .before .before .before .before .before .before .pre in
-    threeFirst rs (a .c) (a .plans .now) (pre .2) (pre .3) (a .p) (sym (c .before .before .before .before .before .before .before .safe-one .ensures)
-    ∙ c .before .before .before .before .before .before .if1 .left) _
+    let pre = atEntry .pre in
+    threeFirst rs (a .c) (a .plans .now) (pre .2) (pre .3) (a .p) (sym (atSafeOne .safe-one .ensures)
+    ∙ atIf1 .if1 .left) _
     (sym (c .before .before .allowed .ensures) ∙ c .before .if3 .taken)
     (pairTwo rs (a .c) (a .plans .now) (pre .2) _ (c .before .before .before .if2 .taken) (c .two-sets .ensures))
 
 two-sets-after-requires : tie.Need-two-sets-after-requires
 two-sets-after-requires c κs =
-    let pre = c .before .before .before .before .before .before .before .before .before .pre in
+    let midway = c .before .before .before .before .before .before .before .before in
+    let atEntry = midway .before in
+    let pre = atEntry .pre in
     (pre .0, pre .1, pre .2 .laid .few, c .before .before .if2 .taken)
 
 returns-3 : tie.Need-returns-3
 returns-3 c =
-    let a = c .before .before .before .before .before .before .before .before .before .before .args in
+    let atIf1 = c .before .before .before .before .before .before in
+    let atSafeOne = atIf1 .before in
+    let atEntry = atSafeOne .before .before .before in
+    let a = atEntry .args in
     let rs = reportsIn (a .table .now) in
-    let pre = c .before .before .before .before .before .before .before .before .before .before .pre in
-    threeNext rs (a .c) (a .plans .now) (pre .2) (pre .3) (a .p) (sym (c .before .before .before .before .before .before .before .safe-one .ensures)
-    ∙ c .before .before .before .before .before .before .if1 .left) _
+    let pre = atEntry .pre in
+    threeNext rs (a .c) (a .plans .now) (pre .2) (pre .3) (a .p) (sym (atSafeOne .safe-one .ensures)
+    ∙ atIf1 .if1 .left) _
     (sym (c .before .before .allowed .ensures) ∙ c .before .if3 .left) (c .before .before .before .if2 .taken) (c .two-sets-after .ensures)
 
 returns-4 : tie.Need-returns-4

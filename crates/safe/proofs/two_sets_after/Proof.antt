@@ -23,20 +23,26 @@ prepare-requires c κs = search needs
 
 two-sets-requires : tie.Need-two-sets-requires
 two-sets-requires c κs =
-    let s = c .before .before .before .before .prepare in
+    let atPrepare = c .before .before .before .before in
+    let atIf1 = atPrepare .before in
+    let atEntry = atIf1 .before .before .before .before in
+    let s = atPrepare .prepare in
     let ready = s .ensures .0 in (
       ready .laid,
-      falling (reportsIn (c .before .before .before .before .before .before .before .before .before .args .table .now)) (s .result .search)
+      falling (reportsIn (atEntry .args .table .now)) (s .result .search)
           (s .result .plans) ready,
-      omega (arith, s .ensures .3, s .ensures .4, c .before .before .before .before .before .if1 .taken),
+      omega (arith, s .ensures .3, s .ensures .4, atIf1 .if1 .taken),
     )
 
 returns : tie.Need-returns
 returns c =
-    let a = c .before .before .before .before .before .before .before .before .before .before .args in
-    let s = c .before .before .before .before .before .prepare in
+    let atPrepare = c .before .before .before .before .before in
+    let atIf1 = atPrepare .before in
+    let atEntry = atIf1 .before .before .before .before in
+    let a = atEntry .args in
+    let s = atPrepare .prepare in
     pairSame (reportsIn (a .table .now)) (s .result .search) (s .result .plans) (s .ensures .0) _ (a .c .n) (a .c .f) (a .c .u + 1) (a .c .v)
-    (s .ensures .1) (s .ensures .2) (s .ensures .3) (s .ensures .4) (c .before .before .before .before .before .before .if1 .taken) (c .two-sets .ensures)
+    (s .ensures .1) (s .ensures .2) (s .ensures .3) (s .ensures .4) (atIf1 .if1 .taken) (c .two-sets .ensures)
 
 returns-2 : tie.Need-returns-2
 returns-2 c =

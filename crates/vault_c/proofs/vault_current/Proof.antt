@@ -36,7 +36,8 @@ returns-2 : tie.Need-returns-2
 returns-2 c =
     let b = c .before .before .before in
     let out = now (b .before .before .before .before .args .out) in
-    current-told out _ _ _ (b .before .if1 .left) (sym (c .before .current .given .1) ∙ b .current-of .ensures) (ap (told 256) (two-set out _ _ (b .before .if1 .left)))
+    current-told out _ _ _ (b .before .if1 .left) (sym (c .before .current .given .1) ∙ b .current-of .ensures)
+    (ap (told 256) (two-set out _ _ (b .before .if1 .left)))
 
 returns-3 : tie.Need-returns-3
 returns-3 c =

@@ -42,7 +42,8 @@ returns-2 : tie.Need-returns-2
 returns-2 c =
     let b = c .before .before .before in
     let out = now (b .before .before .before .before .args .out) in
-    decision-told out _ _ _ (b .before .if1 .left) (sym (c .before .decision .given .1) ∙ b .decision-of .ensures) (ap (told 257) (two-set out _ _ (b .before .if1 .left)))
+    decision-told out _ _ _ (b .before .if1 .left) (sym (c .before .decision .given .1) ∙ b .decision-of .ensures)
+    (ap (told 257) (two-set out _ _ (b .before .if1 .left)))
 
 returns-3 : tie.Need-returns-3
 returns-3 c =

@@ -9,7 +9,8 @@ frame-requires : tie.Need-frame-requires
 frame-requires c κs = search needs
 
 number-requires : tie.Need-number-requires
-number-requires c κs = short-by (c .before .before .before .before .frame .result) _ _ _ (c .before .before .before .before .frame .ensures) (small-frame _ _ _ _)
+number-requires c κs =
+    short-by (c .before .before .before .before .frame .result) _ _ _ (c .before .before .before .before .frame .ensures) (small-frame _ _ _ _)
 
 same-length : tie.Need-same-length
 same-length c = search needs
@@ -18,7 +19,8 @@ same-length-2 : tie.Need-same-length-2
 same-length-2 c = search needs
 
 returns : tie.Need-returns
-returns c = seen-by _ (c .before .before .before .before .before .frame .result) _ _ _ (c .number .ensures) (c .before .before .before .before .before .frame .ensures)
+returns c =
+    seen-by _ (c .before .before .before .before .before .frame .result) _ _ _ (c .number .ensures) (c .before .before .before .before .before .frame .ensures)
 
 pub vault-frame-spec : {M : Type 1} → statement M
 vault-frame-spec =

@@ -10,7 +10,8 @@ refusal-text-requires : tie.Need-refusal-text-requires
 refusal-text-requires c κs = search needs
 
 cast-result : tie.Need-cast-result
-cast-result c = omega (arith, short-written _ _ _ _ (shortTexts (c .before .before .before .before .before .args .number)) (c .before .before .refusal-text .ensures))
+cast-result c =
+    omega (arith, short-written _ _ _ _ (shortTexts (c .before .before .before .before .before .args .number)) (c .before .before .refusal-text .ensures))
 
 same-length : tie.Need-same-length
 same-length c = search needs

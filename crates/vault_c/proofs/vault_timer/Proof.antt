@@ -18,7 +18,8 @@ same-length-2 : tie.Need-same-length-2
 same-length-2 c = search needs
 
 returns : tie.Need-returns
-returns c = seen-by _ (c .before .before .before .before .before .timer .result) _ _ _ (c .number .ensures) (c .before .before .before .before .before .timer .ensures)
+returns c =
+    seen-by _ (c .before .before .before .before .before .timer .result) _ _ _ (c .number .ensures) (c .before .before .before .before .before .timer .ensures)
 
 pub vault-timer-spec : {M : Type 1} → statement M
 vault-timer-spec =
