@@ -76,13 +76,6 @@ onlySpelling s link n own f b e =
     let p = passed s link n own f e in
     sym (spelling.respell s b (formed s (p .form))) ∙ ap encode (p .said)
 
--- Two accepted strings of bytes with the same frame are equal, whoever read them.
-pub same-bytes : (s t : List ℕ) (link n own link′ n′ own′ : ℕ) (f : Frame) → Bytes s → Bytes t
-    → readFrame s link n own ≡ Accepted f
-    → readFrame t link′ n′ own′ ≡ Accepted f
-    → s ≡ t
-same-bytes s t link n own link′ n′ own′ f b b′ e e′ = onlySpelling s link n own f b e ∙ sym (onlySpelling t link′ n′ own′ f b′ e′)
-
 -- An accepted frame can be written: its body is one of its kind, and its fields fit.
 pub accepted-valid : (s : List ℕ) (link n own : ℕ) (f : Frame) → Bytes s → readFrame s link n own ≡ Accepted f → Valid f
 accepted-valid s link n own f b e =

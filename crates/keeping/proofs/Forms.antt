@@ -66,14 +66,6 @@ module _ (r : Record) (sender : ℕ) (f : Frame) where
   unfolding keepFrame
   keepBody e = λ i. withBody (withSlot r (frameSlot (f .kind) sender) (record { mark = 1; view = f .view; plan = planOf (e i) })) (f .kind) sender (e i)
 
-  pub keepPlan : {p : ℕ} → f .body ≡ Plan p
-      → keepFrame r sender f ≡ withSlot r (frameSlot (f .kind) sender) (record { mark = 1; view = f .view; plan = p })
-  keepPlan e = keepBody e
-
-  pub keepBare : f .body ≡ Empty
-      → keepFrame r sender f ≡ withSlot r (frameSlot (f .kind) sender) (record { mark = 1; view = f .view; plan = 0 })
-  keepBare e = keepBody e
-
   pub keepTold : {t : Reports} → f .body ≡ Told t
       → keepFrame r sender f
       ≡ withReports (withSlot r (frameSlot (f .kind) sender) (record { mark = 1; view = f .view; plan = 0 })) (f .kind) sender t

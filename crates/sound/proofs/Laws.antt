@@ -46,10 +46,6 @@ and-true : (b : Bool) → (b && true) ≡ b
 and-true true = refl
 and-true false = refl
 
-pub stands-absent : (highest previous : Report) → (previous .mark ≡ 1 → ⊥) → stands highest previous ≡ absent previous
-unfolding stands badPrevious
-stands-absent highest previous h = rw (formed-other previous h, ne-eqb (previous .mark) 1 h) (and-true (absent previous))
-
 -- ---- conjunctions
 
 module _ (slots : ℕ → Report) (kind sender : ℕ) where
@@ -83,15 +79,6 @@ module _ (set : Settings) (view : ℕ) (f : Frame) where
   pub frame-row : set .n ≤ f .sender → frameSound set view f ≡ false
   unfolding frameSound
   frame-row h = rw (le-ltb (f .sender) (set .n) h)
-
-  pub frame-ahead : f .sender < set .n → ahead set view f ≡ true → frameSound set view f ≡ false
-  unfolding frameSound
-  frame-ahead h a = rw (lt-ltb (f .sender) (set .n) h, a)
-
-  pub frame-rows : f .sender < set .n → ahead set view f ≡ false
-      → frameSound set view f ≡ eqb (first (contentRows f ++ leaderRows f (set .n) (set .id))) 0
-  unfolding frameSound
-  frame-rows h a = rw (lt-ltb (f .sender) (set .n) h, a)
 
 module _ (slots : ℕ → Report) (set : Settings) (view kind sender : ℕ) where
   pub place-empty : (slots (frameSlot kind sender) .mark ≡ 1 → ⊥) → placeSound slots set view kind sender ≡ emptyAt slots kind sender
