@@ -3,77 +3,83 @@ use crate::frames::frame_in;
 use crate::frames::say_frame;
 use crate::frames::say_kind;
 use crate::words::say;
-use crate::words::say_byte;
-use crate::words::say_number;
+use crate::words::tell;
 use crate::words::wide;
 use crate::words::wider;
 use frame::Reading;
 
-pub(crate) const START: u8 = 0;
+const START: u8 = 0;
 
-pub(crate) const TIMER: u8 = 9;
+const TIMER: u8 = 9;
 
 pub(crate) const START_LENGTH: usize = 13;
 
 pub(crate) const TIMER_LENGTH: usize = 5;
 
-// Where a line has another length than its kind.
-fn say_length(count: usize, wanted: usize) {
-    say_number(b" of ", count as u64);
-    say_number(b" bytes; it has to have ", wanted as u64);
-    say(b"\n");
-}
-
-fn say_settings(n: u8, f: u8, id: u8, class: u8) {
-    say_number(b"    start: ", wide(n));
-    say_number(b" vaults of which ", wide(f));
-    say_number(b" may lie, this one is vault ", wide(id));
-    say_number(b", link class ", wide(class));
-}
-
 fn say_start(s: &[u8]) {
     if s.len() != START_LENGTH {
-        say(b"    a start");
-        say_length(s.len(), START_LENGTH);
+        tell(
+            b"    a start of {0} bytes; it has to have 13\n",
+            &[s.len() as u64],
+        );
         return;
     }
-    say_settings(s[1], s[2], s[3], s[4]);
-    say_number(b", starting plan ", wire::number64(s, 5));
-    say(b"\n");
+    tell(
+        b"    start: {0} vaults of which {1} may lie, this one is vault {2}, link class {3}, starting plan {4}\n",
+        &[
+            wide(s[1]),
+            wide(s[2]),
+            wide(s[3]),
+            wide(s[4]),
+            wire::number64(s, 5),
+        ],
+    );
 }
 
 fn say_timer(s: &[u8]) {
     if s.len() != TIMER_LENGTH {
-        say(b"    a timer");
-        say_length(s.len(), TIMER_LENGTH);
+        tell(
+            b"    a timer of {0} bytes; it has to have 5\n",
+            &[s.len() as u64],
+        );
         return;
     }
-    say_number(b"    the timer of view ", wider(wire::number32(s, 1)));
-    say(b" ran out\n");
+    tell(
+        b"    the timer of view {0} ran out\n",
+        &[wider(wire::number32(s, 1))],
+    );
 }
 
+// A frame that gives 9 or 10.
 fn say_malformed(s: &[u8]) {
     if s.len() == 0 {
-        say(b"    an empty line: an empty frame\n");
+        say(b"    an empty frame\n");
         return;
     }
-    let size = frame::length_of(s[0]);
+    let kind = s[0];
+    let size = frame::length_of(kind);
     if size == 0 {
-        say_byte(b"    there is no kind ", s[0]);
-        say(b"\n");
+        tell(
+            b"    a frame of kind {0}, which there is not\n",
+            &[wide(kind)],
+        );
         return;
     }
     say(b"    a ");
-    say_kind(s[0]);
-    say_length(s.len(), size);
+    say_kind(kind);
+    tell(
+        b" of {0} bytes; it has to have {1}\n",
+        &[s.len() as u64, size as u64],
+    );
 }
 
-fn say_came(s: &[u8]) {
-    let Reading::Accepted(f) = frame_in(s) else {
+fn say_received(s: &[u8]) {
+    let reading = frame_in(s);
+    let Reading::Accepted(f) = reading else {
         say_malformed(s);
         return;
     };
-    say(b"    came: ");
+    say(b"    received: ");
     say_frame(f);
 }
 
@@ -85,6 +91,6 @@ pub(crate) fn say_given(s: &[u8]) {
     match s[0] {
         START => say_start(s),
         TIMER => say_timer(s),
-        _ => say_came(s),
+        _ => say_received(s),
     }
 }

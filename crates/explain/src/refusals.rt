@@ -1,124 +1,60 @@
 // Refusals: their sentences, and the part at fault of the line that was given.
 ghost use Prim.Native.Nat.{_≤_};
 use crate::frames::frame_in;
-use crate::frames::lock_of;
-use crate::frames::say_kind;
-use crate::frames::vote_of;
 use crate::given::START_LENGTH;
 use crate::given::TIMER_LENGTH;
 use crate::text::Line;
 use crate::text::say_digits;
-use crate::text::say_writing;
+use crate::text::say_sorts;
 use crate::words::say;
-use crate::words::say_byte;
-use crate::words::say_number;
+use crate::words::tell;
+use crate::words::tell_nth;
 use crate::words::wide;
 use crate::words::wider;
 use frame::Body;
-use frame::Frame;
 use frame::Reading;
 use frame::Report;
 use frame::Reports;
+
+const BAD_REPORT: u8 = 14;
 
 const BAD_LINE: u8 = 20;
 
 // ---- sentences
 
-// Refusals 1 to 8: on the way in, and start.
-fn say_early(number: u8) {
-    match number {
-        1 => say(b"the host lent less than 256 bytes for the output"),
-        2 => say(b"this vault was not started yet"),
-        3 => say(b"the stored record is damaged, or of another program"),
-        4 => say(b"this vault was started before, or its record is damaged"),
-        5 => say(b"there are 4 to 64 vaults"),
-        6 => say(b"f is at least 1, and three times f is less than n"),
-        7 => say(b"the vault's number must be below n"),
-        8 => say(b"the link class is 0 to 7"),
-        _ => say(b"there is no refusal of this number"),
-    }
-}
-
-// Refusals 9 to 20: frames, timers and lines.
-fn say_late(number: u8) {
-    match number {
-        9 => say(b"empty, or no known kind"),
-        10 => say(b"the length does not fit the kind"),
-        11 => say(b"the sender is no vault of this practice, or this vault itself"),
-        12 => say(b"the frame names another sender than the link it came by"),
-        13 => say(b"a view-change, suggest or proof for view 0"),
-        14 => say(b"a report in it contradicts itself"),
-        15 => say(
-            b"a proposal from a vault that does not lead the view, or a suggest that is not for this vault",
-        ),
-        16 => say(b"its view is over"),
-        17 => say(b"the same, or a newer one of this kind, came from this sender already"),
-        18 => say(b"a timer of another view than the current one"),
-        19 => say(b"the last view of all is reached"),
-        20 => say(b"no even count of lower-case digits, or more than 90"),
-        _ => say_early(number),
-    }
-}
-
-// ---- parts at fault
-
-fn say_part(words: &[u8], n: u64) {
-    say(b"        at fault: ");
-    say_number(words, n);
-    say(b"\n");
-}
-
-fn say_two_parts(first: &[u8], a: u64, second: &[u8], b: u64) {
-    say(b"        at fault: ");
-    say_number(first, a);
-    say_number(second, b);
-    say(b"\n");
-}
-
-fn start_fault(number: u8, s: &[u8]) {
-    if s.len() != START_LENGTH {
-        return;
-    }
-    let n = wide(s[1]);
-    match number {
-        5 => say_part(b"n, byte 1: ", n),
-        6 => say_two_parts(b"f, byte 2: ", wide(s[2]), b", with n, byte 1: ", n),
-        7 => say_two_parts(
-            b"the vault's number, byte 3: ",
-            wide(s[3]),
-            b", with n, byte 1: ",
-            n,
-        ),
-        8 => say_part(b"the link class, byte 4: ", wide(s[4])),
-        _ => (),
-    }
-}
-
-fn timer_fault(s: &[u8]) {
-    if s.len() != TIMER_LENGTH {
-        return;
-    }
-    say_part(b"the view, bytes 1 to 4: ", wider(wire::number32(s, 1)));
-}
-
-fn length_fault(s: &[u8]) {
-    say_part(b"the length in bytes: ", s.len() as u64);
-}
-
-fn kind_fault(s: &[u8]) {
-    if s.len() == 0 {
-        say(b"        at fault: the line is empty\n");
-        return;
-    }
-    say_byte(b"        at fault: the kind, byte 0: ", s[0]);
-    say(b"\n");
+fn say_reason(number: u8) {
+    tell_nth(
+        b"no refusal has this number\n\
+        the host lent less than 256 bytes for the output\n\
+        this vault was not started yet\n\
+        the stored record is damaged, or of another program\n\
+        this vault was started before, or its record is damaged\n\
+        there are 4 to 64 vaults\n\
+        f is at least 1, and three times f is less than n\n\
+        the vault's number must be below n\n\
+        the link class is 0 to 7\n\
+        empty, or no known kind\n\
+        the length does not fit the kind\n\
+        the sender is no vault of this practice, or this vault itself\n\
+        the frame names another sender than the link it came by\n\
+        a view-change, suggest or proof for view 0\n\
+        a report in it contradicts itself\n\
+        a proposal from a vault that does not lead the view, or a suggest that is not for this vault\n\
+        its view is over\n\
+        the same, or a newer one of this kind, came from this sender already\n\
+        a timer of another view than the current one\n\
+        the last view of all is reached\n\
+        no even count of lower-case digits, or more than 90",
+        number,
+        &[],
+    );
 }
 
 // ---- reports at fault
 
-// What is wrong with a report of a frame for a view: 0 is nothing.
-fn form_fault(view: u32, r: Report) -> u8
-    ensures { λ w. ⌜ w ≤ 3 ⌝ }
+// What is wrong with a report of a frame for a view; 0 is nothing.
+fn fault_of(view: u32, r: Report) -> u8
+    ensures { λ why. ⌜ why ≤ 3 ⌝ }
 {
     if 1 < r.mark {
         return 1;
@@ -138,9 +74,9 @@ fn form_fault(view: u32, r: Report) -> u8
     0
 }
 
-// What is wrong with a previous vote beside the highest: 0 is nothing.
+// What is wrong with a previous vote beside the highest; 0 is nothing.
 fn previous_fault(highest: Report, previous: Report) -> u8
-    ensures { λ w. ⌜ w ≤ 6 ⌝ }
+    ensures { λ why. ⌜ why ≤ 6 ⌝ }
 {
     if previous.mark != 1 {
         return 0;
@@ -157,128 +93,155 @@ fn previous_fault(highest: Report, previous: Report) -> u8
     0
 }
 
-fn say_wrong(why: u8) {
-    match why {
-        1 => say(b": its mark is neither 0 nor 1\n"),
-        2 => say(b": it is absent, and not all of it is 0\n"),
-        3 => say(b": its view is not below the frame's\n"),
-        4 => say(b": there is no highest one\n"),
-        5 => say(b": its view is not below the highest one's\n"),
-        _ => say(b": it is for the highest one's plan\n"),
-    }
-}
-
-fn report_fault(name: &[u8], vote: u8, why: u8) {
+fn say_fault(name: &[u8], why: u8) {
     if why == 0 {
         return;
     }
-    say_number(name, wide(vote));
-    say_wrong(why);
+    say(name);
+    tell_nth(
+        b"\n\
+        its mark is neither 0 nor 1\n\
+        it is absent, and not all of it is 0\n\
+        its view is not below the frame's\n\
+        there is no highest vote\n\
+        its view is not below the highest vote's\n\
+        it is for the highest vote's plan",
+        why,
+        &[],
+    );
+    say(b"\n");
 }
 
-fn reports_fault(kind: u8, view: u32, r: Reports) {
+fn say_report_faults(view: u32, r: Reports) {
     let highest = r.highest;
     let previous = r.previous;
     let lock = r.lock;
-    let vote = vote_of(kind);
-    report_fault(
-        b"        at fault: highest vote-",
-        vote,
-        form_fault(view, highest),
+    say_fault(
+        b"        at fault, the first report: ",
+        fault_of(view, highest),
     );
-    report_fault(
-        b"        at fault: previous vote-",
-        vote,
-        form_fault(view, previous),
+    say_fault(
+        b"        at fault, the second report: ",
+        fault_of(view, previous),
     );
-    report_fault(
-        b"        at fault: previous vote-",
-        vote,
+    say_fault(
+        b"        at fault, the second report: ",
         previous_fault(highest, previous),
     );
-    report_fault(
-        b"        at fault: highest vote-",
-        lock_of(kind),
-        form_fault(view, lock),
+    say_fault(
+        b"        at fault, the third report: ",
+        fault_of(view, lock),
     );
 }
 
-// ---- frames at fault
-
-fn body_fault(f: Frame) {
+fn say_reports_at_fault(s: &[u8]) {
+    let reading = frame_in(s);
+    let Reading::Accepted(f) = reading else {
+        return;
+    };
     let body = f.body;
     let Body::Told(r) = body else {
         return;
     };
-    reports_fault(f.kind, f.view, r);
+    say_report_faults(f.view, r);
 }
 
-// A frame that was refused for what came before it: what it says of itself.
-fn say_repeat(f: Frame) {
-    say(b"        at fault: a ");
-    say_kind(f.kind);
-    say_number(b" of vault ", wide(f.sender));
-    say_number(b" for view ", wider(f.view));
-    say(b" or a later one came before\n");
+// ---- parts at fault
+
+// A byte of a line; 0 where there is none.
+fn byte_at(s: &[u8], at: usize) -> u64
+    ensures { λ r. ⌜ r ≤ 255 ⌝ }
+{
+    if at < s.len() {
+        return wide(s[at]);
+    }
+    0
 }
 
-fn sender_and_view(f: Frame) {
-    say_two_parts(
-        b"the sender, byte 1: ",
-        wide(f.sender),
-        b", with the view, bytes 2 to 5: ",
-        wider(f.view),
+// The view at a place of a line; 0 where there is none.
+fn view_at(s: &[u8], at: usize) -> u64
+    ensures { λ r. ⌜ r ≤ 4294967295 ⌝ }
+{
+    if s.len() <= at {
+        return 0;
+    }
+    if s.len() - at < 4 {
+        return 0;
+    }
+    wider(wire::number32(s, at))
+}
+
+// Whether a line is one that gives this refusal, and a part of it is at fault.
+fn is_about(number: u8, s: &[u8]) -> bool {
+    match number {
+        5..=8 => s.len() == START_LENGTH,
+        9..=10 => true,
+        11..=17 => frame::form_refusal(s) == 0,
+        18..=19 => s.len() == TIMER_LENGTH,
+        _ => false,
+    }
+}
+
+fn say_part(number: u8, s: &[u8]) {
+    tell_nth(
+        b"\n\n\n\n\n\
+        n, byte 1: {1}\n\
+        f, byte 2: {2}, with n, byte 1: {1}\n\
+        the vault's number, byte 3: {3}, with n, byte 1: {1}\n\
+        the link class, byte 4: {4}\n\
+        the kind, byte 0: {0}\n\
+        the length: {7} bytes\n\
+        the sender, byte 1: {1}\n\
+        the sender, byte 1: {1}\n\
+        the view, bytes 2 to 5: {5}\n\
+        \n\
+        the sender, byte 1: {1}, with the view, bytes 2 to 5: {5}\n\
+        the view, bytes 2 to 5: {5}\n\
+        the view, bytes 2 to 5: {5}, with the sender, byte 1: {1}\n\
+        the view, bytes 1 to 4: {6}\n\
+        the view, bytes 1 to 4: {6}",
+        number,
+        &[
+            byte_at(s, 0),
+            byte_at(s, 1),
+            byte_at(s, 2),
+            byte_at(s, 3),
+            byte_at(s, 4),
+            view_at(s, 2),
+            view_at(s, 1),
+            s.len() as u64,
+        ],
     );
 }
 
-fn frame_fault(number: u8, s: &[u8]) {
-    let Reading::Accepted(f) = frame_in(s) else {
+fn say_at_fault(number: u8, s: &[u8]) {
+    if !is_about(number, s) {
         return;
-    };
-    match number {
-        11 | 12 => say_part(b"the sender, byte 1: ", wide(f.sender)),
-        13 | 16 => say_part(b"the view, bytes 2 to 5: ", wider(f.view)),
-        14 => body_fault(f),
-        15 => sender_and_view(f),
-        17 => say_repeat(f),
-        _ => (),
     }
+    if number == BAD_REPORT {
+        say_reports_at_fault(s);
+        return;
+    }
+    say(b"        at fault: ");
+    say_part(number, s);
+    say(b"\n");
 }
 
-// ---- a refusal
-
-fn bytes_fault(number: u8, s: &[u8]) {
-    match number {
-        5..=8 => start_fault(number, s),
-        9 => kind_fault(s),
-        10 => length_fault(s),
-        11..=17 => frame_fault(number, s),
-        18 | 19 => timer_fault(s),
-        _ => (),
-    }
-}
-
-// The part at fault, where a line was given before the refusal.
-fn say_fault(number: u8, given: Line)
+// A refusal, and the part at fault where a line was given before it.
+pub(crate) fn say_refusal(number: u8, given: Line)
     requires { ⌜ given .count ≤ 46 ⌝ }
 {
+    tell(b"    refused with {0}: ", &[wide(number)]);
+    say_reason(number);
+    say(b"\n");
     if number == BAD_LINE {
-        say_writing(given.writing);
-        say_digits(given.writing);
+        say_sorts(given.sorts);
+        say_digits(given.sorts, given.digits);
+        return;
     }
     if given.is_read {
         let bytes = given.bytes;
         let count = given.count;
-        bytes_fault(number, &bytes[0..count]);
+        say_at_fault(number, &bytes[0..count]);
     }
-}
-
-pub(crate) fn say_refusal(number: u8, given: Line)
-    requires { ⌜ given .count ≤ 46 ⌝ }
-{
-    say_number(b"    refused with ", wide(number));
-    say(b": ");
-    say_late(number);
-    say(b"\n");
-    say_fault(number, given);
 }

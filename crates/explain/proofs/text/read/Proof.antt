@@ -1,0 +1,64 @@
+-- `explain::text::read` meets its contract: crate lines spells at most as many bytes as there is room for.
+-- Assumes nothing.
+use Prim.Native.Nat.{_≤_}
+use mathlib.Core.Path.{subst}
+use Rattle.lines.specs.declared.Spelling.{Spelling}
+use Rattle.lines.specs.inside.Steps.{countOf}
+use borrow.Author.Needs.{needs}
+use Rattle.explain.proofs.text.read.Statement.{statement}
+use Rattle.explain.proofs.text.read.Tie as tie
+
+slice-aggregate-mend : tie.Need-slice-aggregate-mend
+slice-aggregate-mend c = search needs
+
+mend-requires : tie.Need-mend-requires
+mend-requires c κs = search needs
+
+sub-bytes-in : tie.Need-sub-bytes-in
+sub-bytes-in c = search needs
+
+part-bytes-in-start : tie.Need-part-bytes-in-start
+part-bytes-in-start c = search needs
+
+part-bytes-in-end : tie.Need-part-bytes-in-end
+part-bytes-in-end c = search needs
+
+slice-aggregate-bytes-in : tie.Need-slice-aggregate-bytes-in
+slice-aggregate-bytes-in c = search needs
+
+bytes-in-requires : tie.Need-bytes-in-requires
+bytes-in-requires c κs = search needs
+
+enum-known-spelling : tie.Need-enum-known-spelling
+enum-known-spelling c = search needs
+
+enum-told : tie.Need-enum-told
+enum-told c = search needs
+
+unread-requires : tie.Need-unread-requires
+unread-requires c κs = search needs
+
+returns : tie.Need-returns
+returns c = search needs
+
+returns-2 : tie.Need-returns-2
+returns-2 c =
+    let b = c .before .before .before .before .bytes-in in
+    subst (λ (x : Spelling). countOf x ≤ 46) (c .before .spelling .given .1) (b .ensures .1)
+
+pub read-spec : {M : Type 1} → statement M
+read-spec =
+    tie.close
+    (tie.spec
+    slice-aggregate-mend
+    mend-requires
+    sub-bytes-in
+    part-bytes-in-start
+    part-bytes-in-end
+    slice-aggregate-bytes-in
+    bytes-in-requires
+    enum-known-spelling
+    enum-told
+    unread-requires
+    returns
+    returns-2)
