@@ -107,12 +107,14 @@ shareEnough rec s page at digits rec′ page′ next long put = go (decLe 5 (len
 
 module _ (rec text page : List ℕ) (at : ℕ) (g : Spelling) (bytes : List ℕ) (is : spells g bytes ≡ bytesOf digitLimit text) where
   -- '20 is tested before all else'.
-  pub badAnswered : g ≡ Bad → (page′ : List ℕ) (next : ℕ) → Shown (refusalLine 20) page at page′ next → Line rec text page at rec page′ next
+  pub badAnswered : g ≡ Bad → (page′ : List ℕ) (next number : ℕ) → Shown (refusalLine number) page at page′ next → number ≡ 20
+      → Line rec text page at rec page′ next
   unfolding lineLeft vaultLines
-  badAnswered bad page′ next put =
+  badAnswered bad page′ next number put is20 =
+      let shown : Shown (refusalLine 20) page at page′ next = subst (λ (k : ℕ). Shown (refusalLine k) page at page′ next) is20 put in
       let left : gave 20 rec zeroed ≡ lineLeft rec text = ap (spelledLeft rec) (ap (λ (x : Spelling). spells x bytes) (sym bad) ∙ is) in (
-        record { left = ap recordIn left; lines = subst (λ (l : Left). Shown (printed l) page at page′ next) left put },
-        omega (arith, put .ends, lengthLine (253 ∷ 20 ∷ [])),
+        record { left = ap recordIn left; lines = subst (λ (l : Left). Shown (printed l) page at page′ next) left shown },
+        omega (arith, shown .ends, lengthLine (253 ∷ 20 ∷ [])),
       )
 
   pub countAnswered : (n : ℕ) → g ≡ Count n → (rec′ page′ : List ℕ) (next : ℕ) → Put (callLeft rec zeroed (callOf (take (n - 0) bytes))) page at rec′ page′ next

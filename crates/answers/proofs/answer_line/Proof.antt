@@ -1,5 +1,6 @@
 -- `answers::answer_line` meets its contract: '20 is tested before all else', then the call that the bytes make.
 -- Assumes nothing.
+use mathlib.Core.Path.{refl}
 use denote.Ref.{now}
 use borrow.Author.Needs.{needs}
 use Rattle.answers.proofs.Answers.{badAnswered, countAnswered, countWithin}
@@ -31,7 +32,7 @@ returns c =
     let b = c .before .before .before .before .before .before .before in
     let s = b .before .before .before .before .before in
     badAnswered (now (s .args .rec)) (now (s .args .text)) (now (s .args .page)) (s .args .at) (b .bytes-in .result) (b .bytes-in .last .1 .1 .0) (b .bytes-in .ensures .0)
-    told (p .last .0) (p .result) (p .ensures)
+    told (p .last .0) (p .result) _ (p .ensures) refl
 
 sub-answer : tie.Need-sub-answer
 sub-answer c = search needs
