@@ -35,7 +35,8 @@ zeroedSize = length-replicate {A = ℕ} outputSize 0
 -- ---- a call's answer
 
 -- An answer that leaves what the call leaves has entries to print.
-pub callPrintable : (rec s : List ℕ) → Bytes rec → Bytes s → (a : Answer) (rec′ out′ : List ℕ) → leftBy a rec′ out′ ≡ callLeft rec zeroed (callOf s) → Printable a out′
+pub callPrintable : (rec s : List ℕ) → Bytes rec → Bytes s → (a : Answer) (rec′ out′ : List ℕ)
+    → leftBy a rec′ out′ ≡ callLeft rec zeroed (callOf s) → Printable a out′
 callPrintable rec s br bs (Written n) rec′ out′ is =
     let well : Kept zeroed n rec′ out′ = subst (LeavesWell rec zeroed) (sym is) (callWell rec zeroed s br bs) in
     (well .few, well .size ∙ zeroedSize, record { valid = well .valid; entries = well .entries })
