@@ -36,7 +36,8 @@ zeroedSize = length-replicate {A = ℕ} outputSize 0
 -- ---- a call's answer
 
 -- An answer that leaves what the call leaves has entries to print.
-pub callPrintable : (rec s : List ℕ) → Bytes rec → Bytes s → (a : Answer) (rec′ out′ : List ℕ) → leftBy a rec′ out′ ≡ callLeft rec zeroed (callOf s) → Printable a out′
+pub callPrintable : (rec s : List ℕ) → Bytes rec → Bytes s → (a : Answer) (rec′ out′ : List ℕ)
+    → leftBy a rec′ out′ ≡ callLeft rec zeroed (callOf s) → Printable a out′
 callPrintable rec s br bs (Written n) rec′ out′ is =
     let well : Kept zeroed n rec′ out′ = subst (LeavesWell rec zeroed) (sym is) (callWell rec zeroed s br bs) in
     (well .few, well .size ∙ zeroedSize, record { valid = well .valid; entries = well .entries })
@@ -108,12 +109,14 @@ shareEnough rec s page at digits rec′ page′ next long put = go (decLe 5 (len
 
 module _ (rec text page : List ℕ) (at : ℕ) (g : Spelling) (bytes : List ℕ) (is : spells g bytes ≡ bytesOf digitLimit text) where
   -- '20 is tested before all else'.
-  pub badAnswered : g ≡ Bad → (page′ : List ℕ) (next : ℕ) → Shown (refusalLine 20) page at page′ next → Line rec text page at rec page′ next
+  pub badAnswered : g ≡ Bad → (page′ : List ℕ) (next number : ℕ) → Shown (refusalLine number) page at page′ next → number ≡ 20
+      → Line rec text page at rec page′ next
   unfolding lineLeft vaultLines
-  badAnswered bad page′ next put =
+  badAnswered bad page′ next number put is20 =
+      let shown : Shown (refusalLine 20) page at page′ next = subst (λ (k : ℕ). Shown (refusalLine k) page at page′ next) is20 put in
       let left : gave 20 rec zeroed ≡ lineLeft rec text = ap (spelledLeft rec) (ap (λ (x : Spelling). spells x bytes) (sym bad) ∙ is) in (
-        record { left = ap recordIn left; lines = subst (λ (l : Left). Shown (printed l) page at page′ next) left put },
-        omega (arith, put .ends, lengthLine (253 ∷ 20 ∷ [])),
+        record { left = ap recordIn left; lines = subst (λ (l : Left). Shown (printed l) page at page′ next) left shown },
+        omega (arith, shown .ends, lengthLine (253 ∷ 20 ∷ [])),
       )
 
   pub countAnswered : (n : ℕ) → g ≡ Count n → (rec′ page′ : List ℕ) (next : ℕ) → Put (callLeft rec zeroed (callOf (take (n - 0) bytes))) page at rec′ page′ next

@@ -48,14 +48,17 @@ record First (s : List ℕ) (e : Entry) : Type 0 where
 firstIs : (s : List ℕ) (e : Entry) (es : List Entry) → AllValid (e ∷ es) → s ≡ entryBytes e ++ layout es → entriesOf s ≡ e ∷ es → First s e
 firstIs s e es v is read =
     let size : sizeIn s ≡ length (entryBytes e) = ap sizeIn is ∙ in-entry e (v .0) (layout es) in
-    let next : drop (sizeIn s) s ≡ layout es = ap (λ (k : ℕ). drop k s) size ∙ ap (λ (l : List ℕ). drop (length (entryBytes e)) l) is ∙ drop-at (entryBytes e) (layout es) (length (entryBytes e)) refl in
+    let next : drop (sizeIn s) s ≡ layout es =
+    ap (λ (k : ℕ). drop k s) size ∙ ap (λ (l : List ℕ). drop (length (entryBytes e)) l) is
+    ∙ drop-at (entryBytes e) (layout es) (length (entryBytes e)) refl in
     let back : entriesOf (layout es) ≡ es = entriesReadBack es (v .1) in
     let again : entriesOf (drop (sizeIn s) s) ≡ es = ap entriesOf next ∙ back in
     let all = length-append (entryBytes e) (layout es) in
     let whole : length s ≡ length (entryBytes e ++ layout es) = ap length is in
     record {
       size = size;
-      here = ap (λ (k : ℕ). take k s) size ∙ ap (λ (l : List ℕ). take (length (entryBytes e)) l) is ∙ take-at (entryBytes e) (layout es) (length (entryBytes e)) refl;
+      here = ap (λ (k : ℕ). take k s) size ∙ ap (λ (l : List ℕ). take (length (entryBytes e)) l) is
+          ∙ take-at (entryBytes e) (layout es) (length (entryBytes e)) refl;
       rest = record { valid = subst AllValid (sym again) (v .1); entries = ap layout again ∙ sym next };
       entries = read ∙ ap (λ (l : List Entry). e ∷ l) (sym again);
       fits = omega arith;
@@ -120,11 +123,13 @@ module _ (page₀ : List ℕ) (at : ℕ) (s page : List ℕ) (i end : ℕ) (so :
       let lines : entryLines (entriesOf (drop i s)) ≡ lineOf (entryBytes e) ++ others =
       ap entryLines (f .entries) ∙ ap (λ (l : List ℕ). lineOf (entryBytes e) ++ entryLines (entriesOf l)) rest in
       let long = lengthLine (entryBytes e) in
-      let all : length (entryLines (entriesOf (drop i s))) ≡ length (lineOf (entryBytes e)) + length others = ap length lines ∙ length-append (lineOf (entryBytes e)) others in
+      let all : length (entryLines (entriesOf (drop i s))) ≡ length (lineOf (entryBytes e)) + length others =
+      ap length lines ∙ length-append (lineOf (entryBytes e)) others in
       let here : length (take (i + size - i) (drop i s)) ≡ length (entryBytes e) = ap length line in
       let after : end′ ≡ end + length (lineOf (entryBytes e)) = put .ends ∙ ap (λ (l : List ℕ). end + length (lineOf l)) line in
       let page″ : page′ ≡ placed page end (lineOf (entryBytes e)) = put .shown ∙ ap (λ (l : List ℕ). placed page end (lineOf l)) line in
-      let length′ : length page′ ≡ length page = ap length page″ ∙ length-placed page end (lineOf (entryBytes e)) (omega (arith, next .fits, next .least, next .bytes, so .room)) in
+      let length′ : length page′ ≡ length page =
+      ap length page″ ∙ length-placed page end (lineOf (entryBytes e)) (omega (arith, next .fits, next .least, next .bytes, so .room)) in
       record {
         within = next .fits;
         laid = subst Laid rest (f .rest);
@@ -154,7 +159,14 @@ putAll page₀ at s page i end so done =
 linesShort : (es : List Entry) → length (entryLines es) ≤ 3 * length (layout es)
 linesShort [] = omega arith
 linesShort (e ∷ es) =
-    omega (arith, linesShort es, entryLeast e, lengthLine (entryBytes e), length-append (lineOf (entryBytes e)) (entryLines es), length-append (entryBytes e) (layout es))
+    omega (
+      arith,
+      linesShort es,
+      entryLeast e,
+      lengthLine (entryBytes e),
+      length-append (lineOf (entryBytes e)) (entryLines es),
+      length-append (entryBytes e) (layout es),
+    )
 
 pub laidShort : (s : List ℕ) → Laid s → length (entryLines (entriesOf s)) ≤ 3 * length s
 laidShort s laid = subst (λ (l : List ℕ). length (entryLines (entriesOf s)) ≤ 3 * length l) (laid .entries) (linesShort (entriesOf s))

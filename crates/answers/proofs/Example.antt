@@ -91,20 +91,24 @@ unfolding answer
 firstAccepted = refl
 
 secondAccepted : answer (some (first .left)) (by.frame (readFrame (voted 1) 1 (first .left .set .n) (first .left .set .id))) ≡ accepted second
-unfolding delayOf answer started pass stepC stepD stepVote stepH does writes agreed highest safe choice any weigh isQuorum isBlocking readFrame refusal viewMissing misled within lengthOf decode bodyAs numberAt
+unfolding delayOf answer started pass stepC stepD stepVote stepH does writes agreed highest safe
+    choice any weigh isQuorum isBlocking readFrame refusal viewMissing misled within lengthOf decode bodyAs numberAt
 secondAccepted = refl
 
 thirdAccepted : answer (some (second .left)) (by.frame (readFrame (voted 2) 2 (second .left .set .n) (second .left .set .id))) ≡ accepted third
-unfolding delayOf answer started keep heard pass stepA stepB stepC stepD stepVote stepH does writes agreed highest safe choice any weigh isQuorum isBlocking readFrame refusal viewMissing misled within lengthOf decode bodyAs numberAt
+unfolding delayOf answer started keep heard pass stepA stepB stepC stepD stepVote stepH does writes agreed highest safe
+    choice any weigh isQuorum isBlocking readFrame refusal viewMissing misled within lengthOf decode bodyAs numberAt
 thirdAccepted = refl
 
 lastRefused : answer (some (third .left)) (by.frame (readFrame (voted 1) 1 (third .left .set .n) (third .left .set .id))) ≡ refused 17
-unfolding delayOf answer started keep heard pass stepA stepB stepC stepD stepVote stepH does writes agreed highest safe choice any weigh isQuorum isBlocking readFrame refusal viewMissing misled within lengthOf decode bodyAs numberAt
+unfolding delayOf answer started keep heard pass stepA stepB stepC stepD stepVote stepH does writes agreed highest safe
+    choice any weigh isQuorum isBlocking readFrame refusal viewMissing misled within lengthOf decode bodyAs numberAt
 lastRefused = refl
 
 printsAll : entryLines (first .wrote) ++ (entryLines (second .wrote) ++ (entryLines (third .wrote) ++ (lineOf (253 ∷ 17 ∷ []) ++ [])))
     ≡ text "fe0b0000000000000384\nff0100000000000000000000000007\nff0200000000000000000000000007\nff0300000000000000000000000007\nfd11\n"
-unfolding delayOf answer started keep heard pass stepA stepB stepC stepD stepVote stepH does writes agreed highest safe choice any weigh isQuorum isBlocking within lengthOf entryBytes encode digits lineOf digitOf
+unfolding delayOf answer started keep heard pass stepA stepB stepC stepD stepVote stepH does writes agreed highest safe
+    choice any weigh isQuorum isBlocking within lengthOf entryBytes encode digits lineOf digitOf
 printsAll = refl
 
 -- ---- the lines

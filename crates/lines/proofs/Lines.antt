@@ -120,14 +120,17 @@ module _ {S : Type 0} (p : Program S) (room : ℕ) (enough : Enough p room) wher
   unfolding after ended
   afterSame s x y [] same = refl
   afterSame s x y (b ∷ piece) same =
-      either (λ (t : Bool). after p s (cond t (x ∷ ended [] piece) (ended (x ++ (b ∷ [])) piece)) ≡ after p s (cond t (y ∷ ended [] piece) (ended (y ++ (b ∷ [])) piece)))
-      (ap (λ (r : S). after p r (ended [] piece)) (nextSame s x y same)) (afterSame s (x ++ (b ∷ [])) (y ++ (b ∷ [])) piece (sameMore room x y (b ∷ []) same)) (eqb b 10)
+      either (λ (t : Bool). after p s (cond t (x ∷ ended [] piece) (ended (x ++ (b ∷ [])) piece))
+      ≡ after p s (cond t (y ∷ ended [] piece) (ended (y ++ (b ∷ [])) piece)))
+      (ap (λ (r : S). after p r (ended [] piece)) (nextSame s x y same))
+      (afterSame s (x ++ (b ∷ [])) (y ++ (b ∷ [])) piece (sameMore room x y (b ∷ []) same)) (eqb b 10)
 
   pub printsSame : (s : S) (x y piece : List ℕ) → take room x ≡ take room y → prints p s (ended x piece) ≡ prints p s (ended y piece)
   unfolding prints ended
   printsSame s x y [] same = refl
   printsSame s x y (b ∷ piece) same =
-      either (λ (t : Bool). prints p s (cond t (x ∷ ended [] piece) (ended (x ++ (b ∷ [])) piece)) ≡ prints p s (cond t (y ∷ ended [] piece) (ended (y ++ (b ∷ [])) piece)))
+      either (λ (t : Bool). prints p s (cond t (x ∷ ended [] piece) (ended (x ++ (b ∷ [])) piece))
+      ≡ prints p s (cond t (y ∷ ended [] piece) (ended (y ++ (b ∷ [])) piece)))
       (λ i. saysSame s x y same i ++ prints p (nextSame s x y same i) (ended [] piece))
       (printsSame s (x ++ (b ∷ [])) (y ++ (b ∷ [])) piece (sameMore room x y (b ∷ []) same)) (eqb b 10)
 

@@ -105,7 +105,8 @@ module _ (limit : ℕ) (text bytes : List ℕ) (size count i : ℕ) (so : Spelle
       let rest : drop (2 * i) text ≡ [] = drop-of-length-le text {i = 2 * i} (omega arith) in
       let all : allDigits text ≡ true = sym (so .digits) ∙ ap allDigits rest in
       let here : take count bytes ≡ spelled text =
-      sym (append-nil (take count bytes)) ∙ ap (λ (k : ℕ). take k bytes ++ []) (sym same) ∙ ap (λ (l : List ℕ). take i bytes ++ spelled l) (sym rest) ∙ so .spells in
+      sym (append-nil (take count bytes)) ∙ ap (λ (k : ℕ). take k bytes ++ []) (sym same)
+      ∙ ap (λ (l : List ℕ). take i bytes ++ spelled l) (sym rest) ∙ so .spells in
       ap (λ (l : List ℕ). some l) here ∙ ap (λ (b : Bool). cond b (some (spelled text)) none) (sym all) ∙ sym evenHere
 
 -- None is read yet.

@@ -55,7 +55,8 @@ takenNone text len piece from few within = record { size = refl; within = within
 
 module _ (text₀ : List ℕ) (len : ℕ) (piece : List ℕ) (from : ℕ) (text : List ℕ) (to i : ℕ) (so : TakenTo text₀ len piece from text to i) where
   -- Nothing is to come: all is kept.
-  nothingMore : firstLine (drop i piece) ≡ [] → KeptOf (take len text₀ ++ firstLine (drop from piece)) text to × (i ≡ from + length (firstLine (drop from piece)))
+  nothingMore : firstLine (drop i piece) ≡ []
+      → KeptOf (take len text₀ ++ firstLine (drop from piece)) text to × (i ≡ from + length (firstLine (drop from piece)))
   nothingMore none-left =
       let few : length (take to text) ≤ length text₀ = omega (arith, length-take-le to text (so .few)) in (
         record {
@@ -83,7 +84,8 @@ module _ (text₀ : List ℕ) (len : ℕ) (piece : List ℕ) (from : ℕ) (text 
     takenEnd end = nothingMore (ap firstLine here ∙ simp (eq-eqb (getD piece i 0) 10 end))
 
     -- Any other byte is the line's.
-    pub takenMore : (getD piece i 0 ≡ 10 → ⊥) → (text′ : List ℕ) (to′ : ℕ) → length text′ ≡ length text → KeptOf (take to text ++ (getD piece i 0 ∷ [])) text′ to′
+    pub takenMore : (getD piece i 0 ≡ 10 → ⊥) → (text′ : List ℕ) (to′ : ℕ) → length text′ ≡ length text
+        → KeptOf (take to text ++ (getD piece i 0 ∷ [])) text′ to′
         → TakenTo text₀ len piece from text′ to′ (i + 1)
     unfolding firstLine
     takenMore other text′ to′ same keeps =

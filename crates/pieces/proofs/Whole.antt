@@ -44,10 +44,10 @@ feedNone rec text page piece len few small = record {
   room = omega arith;
 }
 
-module _ (rec₀ line₀ piece rec text page : List ℕ) (kept at i : ℕ) (so : FeedTo rec₀ line₀ piece rec text page kept at i)
+module _ {rec₀ line₀ piece rec text page : List ℕ} {kept at i : ℕ} (so : FeedTo rec₀ line₀ piece rec text page kept at i)
     (textSize : length text ≡ keptSize) (pageLong : length page ≡ pageSize) where
   -- A line's bytes are taken from the piece.
-  module _ (text′ : List ℕ) (to end : ℕ) (same : length text′ ≡ length text) (keeps : KeptOf (take kept text ++ firstLine (drop i piece)) text′ to)
+  module _ {text′ : List ℕ} {to end : ℕ} (same : length text′ ≡ length text) (keeps : KeptOf (take kept text ++ firstLine (drop i piece)) text′ to)
       (is : end ≡ i + length (firstLine (drop i piece))) where
     keptIs : take to text′ ≡ take keptSize (take kept text ++ firstLine (drop i piece))
     keptIs = keeps .kept ∙ ap (λ (n : ℕ). take n (take kept text ++ firstLine (drop i piece))) (same ∙ textSize)
@@ -88,7 +88,8 @@ module _ (rec₀ line₀ piece rec text page : List ℕ) (kept at i : ℕ) (so :
         subst (λ (n : ℕ). Answered vaultLines rec (take n text′) page at rec′ page′ next) whole answered in
         let long : length (take (to - 0) text′) ≡ to = ap (λ (n : ℕ). length (take n text′)) whole ∙ length-take-le to text′ (keeps .few) in
         record {
-          fed = fedLine vaultLines keptSize rec₀ line₀ piece rec (take kept text) (take at page) i (so .fed) keptEnough end is (omega (arith, endWithin)) (take to text′) keptIs page at refl
+          fed = fedLine vaultLines keptSize rec₀ line₀ piece rec (take kept text) (take at page) i (so .fed) keptEnough end is
+              (omega (arith, endWithin)) (take to text′) keptIs page at refl
               (omega (arith, so .room)) rec′ page′ next line;
           within = omega (arith, endWithin);
           few = omega arith;

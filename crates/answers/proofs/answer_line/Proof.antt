@@ -1,5 +1,6 @@
 -- `answers::answer_line` meets its contract: '20 is tested before all else', then the call that the bytes make.
 -- Assumes nothing.
+use mathlib.Core.Path.{refl}
 use denote.Ref.{now}
 use borrow.Author.Needs.{needs}
 use Rattle.answers.proofs.Answers.{badAnswered, countAnswered, countWithin}
@@ -30,8 +31,8 @@ returns c =
     let told = c .before .before .before .before .enum-told .given .1 in
     let b = c .before .before .before .before .before .before .before in
     let s = b .before .before .before .before .before in
-    badAnswered (now (s .args .rec)) (now (s .args .text)) (now (s .args .page)) (s .args .at) (b .bytes-in .result) (b .bytes-in .last .1 .1 .0) (b .bytes-in .ensures .0)
-    told (p .last .0) (p .result) (p .ensures)
+    badAnswered (now (s .args .rec)) (now (s .args .text)) (now (s .args .page)) (s .args .at) (b .bytes-in .result) (b .bytes-in .last .1 .1 .0)
+    (b .bytes-in .ensures .0) told (p .last .0) (p .result) _ (p .ensures) refl
 
 sub-answer : tie.Need-sub-answer
 sub-answer c = search needs
@@ -62,8 +63,8 @@ returns-2 c =
     let g = h .spelling .given in
     let b = h .before .before .before in
     let s = b .before .before .before .before .before in
-    countAnswered (now (s .args .rec)) (now (s .args .text)) (now (s .args .page)) (s .args .at) (b .bytes-in .result) (b .bytes-in .last .1 .1 .0) (b .bytes-in .ensures .0)
-    (g .0 .0) (g .1) (a .last .0) (a .last .1 .1 .0) (a .result) (a .ensures)
+    countAnswered (now (s .args .rec)) (now (s .args .text)) (now (s .args .page)) (s .args .at) (b .bytes-in .result) (b .bytes-in .last .1 .1 .0)
+    (b .bytes-in .ensures .0) (g .0 .0) (g .1) (a .last .0) (a .last .1 .1 .0) (a .result) (a .ensures)
 
 pub answer-line-spec : {M : Type 1} → statement M
 answer-line-spec =

@@ -54,8 +54,8 @@ same-length c = omega arith
 returns-3 : tie.Need-returns-3 Inv-loop μ-loop
 returns-3 c =
     let l = c .before .before .before .before .before .before .loop in (
-      highSpellsNone _ _ (l .bytes) _ _ (l .i) (l .inv .1) (c .before .before .before .before .before .loop-test .taken) _ _ (c .before .before .before .value-of .ensures)
-          (c .before .value-of2 .ensures) (c .if3 .taken),
+      highSpellsNone _ _ (l .bytes) _ _ (l .i) (l .inv .1) (c .before .before .before .before .before .loop-test .taken) _ _
+          (c .before .before .before .value-of .ensures) (c .before .value-of2 .ensures) (c .if3 .taken),
       omega arith,
     )
 

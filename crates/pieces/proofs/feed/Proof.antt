@@ -20,8 +20,13 @@ abbrev μ-loop : tie.MeasureT-loop
 
 loop-holds : tie.Need-loop-holds Inv-loop μ-loop
 loop-holds c =
-    let s = c .before .before .before .before in
-    (refl, s .pre .0, s .pre .2, feedNone (now (s .args .rec)) (now (s .args .text)) (now (s .args .page)) (now (s .args .piece)) (s .args .len) (s .pre .1) (s .pre .3))
+    let s = c .before .before .before .before in (
+      refl,
+      s .pre .0,
+      s .pre .2,
+      feedNone (now (s .args .rec)) (now (s .args .text)) (now (s .args .page)) (now (s .args .piece)) (s .args .len)
+          (s .pre .1) (s .pre .3),
+    )
 
 take-line-requires : tie.Need-take-line-requires Inv-loop μ-loop
 take-line-requires c κs =
@@ -40,11 +45,8 @@ same-length-3 c = omega arith
 returns : tie.Need-returns Inv-loop μ-loop
 returns c =
     let t = c .before .before .before .take-line in
-    let h = c .before .before .before .before .before .before in
-    let l = h .loop in
-    let a = h .before .before .before .before .before .args in
-    feedEnd (now (a .rec)) (take (a .len) (now (a .text))) (now (a .piece)) (l .rec) (l .text) (l .page) (l .kept) (l .at) (l .i) (l .inv .3) (l .inv .1) (l .inv .2)
-    (t .last .0) (t .result .len) (t .result .next) (t .kept .0) (t .ensures .0) (t .ensures .1) (c .if1 .taken)
+    let l = c .before .before .before .before .before .before .loop in
+    feedEnd (l .inv .3) (l .inv .1) (l .inv .2) (t .kept .0) (t .ensures .0) (t .ensures .1) (c .if1 .taken)
 
 sub-answer-line : tie.Need-sub-answer-line Inv-loop μ-loop
 sub-answer-line c = omega arith
@@ -58,21 +60,15 @@ part-answer-line-end c = c .before .before .before .before .before .take-line .e
 answer-line-requires : tie.Need-answer-line-requires Inv-loop μ-loop
 answer-line-requires c κs =
     let t = c .before .before .before .before .before .before .before .take-line in
-    let h = c .before .before .before .before .before .before .before .before .before .before in
-    let l = h .loop in
-    let a = h .before .before .before .before .before .args in
-    roomThere (now (a .rec)) (take (a .len) (now (a .text))) (now (a .piece)) (l .rec) (l .text) (l .page) (l .kept) (l .at) (l .i) (l .inv .3) (l .inv .1) (l .inv .2)
-    (t .last .0) (t .result .len) (t .result .next) (t .kept .0) (t .ensures .0) (t .ensures .1)
+    let l = c .before .before .before .before .before .before .before .before .before .before .loop in
+    roomThere (l .inv .3) (l .inv .1) (l .inv .2) (t .kept .0) (t .ensures .0) (t .ensures .1)
 
 add-i : tie.Need-add-i Inv-loop μ-loop
 add-i c =
     let e = c .before .before .before .before .before .before .before .before .before in
     let t = e .before .before .before .take-line in
-    let h = e .before .before .before .before .before .before in
-    let l = h .loop in
-    let a = h .before .before .before .before .before .args in
-    let low = endWithin (now (a .rec)) (take (a .len) (now (a .text))) (now (a .piece)) (l .rec) (l .text) (l .page) (l .kept) (l .at) (l .i) (l .inv .3) (l .inv .1) (l .inv .2)
-    (t .last .0) (t .result .len) (t .result .next) (t .kept .0) (t .ensures .0) (t .ensures .1) in
+    let l = e .before .before .before .before .before .before .loop in
+    let low = endWithin (l .inv .3) (l .inv .1) (l .inv .2) (t .kept .0) (t .ensures .0) (t .ensures .1) in
     omega (arith, low, e .if1 .left)
 
 loop-less : tie.Need-loop-less Inv-loop μ-loop
@@ -85,14 +81,11 @@ loop-again c =
     let r = c .before .before .before .before .answer-line in
     let e = c .before .before .before .before .before .before .before .before .before in
     let t = e .before .before .before .take-line in
-    let h = e .before .before .before .before .before .before in
-    let l = h .loop in
-    let a = h .before .before .before .before .before .args in (
+    let l = e .before .before .before .before .before .before .loop in (
       r .kept .0 ∙ l .inv .0,
       t .kept .0 ∙ l .inv .1,
       r .kept .1 .1 .0 ∙ l .inv .2,
-      feedLine (now (a .rec)) (take (a .len) (now (a .text))) (now (a .piece)) (l .rec) (l .text) (l .page) (l .kept) (l .at) (l .i) (l .inv .3) (l .inv .1) (l .inv .2)
-          (t .last .0) (t .result .len) (t .result .next) (t .kept .0) (t .ensures .0) (t .ensures .1) (e .if1 .left)
+      feedLine (l .inv .3) (l .inv .1) (l .inv .2) (t .kept .0) (t .ensures .0) (t .ensures .1) (e .if1 .left)
           (r .last .0) (r .last .1 .1 .0) (r .result) (r .ensures .0) (r .ensures .1),
     )
 
@@ -108,8 +101,7 @@ same-length-6 c = omega arith
 returns-2 : tie.Need-returns-2 Inv-loop μ-loop
 returns-2 c =
     let l = c .before .loop in
-    let a = c .before .before .before .before .before .before .args in
-    feedDone (now (a .rec)) (take (a .len) (now (a .text))) (now (a .piece)) (l .rec) (l .text) (l .page) (l .kept) (l .at) (l .i) (l .inv .3) (l .inv .1) (l .inv .2) (c .loop-test .left)
+    feedDone (l .inv .3) (l .inv .1) (l .inv .2) (c .loop-test .left)
 
 pub feed-spec : {M : Type 1} → statement M
 feed-spec =

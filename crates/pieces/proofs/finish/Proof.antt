@@ -32,8 +32,8 @@ returns-2 c =
     let r = c .before .before .before .before .answer-line in
     let e = c .before .before .before .before .before .before .before .before in
     let s = e .before .before .before .before in
-    finishLine (now (s .args .rec)) (now (s .args .text)) (now (s .args .page)) (s .args .len) (e .if1 .left) (s .pre .1) (s .pre .0) (r .last .0) (r .last .1 .1 .0)
-    (r .result) (r .ensures .0) (r .ensures .1)
+    finishLine (now (s .args .rec)) (now (s .args .text)) (now (s .args .page)) (s .args .len) (e .if1 .left) (s .pre .1) (s .pre .0) (r .last .0)
+    (r .last .1 .1 .0) (r .result) (r .ensures .0) (r .ensures .1)
 
 pub finish-spec : {M : Type 1} → statement M
 finish-spec =

@@ -79,8 +79,9 @@ feed-requires c κs =
 
 flush-requires : tie.Need-flush-requires Inv-loop μ-loop
 flush-requires c κs =
-    let f = c .before .before .before .before .before .before .before .feed in
-    let l = c .before .before .before .before .before .before .before .before .before .before .before .before .before .before .before .before .before .before .before .before .before .loop in
+    let g = c .before .before .before .before .before .before .before in
+    let f = g .feed in
+    let l = g .before .before .before .before .before .before .before .before .before .before .before .before .before .before .loop in
     omega (arith, f .ensures .1 .1, f .kept .1 .1 .1 .0, l .inv .2)
 
 sub-turns : tie.Need-sub-turns Inv-loop μ-loop
@@ -91,9 +92,10 @@ loop-less c = omega arith
 
 loop-again : tie.Need-loop-again Inv-loop μ-loop
 loop-again c =
-    let f = c .before .before .before .before .before .before .before .before .feed in
-    let r = c .before .before .before .before .before .before .before .before .before .before .before .before .before .before .before .before .before .before .before .read in
-    let l = c .before .before .before .before .before .before .before .before .before .before .before .before .before .before .before .before .before .before .before .before .before .before .loop in (
+    let g = c .before .before .before .before .before .before .before .before in
+    let f = g .feed in
+    let r = g .before .before .before .before .before .before .before .before .before .before .before .read in
+    let l = g .before .before .before .before .before .before .before .before .before .before .before .before .before .before .loop in (
       f .kept .0 ∙ l .inv .0,
       f .kept .1 .0 ∙ l .inv .1,
       f .kept .1 .1 .1 .0 ∙ l .inv .2,
