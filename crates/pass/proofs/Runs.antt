@@ -19,7 +19,7 @@ use Rattle.contents.specs.Contents.{contentsIn}
 use Rattle.contents.specs.inside.Ready.{Ready}
 use Rattle.steps.specs.declared.Entries.{Entries}
 use Rattle.steps.specs.declared.Entries.the-variants.{Zero, One, Two, Three}
-use Rattle.steps.specs.declared.Stepped.{Stepped}
+use Rattle.steps.specs.declared.Record as by
 use Rattle.steps.specs.inside.Steps.{listOf, Took}
 use Rattle.pass.specs.inside.Steps.{Room, Ran}
 
@@ -113,13 +113,13 @@ module _ (o : Out) (e : Entries) (wrote : listOf e ≡ o .wrote) (at : ℕ) (out
   }
 
 -- A step on a copy of the record is one on the record, and what it left is stored.
-pub tookFrom : (s : Step) (t : Stepped) {copy rec : List ℕ} → copy ≡ rec → Took (s (contentsIn copy)) t → Took (s (contentsIn rec)) t
+pub tookFrom : (s : Step) (t : by.Record) {copy rec : List ℕ} → copy ≡ rec → Took (s (contentsIn copy)) t → Took (s (contentsIn rec)) t
 tookFrom s t e = subst (λ (l : List ℕ). Took (s (contentsIn l)) t) e
 
-pub ranStored : (o : Out) (t : Stepped) → Took o t → (at : ℕ) (out : List ℕ) {rec : List ℕ} {n : ℕ} {after : List ℕ} → rec ≡ t .left .bytes
-    → Wrote at out (listOf (t .entries)) n after → Ran o at out after n rec
+pub ranStored : (o : Out) (t : by.Record) → Took o t → (at : ℕ) (out : List ℕ) {rec : List ℕ} {n : ℕ} {after : List ℕ} → rec ≡ t .bytes
+    → Wrote at out (listOf (t .wrote .entries)) n after → Ran o at out after n rec
 ranStored o t took at out stored =
-    ranWritten o (t .entries) (took .wrote) at out (ap contentsIn stored ∙ took .left) (subst Ready (sym stored) (took .ready))
+    ranWritten o (t .wrote .entries) (took .wrote) at out (ap contentsIn stored ∙ took .left) (subst Ready (sym stored) (took .ready))
 
 -- Where there is nothing to do, nothing is written.
 pub ranNothing : (o : Out) (at : ℕ) (out rec : List ℕ) → o ≡ record { left = contentsIn rec; wrote = [] } → Ready rec → Ran o at out out at rec

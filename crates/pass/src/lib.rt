@@ -77,8 +77,9 @@ fn run_step(rec: &mut [u8], k: u8, act: Act, out: &mut [u8], at: usize) -> usize
     let r = load(rec);
     let s = r.step_at(k, act);
     let wrote = s.wrote;
+    let entries = wrote.entries;
     store(s, rec);
-    write_entries(out, at, wrote.entries)
+    write_entries(out, at, entries)
 }
 
 // The same; where there is nothing to do, no record is loaded.

@@ -27,11 +27,11 @@ store-requires c κs = search needs
 
 write-entries-requires : tie.Need-write-entries-requires
 write-entries-requires c κs =
-    let q = c .before .before .before .before .before in
+    let q = c .before .before .before .before .before .before in
     let s = q .before .before .before .before .before in
     let t = q .step-at .result in
     let took = tookFrom (stepAt (s .args .k)) t (q .before .load .ensures) (q .step-at .ensures) in
-    roomWritten (stepAt (s .args .k) (contentsIn (now (s .args .rec)))) (t .entries) (took .wrote) (s .args .at) (now (s .args .out)) (s .pre .3)
+    roomWritten (stepAt (s .args .k) (contentsIn (now (s .args .rec)))) (t .wrote .entries) (took .wrote) (s .args .at) (now (s .args .out)) (s .pre .3)
 
 same-length : tie.Need-same-length
 same-length c = search needs
@@ -41,7 +41,7 @@ same-length-2 c = search needs
 
 returns : tie.Need-returns
 returns c =
-    let q = c .before .before .before .before .before .before .before .before in
+    let q = c .before .before .before .before .before .before .before .before .before in
     let s = q .before .before .before .before .before in
     let t = q .step-at .result in
     let took = tookFrom (stepAt (s .args .k)) t (q .before .load .ensures) (q .step-at .ensures) in
