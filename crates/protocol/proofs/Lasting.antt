@@ -60,12 +60,12 @@ module _ (c : Setting) where
       go (timer w) b e brings fair = tt
       go short b e brings fair = tt
 
-  -- It holds before any call.
+  -- All this holds before any call.
   lastsNone : Lasting []
   unfolding recordAt written
   lastsNone = record { records = λ i r e. absurd (none≢some e); entries = λ i. tt }
 
-  -- A refused call changes no record and writes nothing.
+  -- It stays so after a refused call, which changes no record and writes nothing.
   lastsRefused : {l : List Item} (x : Item) (k : ℕ) → answer (recordAt l (x .at)) (x .call) ≡ refused k → Lasting l → Lasting (x ∷ l)
   lastsRefused {l} x k is v =
       let (records, entries) = pastRefused l x k is in
@@ -74,7 +74,7 @@ module _ (c : Setting) where
         entries = λ i. subst (λ (t : ℕ → List Entry). AllValid (t i)) (sym entries) (v .entries i);
       }
 
-  -- An accepted call leaves a proper record and writes entries that have bytes.
+  -- It stays so after an accepted call that leaves what is proper.
   lastsAccepted : {l : List Item} (x : Item) (o : Out) → answer (recordAt l (x .at)) (x .call) ≡ accepted o → Proper o → Lasting l → Lasting (x ∷ l)
   lastsAccepted {l} x o is proper v = record {
     records = λ i r e. recordsAt i r (which (eqb (x .at) i)) (ap (λ (t : ℕ → Option Record). t i) (sym (recordAccepted l x o is)) ∙ e);

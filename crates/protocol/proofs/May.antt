@@ -147,7 +147,7 @@ pub data Sure : List Step → Type 0 where
   done : Sure []
   and : {s : Step} {l : List Step} → Lawful s → Sure l → Sure (s ∷ l)
 
--- Steps A to H are lawful, one by one: `mayA` to `mayH`.
+-- Step A is lawful.
 lawA : Lawful stepA
 unfolding stepA
 lawA = record { act = actA; does = λ r. refl; may = mayA }
