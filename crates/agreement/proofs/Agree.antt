@@ -57,12 +57,14 @@ module _ {vs : Vaults} {keeps : Set} (most : Mostly vs keeps) {voted : History} 
             let same : y .plan ≡ z .plan = cc in
             absurd (other same)
 
+    -- A plan that a blocking set claims above v is p, as one of the set keeps the rules.
     claimedIsP : {a x : ℕ} → v < a → Claimed vs (c .proofs) x a → x ≡ p
     claimedIsP {a} {x} above b =
         let (j, low, h, m) = blockingKeeper most (groupMap (λ i low m h. m) b) in
         let (r, e, says) = holdsWhere (c .proofs j) (claims x a) m in
         claimIsP r above h (c .from j r h e) says
 
+    -- So what Rule 3 asks of the claims above v is had by p only: two plans cannot both be p.
     backedIsP : {a : ℕ} → v < a → Backed rule3 vs (c .proofs) u q a → q ≡ p
     backedIsP above (inl b) = claimedIsP above b
     backedIsP above (inr t) =
@@ -100,6 +102,7 @@ module _ {vs : Vaults} {keeps : Set} (most : Mostly vs keeps) {voted : History} 
       let c = law .vouched h x in
       nextIsP locks later (λ w a b. laterVotesAgree locks bound w (omega arith) a) c (c .safe)
 
+  -- A quorum of vote-4 in a later view is for the same plan, as a vote-1 stands behind it.
   ordered : {v w p q : ℕ} → Locked vs keeps voted v p → Locked vs keeps voted w q → v < w → p ≡ q
   ordered {w} {q} a b later =
       let (j, low, h, x) = blockingKeeper most (quorumBlocks most (rooted 3 b)) in

@@ -14,13 +14,16 @@ use Rattle.rules.specs.Options.{isNone, holds}
 use Rattle.rules.specs.Rules.{Vote, Report, unlocked, fits, allows}
 use Rattle.rules.proofs.Laws.{holdsWhere}
 
+-- Nothing is not something: the end of impossible cases.
 pub none≢some : {A : Type 0} {x : A} → _≡_ {A = Option A} none (some x) → ⊥
 none≢some e = let z : _≡_ {A = ℕ} 0 1 = cc in omega arith
 
+-- What tests as missing is missing.
 pub isNoneNone : {A : Type 0} (o : Option A) → isNone o ≡ true → o ≡ none
 isNoneNone none e = refl
 isNoneNone (some x) e = absurd (false≢true e)
 
+-- What `fits` says of a lock: it is not above u, and at u it is for p.
 fitsVote : (p u : ℕ) (x : Vote) → fits p u x ≡ true → (x .view ≤ u) × (x .view ≡ u → x .plan ≡ p)
 fitsVote p u x h =
     let (low, here) = bothSplit (leb (x .view) u) (not (eqb (x .view) u) || eqb (x .plan) p) h in
@@ -42,6 +45,7 @@ allowedLock {p} {u} r {x} h e = go (either (isNone (r .lock)) (holds (fits p u) 
         let same : y ≡ x = cc in
         fitsVote p u x (rw same at ok)
 
+-- 'no lock at all', of one report.
 pub unlockedNone : (r : Report) → unlocked r ≡ true → r .lock ≡ none
 unfolding unlocked
 unlockedNone r h = isNoneNone (r .lock) h

@@ -51,6 +51,7 @@ module _ {vs : Vaults} {keeps : Set} (most : Mostly vs keeps) (all : (i : ℕ) �
   voteOne {i} zero h x = (i, h, x)
   voteOne (suc k) h x = let (j, low, hj, y) = blockingKeeper most (quorumBlocks most (rooted most law k (law .chain k h x))) in (j, hj, y)
 
+  -- Every vote is for a plan that a vault began with, by induction on a bound of the view.
   earlierBegan : (bound : ℕ) → Earlier bound
   earlierBegan zero v low k i p h x = absurd (omega arith)
   earlierBegan (suc bound) v low k i p h x =

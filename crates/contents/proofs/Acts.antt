@@ -44,26 +44,32 @@ abbrev framed : ℕ → ℕ → Option Vote → Option Frame
 framed k j none = none
 framed k j (some v) = some (record { kind = suc k; sender = j; view = v .view; body = Plan (v .plan) })
 
+-- The vote that a kept frame is, where there is one.
 abbrev asVote : Option Frame → Option Vote
 asVote o = each o (λ f. voteBy (f .view) (f .body))
 
+-- The frame of a vote reads as that vote.
 voteFramed : (k j : ℕ) (o : Option Vote) → asVote (framed k j o) ≡ o
 voteFramed k j none = refl
 voteFramed k j (some v) = refl
 
+-- Its slot is that vote, spelt.
 headFramed : (k j : ℕ) (o : Option Vote) → headOf (framed k j o) ≡ spelt o
 headFramed k j none = refl
 headFramed k j (some v) = refl
 
 -- A slot of these kinds holds a vote.
 module _ (s : ℕ → Report) (k j : ℕ) where
+  -- The slot.
   abbrev there : Report
   there = s (frameSlot (suc k) j)
 
+  -- What the slot reports, its mark being known.
   reads : {b : Bool} → eqb (there .mark) 1 ≡ b → framed k j (cond b (some (record { view = there .view; plan = there .plan })) none)
       ≡ framed k j (reported there)
   reads e = ap (λ (b : Bool). framed k j (cond b (some (record { view = there .view; plan = there .plan })) none)) (sym e)
 
+  -- The frame that these slots hold is that of the vote in the slot.
   keptVote : k ≤ 4 → keptIn s (suc k) j ≡ framed k j (reported there)
   unfolding frameIn
   keptVote low = go (which (eqb (there .mark) 1))
@@ -82,6 +88,7 @@ module _ (r : slots.Record) (k j : ℕ) (low : k ≤ 4) (row : j < rows) where
       ap asVote (keptAt r (suc k) j (omega arith) (omega arith) row ∙ keptVote (slotOf r) k j low)
       ∙ voteFramed k j (reported (slotOf r (frameSlot (suc k) j)))
 
+  -- In a clean record the slot holds just that vote.
   pub slotVote : Clean r → slotOf r (frameSlot (suc k) j) ≡ spelt (reported (slotOf r (frameSlot (suc k) j)))
   slotVote h =
       filledOf r h .head (suc k) j (omega arith) (omega arith) row ∙ ap headOf (keptVote (slotOf r) k j low)
@@ -108,6 +115,7 @@ ofKind (suc (suc (suc k))) =
     rw (le-leb 2 (suc j) (omega arith), lt-leb (suc j) 3 (omega arith), ne-eqb j 1 (λ (e : j ≡ 1). omega arith), ne-eqb j 2 (λ (e : j ≡ 2). omega arith))
 
 module _ (r : slots.Record) (k p : ℕ) where
+  -- The slot of the own kept vote-k.
   abbrev own : Report
   own = slotOf r (frameSlot (suc k) (r .set .id))
 
@@ -115,15 +123,19 @@ module _ (r : slots.Record) (k p : ℕ) where
   abbrev moved : Bool → slots.Record
   moved b = cond b (withSlot r (previousSlot (suc k)) own) r
 
+  -- The contents with other previous votes.
   abbrev previously : (ℕ → Option Vote) → Record
   previously q = changed (contents r) (contents r .view) (contents r .kept) q (contents r .decision)
 
+  -- The previous votes, where they shift (b) and the own vote so far is o.
   abbrev shiftedBy : Bool → Option Vote → ℕ → Option Vote
   shiftedBy b o = cond b (put k (shift p o (contents r .previous k)) (contents r .previous)) (contents r .previous)
 
+  -- What the own slot reports, its mark being known.
   vote : {m : Bool} → eqb (own .mark) 1 ≡ m → cond m (some (record { view = own .view; plan = own .plan })) none ≡ reported own
   vote e = ap (λ (b : Bool). cond b (some (record { view = own .view; plan = own .plan })) none) (sym e)
 
+  -- Moved slots are shifted contents, case by case: has this vote a previous one, is a vote kept, is it for p.
   contentsMoved : (h m e : Bool) → hasPrevious k ≡ h → eqb (own .mark) 1 ≡ m → eqb (own .plan) p ≡ e
       → contents (moved (h && (m && not e))) ≡ previously (shiftedBy h (cond m (some (record { view = own .view; plan = own .plan })) none))
   contentsMoved false m e has there same = refl
@@ -145,6 +157,7 @@ module _ (r : slots.Record) (k p : ℕ) where
       ∙ contentsMoved (hasPrevious k) (eqb (own .mark) 1) (eqb (own .plan) p) refl refl refl
       ∙ ap (λ (o : Option Vote). previously (shiftedBy (hasPrevious k) o)) (sym (voteAt r k (r .set .id) low row))
 
+  -- The record stays clean: what moves is a vote.
   pub cleanShifted : Clean r → k ≤ 4 → r .set .id < rows → Clean (shifted r (suc k) p)
   unfolding shifted moves
   cleanShifted h low row = rw (ofKind k) (go (hasPrevious k) (present own && not (eqb (own .plan) p)) refl)
@@ -160,28 +173,34 @@ module _ (r : slots.Record) (k p : ℕ) where
 
 -- To vote, and to propose (k = 0).
 module _ (r : slots.Record) (k p : ℕ) (low : k ≤ 4) (row : r .set .id < rows) where
+  -- The record with the previous vote shifted, before the new vote is kept.
   abbrev after : slots.Record
   after = shifted r (suc k) p
 
+  -- A vote's kind is one that has a plan.
   fitsVote : within 1 5 (suc k) ≡ true
   fitsVote = inside 1 5 (suc k) (omega arith) (omega arith)
 
+  -- To vote in the slots is to vote by contents.
   pub contentsCast : contents (ownBroadcast r (voteFrame (contents r) k p)) ≡ does (contents r) (cast k p)
   unfolding ownBroadcast contents does keep
   contentsCast =
       contentsKeep after (voteFrame (contents r) k p) refl row fitsVote
       ∙ ap (keep (voteFrame (contents r) k p)) (contentsShifted r k p low row)
 
+  -- And leaves the record clean.
   pub cleanCast : Clean r → Clean (ownBroadcast r (voteFrame (contents r) k p))
   unfolding ownBroadcast contents
   cleanCast h = cleanKeep after (voteFrame (contents r) k p) refl (cleanShifted r k p h low row) row fitsVote
 
 -- To ask for a view.
 module _ (r : slots.Record) (w : ℕ) (row : r .set .id < rows) where
+  -- To ask in the slots is to ask by contents.
   pub contentsAsk : contents (keepFrame r (r .set .id) (changeFrame (contents r) w)) ≡ does (contents r) (ask w)
   unfolding contents does keep
   contentsAsk = contentsKeep r (changeFrame (contents r) w) refl row refl
 
+  -- And leaves the record clean.
   pub cleanAsk : Clean r → Clean (keepFrame r (r .set .id) (changeFrame (contents r) w))
   unfolding contents
   cleanAsk h = cleanKeep r (changeFrame (contents r) w) refl h row refl
@@ -215,17 +234,21 @@ tellsAt r rule h row = λ i. record {
 
 -- To enter a view: its proof is kept, and its suggest where the vault leads it.
 module _ (r : slots.Record) (w : ℕ) where
+  -- The record with the view and the proof put in.
   abbrev pub proved : slots.Record
   proved = keepFrame (withView r w) (r .set .id) (reportFrame (contents r) rule3 w)
 
+  -- The record after entering, for one that leads the view or not.
   abbrev pub enteredBy : Bool → slots.Record
   enteredBy true = keepFrame proved (r .set .id) (reportFrame (contents r) rule1 w)
   enteredBy false = proved
 
+  -- The proof is kept, by contents.
   contentsProved : r .set .id < rows → contents proved ≡ keep (reportFrame (contents r) rule3 w) (contents (withView r w))
   unfolding contents within
   contentsProved row = contentsKeep (withView r w) (reportFrame (contents r) rule3 w) refl row refl
 
+  -- To enter a view in the slots is to enter it by contents.
   pub contentsEnter : r .set .id < rows → contents (enteredBy (leads (contents r) w)) ≡ does (contents r) (enter w)
   unfolding contents does keep within
   contentsEnter row = go (leads (contents r) w)
@@ -236,6 +259,7 @@ module _ (r : slots.Record) (w : ℕ) where
           ∙ ap (keep (reportFrame (contents r) rule1 w)) (contentsProved row ∙ ap (keep (reportFrame (contents r) rule3 w)) (contentsView r w))
       go false = contentsProved row ∙ ap (keep (reportFrame (contents r) rule3 w)) (contentsView r w)
 
+  -- And leaves the record clean.
   pub cleanEnter : Clean r → r .set .id < rows → (b : Bool) → Clean (enteredBy b)
   unfolding contents within
   cleanEnter h row = go

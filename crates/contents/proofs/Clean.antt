@@ -35,14 +35,17 @@ pub record Filled (s : ℕ → Report) : Type 0 where
 -- ---- what the contents say at a place
 
 module _ (r : slots.Record) where
+  -- A kept frame is the one that its slots hold.
   pub keptAt : (k j : ℕ) → 1 ≤ k → k ≤ kinds → j < rows → contents r .kept k j ≡ keptFrame r k j
   unfolding contents keptOf
   keptAt k j low high row = rw (inside 1 kinds k low high, lt-ltb j rows row)
 
+  -- A previous vote is the one that its slot reports.
   pub previousAt : (k : ℕ) → hasPrevious k ≡ true → contents r .previous k ≡ reported (slotOf r (previousSlot (suc k)))
   unfolding contents previousOf
   previousAt k has = ap (λ (b : Bool). when b (reported (slotOf r (previousSlot (suc k))))) has
 
+  -- So is the decision.
   pub decisionAt : contents r .decision ≡ reported (slotOf r decisionSlot)
   unfolding contents
   decisionAt = refl
@@ -50,6 +53,7 @@ module _ (r : slots.Record) where
 -- ---- place by place
 
 module _ (r : slots.Record) where
+  -- A record whose places are filled, with nothing beyond them, is clean.
   pub cleanOf : ((i : ℕ) → slotCount ≤ i → slotOf r i ≡ emptySlot) → Filled (slotOf r) → Clean r
   cleanOf beyond h = record { filled = λ i. go i (decLt i slotCount) }
     where
@@ -69,9 +73,11 @@ module _ (r : slots.Record) where
   pub beyondOf : Clean r → (i : ℕ) → slotCount ≤ i → slotOf r i ≡ emptySlot
   beyondOf h i far = h .filled i ∙ ap (λ (b : Bool). cond b (slotAt (contents r) i) emptySlot) (le-ltb i slotCount far)
 
+  -- A slot of a clean record is what its contents put there.
   pub filledAt : Clean r → (i : ℕ) → i < slotCount → slotOf r i ≡ slotAt (contents r) i
   filledAt h i low = h .filled i ∙ ap (λ (b : Bool). cond b (slotAt (contents r) i) emptySlot) (lt-ltb i slotCount low)
 
+  -- So every place of a clean record is filled.
   pub filledOf : Clean r → Filled (slotOf r)
   filledOf h = record {
     head = λ k j low high row. filledAt h (frameSlot k j) (omega arith) ∙ slotHead (contents r) k j low high row ∙ ap headOf (keptAt r k j low high row);
@@ -89,12 +95,15 @@ pub asWas : {x y : Report} → y ≡ x → x ≡ spelt (reported x) → y ≡ sp
 asWas e h = e ∙ h ∙ ap (λ (z : Report). spelt (reported z)) (sym e)
 
 module _ (r : slots.Record) (f : Frame) (h : Clean r) (row : f .sender < rows) (fit : fits (f .kind) (f .body) ≡ true) where
+  -- The slots, once the frame is kept.
   abbrev s : ℕ → Report
   s = slotOf (keepFrame r (f .sender) f)
 
+  -- Beyond the last slot there is still nothing.
   beyondKeep : (i : ℕ) → slotCount ≤ i → s i ≡ emptySlot
   beyondKeep i far = farStays r f row fit i (omega arith) ∙ beyondOf r h i far
 
+  -- Every place is still filled: the frame's own by the frame, the others as they were.
   filledKeep : Filled s
   filledKeep = record {
     head = λ k j low high below. byPlace r f row fit k j
@@ -124,6 +133,7 @@ module _ (r : slots.Record) (f : Frame) (h : Clean r) (row : f .sender < rows) (
       there : keptIn s (f .kind) (f .sender) ≡ some f
       there = keptPut r f row fit
 
+-- A clean record stays clean when a frame is put into its row.
 pub cleanKeep : (r : slots.Record) (f : Frame) {j : ℕ} → f .sender ≡ j → Clean r → j < rows → fits (f .kind) (f .body) ≡ true → Clean (keepFrame r j f)
 cleanKeep r f is h row fit =
     subst (λ (j : ℕ). Clean (keepFrame r j f)) is (cleanOf (keepFrame r (f .sender) f) (beyondKeep r f h (rw is row) fit) (filledKeep r f h (rw is row) fit))

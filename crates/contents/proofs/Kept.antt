@@ -36,6 +36,7 @@ use Rattle.contents.specs.Contents.{keptOf, previousOf, contents, nth, t
 -- Slots that agree at the places of a kind and a sender hold the same there.
 module _ (s t : ℕ → Report) (k j : ℕ) (head : s (frameSlot k j) ≡ t (frameSlot k j))
     (told : (w : ℕ) → w < 3 → 7 ≤ k → s (reportSlot k w j) ≡ t (reportSlot k w j)) where
+  -- They hold the same body.
   bodySame : Form k → bodyIn s k j ≡ bodyIn t k j
   bodySame (plan low high) = bodyPlan s k j low high ∙ ap (λ (x : Report). Plan (x .plan)) head ∙ sym (bodyPlan t k j low high)
   bodySame (bare e) = bodyBare s k j e ∙ sym (bodyBare t k j e)
@@ -45,6 +46,7 @@ module _ (s t : ℕ → Report) (k j : ℕ) (head : s (frameSlot k j) ≡ t (fra
       let e₂ = told 2 (omega arith) low in
       bodyReports s k j low ∙ (λ i. Told (record { highest = e₀ i; previous = e₁ i; lock = e₂ i })) ∙ sym (bodyReports t k j low)
 
+  -- They hold the same frame.
   pub keptSame : 1 ≤ k → k ≤ kinds → keptIn s k j ≡ keptIn t k j
   unfolding keptIn frameIn
   keptSame low high = rw (head, bodySame (form k low high))
@@ -52,6 +54,7 @@ module _ (s t : ℕ → Report) (k j : ℕ) (head : s (frameSlot k j) ≡ t (fra
 -- Slots that hold a frame's head, and its reports where it has any, hold that frame.
 module _ (s : ℕ → Report) (f : Frame) (fit : fits (f .kind) (f .body) ≡ true) (head : s (frameSlot (f .kind) (f .sender)) ≡ headSlot f)
     (told : (w : ℕ) → w < 3 → 7 ≤ f .kind → s (reportSlot (f .kind) w (f .sender)) ≡ toldBy w (f .body)) where
+  -- The body that they hold is the frame's.
   bodyIs : bodyIn s (f .kind) (f .sender) ≡ f .body
   bodyIs = go (f .body) fit (ap (λ (x : Report). x .plan) head) told
     where
@@ -67,6 +70,7 @@ module _ (s : ℕ → Report) (f : Frame) (fit : fits (f .kind) (f .body) ≡ tr
           let e₂ = told 2 (omega arith) low in
           bodyReports s (f .kind) (f .sender) low ∙ (λ i. Told (record { highest = e₀ i; previous = e₁ i; lock = e₂ i }))
 
+  -- They hold the frame.
   pub keptIs : keptIn s (f .kind) (f .sender) ≡ some f
   unfolding frameIn
   keptIs =
@@ -78,12 +82,15 @@ module _ (s : ℕ → Report) (f : Frame) (fit : fits (f .kind) (f .body) ≡ tr
 -- ---- the slots of a record with a frame put into its sender's row
 
 module _ (r : slots.Record) (k j : ℕ) (t : Reports) where
+  -- The record with the first report put in.
   abbrev one : slots.Record
   one = withSlot r (reportSlot k 0 j) (t .highest)
 
+  -- And with the second.
   abbrev two : slots.Record
   two = withSlot one (reportSlot k 1 j) (t .previous)
 
+  -- Three reports put in leave the other slots as they were.
   reportsOther : (i : ℕ) → ((w : ℕ) → w < 3 → i ≢ reportSlot k w j) → slotOf (withReports r k j t) i ≡ slotOf r i
   unfolding withReports
   reportsOther i ne =
@@ -91,6 +98,7 @@ module _ (r : slots.Record) (k j : ℕ) (t : Reports) where
       ∙ slotOther one (reportSlot k 1 j) (t .previous) i (ne 1 (omega arith))
       ∙ slotOther r (reportSlot k 0 j) (t .highest) i (ne 0 (omega arith))
 
+  -- And each of them stands at its place.
   reportsThere : 7 ≤ k → k ≤ kinds → j < rows → (w : ℕ) → w < 3 → slotOf (withReports r k j t) (reportSlot k w j) ≡ nth w t
   unfolding withReports
   reportsThere low high row zero lw =
@@ -111,6 +119,7 @@ pub record Puts (k j : ℕ) (x : Report) (b : Body) (s t : ℕ → Report) : Typ
   pub other : (i : ℕ) → i ≢ frameSlot k j → ((w : ℕ) → w < 3 → 7 ≤ k → i ≢ reportSlot k w j) → t i ≡ s i
 
 module _ (r : slots.Record) (f : Frame) where
+  -- The record with the frame's head put in.
   abbrev headed : slots.Record
   headed = withSlot r (frameSlot (f .kind) (f .sender)) (headSlot f)
 
@@ -125,6 +134,7 @@ module _ (r : slots.Record) (f : Frame) where
       go Empty = same _ _ r
       go (Told t) = same _ _ (two headed (f .kind) (f .sender) t) ∙ same _ _ (one headed (f .kind) (f .sender) t) ∙ same _ _ headed ∙ same _ _ r
 
+  -- What keeping a frame does to the slots: its head and reports are put in, and other slots stay.
   pub putsKeep : f .sender < rows → fits (f .kind) (f .body) ≡ true
       → Puts (f .kind) (f .sender) (headSlot f) (f .body) (slotOf r) (slotOf (keepFrame r (f .sender) f))
   unfolding keepFrame
@@ -160,10 +170,12 @@ pub guarded : {A : Type 0} (b : Bool) {x y : Option A} → (b ≡ true → x ≡
 guarded true f = f refl
 guarded false f = refl
 
+-- Where the guard holds there is nothing: then there is nothing at all.
 pub guardedNone : {A : Type 0} (b : Bool) {o : Option A} → (b ≡ true → o ≡ none) → when b o ≡ none
 guardedNone true f = f refl
 guardedNone false f = refl
 
+-- Only vote-1 and vote-2 have a previous vote.
 pub previousBounds : (k : ℕ) → hasPrevious k ≡ true → (1 ≤ k) × (k ≤ 2)
 previousBounds k h = go (either (eqb k 1) (eqb k 2) h)
   where
@@ -172,9 +184,11 @@ previousBounds k h = go (either (eqb k 1) (eqb k 2) h)
     go (inr e) = let is : k ≡ 2 = eqb-true k 2 e in (omega arith, omega arith)
 
 module _ (r : slots.Record) (f : Frame) (row : f .sender < rows) (fit : fits (f .kind) (f .body) ≡ true) where
+  -- The record with the frame kept.
   abbrev after : slots.Record
   after = keepFrame r (f .sender) f
 
+  -- What that did to its slots.
   abbrev puts : Puts (f .kind) (f .sender) (headSlot f) (f .body) (slotOf r) (slotOf after)
   puts = putsKeep r f row fit
 
@@ -184,6 +198,7 @@ module _ (r : slots.Record) (f : Frame) (row : f .sender < rows) (fit : fits (f 
 
   -- The slots of another kind or sender are as they were, and so is what they hold.
   module _ (k j : ℕ) (low : 1 ≤ k) (high : k ≤ kinds) (below : j < rows) (ne : ¬ ((f .kind ≡ k) × (f .sender ≡ j))) where
+    -- The slot of its head stays.
     pub headStays : slotOf after (frameSlot k j) ≡ slotOf r (frameSlot k j)
     headStays =
         let (l, h) = fitsKind (f .kind) (f .body) fit in
@@ -191,6 +206,7 @@ module _ (r : slots.Record) (f : Frame) (row : f .sender < rows) (fit : fits (f 
         (λ (e : frameSlot k j ≡ frameSlot (f .kind) (f .sender)). ne (omega arith, omega arith))
         (λ w lw seven (e : frameSlot k j ≡ reportSlot (f .kind) w (f .sender)). omega arith)
 
+    -- The slots of its reports stay.
     pub toldStays : (w : ℕ) → w < 3 → 7 ≤ k → slotOf after (reportSlot k w j) ≡ slotOf r (reportSlot k w j)
     toldStays w lw seven =
         let (l, h) = fitsKind (f .kind) (f .body) fit in
@@ -198,6 +214,7 @@ module _ (r : slots.Record) (f : Frame) (row : f .sender < rows) (fit : fits (f 
         (λ (e : reportSlot k w j ≡ frameSlot (f .kind) (f .sender)). omega arith)
         (λ w′ lw′ seven′ (e : reportSlot k w j ≡ reportSlot (f .kind) w′ (f .sender)). ne (omega arith, omega arith))
 
+    -- So the frame that is kept there stays.
     pub keptStays : keptIn (slotOf after) k j ≡ keptIn (slotOf r) k j
     keptStays = keptSame (slotOf after) (slotOf r) k j headStays toldStays low high
 
@@ -216,6 +233,7 @@ module _ (r : slots.Record) (f : Frame) (row : f .sender < rows) (fit : fits (f 
       go (inl e) = let (a, b) = bothSplit (eqb (f .kind) k) (eqb (f .sender) j) e in same e (eqb-true (f .kind) k a) (eqb-true (f .sender) j b)
       go (inr e) = other e (λ (a, b). clash (bothJoin (eqb (f .kind) k) (eqb (f .sender) j) (eq-eqb (f .kind) k a) (eq-eqb (f .sender) j b)) e)
 
+  -- The kept frames, by contents, are the old ones with this one put in.
   keptKeep : (k j : ℕ) → keptOf after k j ≡ keeping f (keptOf r) k j
   unfolding keptOf
   keptKeep k j = byPlace k j
@@ -231,10 +249,12 @@ module _ (r : slots.Record) (f : Frame) (row : f .sender < rows) (fit : fits (f 
       let (low, high) = bounds 1 kinds k gk in
       keptStays k j low high (ltb-true j rows gj) ne)))
 
+  -- The previous votes are as they were.
   previousKeep : (k : ℕ) → previousOf after k ≡ previousOf r k
   unfolding previousOf
   previousKeep k = guarded (hasPrevious k) (λ g. let (low, high) = previousBounds k g in ap reported (farStays (previousSlot (suc k)) (omega arith)))
 
+  -- So the contents are those with the frame kept.
   contentsRow : contents after ≡ keep f (contents r)
   unfolding contents keep
   contentsRow =
@@ -253,5 +273,6 @@ module _ (r : slots.Record) (f : Frame) (row : f .sender < rows) (fit : fits (f 
 
 -- To put a frame into its sender's row is to keep it.
 module _ (r : slots.Record) (f : Frame) {j : ℕ} (is : f .sender ≡ j) where
+  -- The same for a row that is known to be the sender's.
   pub contentsKeep : j < rows → fits (f .kind) (f .body) ≡ true → contents (keepFrame r j f) ≡ keep f (contents r)
   contentsKeep row fit = subst (λ (j : ℕ). contents (keepFrame r j f) ≡ keep f (contents r)) is (contentsRow r f (rw is row) fit)

@@ -21,6 +21,7 @@ use Rattle.contents.specs.Lent.{IsSound, LentIsSaid}
 use Rattle.contents.proofs.Widths.{rangedFits}
 use Rattle.contents.proofs.Ready.{readyLent, lentReady}
 
+-- The test says blank only where the length is right and n is 0.
 blankOnly : (a b c : Bool) → cond a (cond b Blank (cond c Sound Unsound)) Unsound ≡ Blank → (a ≡ true) × (b ≡ true)
 blankOnly true true c e = (refl, refl)
 blankOnly true false true e = let z : _≡_ {A = ℕ} 0 1 = cc in absurd (omega arith)
@@ -44,5 +45,6 @@ soundIsLent s bytes = (
   λ e. let r = readyLent s bytes e in record { size = r .size; clean = r .clean; sound = r .sound },
 )
 
+-- The calls' test on a lent record is what document 01 says of it.
 pub lentIsSaid : LentIsSaid
 lentIsSaid = record { blank = blankIsLent; sound = soundIsLent }

@@ -34,26 +34,32 @@ use Rattle.contents.proofs.Clean.{Filled, asWas, cleanOf, beyondOf, fil
 -- ---- the view
 
 module _ (r : slots.Record) (w : ℕ) where
+  -- The view put in is the contents' view, and the rest stays.
   pub contentsView : contents (withView r w) ≡ changed (contents r) w (contents r .kept) (contents r .previous) (contents r .decision)
   unfolding contents keptOf previousOf
   contentsView = refl
 
+  -- The record stays clean: no slot changes.
   pub cleanView : Clean r → Clean (withView r w)
   cleanView h = cleanOf (withView r w) (beyondOf r h) (filledOf r h)
 
 -- ---- a slot beyond those of kinds and senders
 
 module _ (r : slots.Record) (at : ℕ) (x : Report) (far : firstPrevious ≤ at) where
+  -- Such a slot is no frame's own slot, so those stay.
   frameStays : (k j : ℕ) → 1 ≤ k → k ≤ kinds → j < rows → slotOf (withSlot r at x) (frameSlot k j) ≡ slotOf r (frameSlot k j)
   frameStays k j low high row = slotOther r at x (frameSlot k j) (λ (e : frameSlot k j ≡ at). omega arith)
 
+  -- Nor is it a report's.
   reportStays : (k w j : ℕ) → k ≤ kinds → w < 3 → j < rows → slotOf (withSlot r at x) (reportSlot k w j) ≡ slotOf r (reportSlot k w j)
   reportStays k w j high lw row = slotOther r at x (reportSlot k w j) (λ (e : reportSlot k w j ≡ at). omega arith)
 
+  -- So the frames that slots hold stay.
   frameKept : (k j : ℕ) → 1 ≤ k → k ≤ kinds → j < rows → keptIn (slotOf (withSlot r at x)) k j ≡ keptIn (slotOf r) k j
   frameKept k j low high row =
       keptSame (slotOf (withSlot r at x)) (slotOf r) k j (frameStays k j low high row) (λ w lw seven. reportStays k w j high lw row) low high
 
+  -- And the kept frames, by contents.
   keptBeside : (k j : ℕ) → keptOf (withSlot r at x) k j ≡ keptOf r k j
   unfolding keptOf
   keptBeside k j = guarded (within 1 kinds k && ltb j rows) (λ g.
@@ -87,6 +93,7 @@ module _ (r : slots.Record) (at : ℕ) (x : Report) (far : firstPrevious ≤ at)
 -- ---- a previous vote
 
 module _ (r : slots.Record) (k : ℕ) (x : Report) (has : hasPrevious k ≡ true) where
+  -- The previous votes, with that of vote-k put in.
   previousPut : (j : ℕ) → previousOf (withSlot r (previousSlot (suc k)) x) j ≡ put k (reported x) (previousOf r) j
   unfolding previousOf
   previousPut j = go (which (eqb k j))
@@ -107,6 +114,7 @@ module _ (r : slots.Record) (k : ℕ) (x : Report) (has : hasPrevious k ≡ true
           (λ (s : previousSlot (suc j) ≡ previousSlot (suc k)). eqb-false k j e (omega arith))))
           ∙ ap (λ (b : Bool). cond b (reported x) (previousOf r j)) (sym e)
 
+  -- A previous vote put in is the contents' previous vote, and the rest stays.
   pub contentsPrevious : contents (withSlot r (previousSlot (suc k)) x)
       ≡ changed (contents r) (contents r .view) (contents r .kept) (put k (reported x) (contents r .previous)) (contents r .decision)
   unfolding contents
@@ -126,9 +134,11 @@ module _ (r : slots.Record) (k : ℕ) (x : Report) (has : hasPrevious k ≡ true
 -- ---- the decision
 
 module _ (r : slots.Record) (v p : ℕ) where
+  -- The record with a decision put in.
   abbrev pub decided : slots.Record
   decided = withSlot r decisionSlot (record { mark = 1; view = v; plan = p })
 
+  -- The previous votes stay.
   previousDecide : (k : ℕ) → previousOf decided k ≡ previousOf r k
   unfolding previousOf
   previousDecide k = guarded (hasPrevious k) (λ g.
@@ -136,6 +146,7 @@ module _ (r : slots.Record) (v p : ℕ) where
       ap reported (slotOther r decisionSlot (record { mark = 1; view = v; plan = p }) (previousSlot (suc k))
       (λ (e : previousSlot (suc k) ≡ decisionSlot). omega arith)))
 
+  -- A decision put in is the contents' decision, and the rest stays.
   pub contentsDecide : contents decided ≡ changed (contents r) (contents r .view) (contents r .kept) (contents r .previous)
       (some (record { view = v; plan = p }))
   unfolding contents
@@ -151,21 +162,25 @@ module _ (r : slots.Record) (v p : ℕ) where
         decision = decision i;
       }
 
+  -- The record stays clean: a decision is a vote.
   pub cleanDecide : Clean r → Clean decided
   cleanDecide h = cleanBeside r decisionSlot (record { mark = 1; view = v; plan = p }) (omega arith) h (omega arith) refl
 
 -- ---- a fresh record
 
 module _ (set : Settings) (plan : ℕ) where
+  -- All slots are empty.
   slotFresh : (i : ℕ) → slotOf (fresh set plan) i ≡ emptySlot
   unfolding fresh
   slotFresh i = refl
 
+  -- So no frame is kept.
   keptFresh : (k j : ℕ) → keptIn (slotOf (fresh set plan)) k j ≡ none
   keptFresh k j = keptNothing (slotOf (fresh set plan)) k j (λ e.
       let z : _≡_ {A = ℕ} 0 1 = sym (ap (λ (x : Report). x .mark) (slotFresh (frameSlot k j))) ∙ e in
       omega arith)
 
+  -- The record of a start holds what a start has by contents.
   pub contentsFresh : contents (fresh set plan) ≡ protocol.fresh set plan
   unfolding contents keptOf previousOf fresh
   contentsFresh = λ i. record {
@@ -177,6 +192,7 @@ module _ (set : Settings) (plan : ℕ) where
     decision = ap reported (slotFresh decisionSlot) i;
   }
 
+  -- And is clean.
   pub cleanFresh : Clean (fresh set plan)
   cleanFresh = cleanOf (fresh set plan) (λ i far. slotFresh i) (record {
     head = λ k j low high row. slotFresh (frameSlot k j) ∙ ap headOf (sym (keptFresh k j));

@@ -16,6 +16,7 @@ use Rattle.contents.proofs.Kept.{previousBounds}
 -- ---- what contents put there
 
 module _ (c : Record) where
+  -- At the place of a kind and a sender stands the frame's head.
   pub slotHead : (k j : ℕ) → 1 ≤ k → k ≤ kinds → j < rows → slotAt c (frameSlot k j) ≡ headOf (c .kept k j)
   unfolding slotAt
   slotHead k j low high row =
@@ -25,6 +26,7 @@ module _ (c : Record) where
       rw (lt-ltb (frameSlot k j) firstReport (omega arith)) refl in
       there ∙ (λ i. headOf (c .kept (kind i) (sender i)))
 
+  -- At the place of one of its reports stands that report.
   pub slotTold : (k w j : ℕ) → 7 ≤ k → k ≤ kinds → w < 3 → j < rows → slotAt c (reportSlot k w j) ≡ toldOf w (c .kept k j)
   unfolding slotAt
   slotTold k w j low high lw row =
@@ -33,6 +35,7 @@ module _ (c : Record) where
       let sender : reportSlot k w j % rows ≡ j = omega arith in
       rw (le-ltb (reportSlot k w j) firstReport (omega arith), lt-ltb (reportSlot k w j) firstPrevious (omega arith), kind, report, sender)
 
+  -- At the place of a previous vote stands that vote, spelt.
   pub slotPrevious : (k : ℕ) → hasPrevious k ≡ true → slotAt c (previousSlot (suc k)) ≡ spelt (c .previous k)
   unfolding slotAt
   slotPrevious k has =
@@ -46,6 +49,7 @@ module _ (c : Record) where
       ) refl in
       there ∙ ap (λ (v : ℕ). spelt (c .previous v)) vote
 
+  -- At the last place stands the decision, spelt.
   pub slotDecision : slotAt c decisionSlot ≡ spelt (c .decision)
   unfolding slotAt
   slotDecision = refl

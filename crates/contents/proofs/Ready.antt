@@ -50,6 +50,7 @@ module _ {s : List ℕ} {r : slots.Record} (h : Holds s r) where
 -- ---- bytes that are ready
 
 module _ {s : List ℕ} (h : Ready s) where
+  -- Their settings pass 5 to 8.
   settingsPass : first (settingRows (decodeRecord s .set)) ≡ 0
   unfolding contents
   settingsPass = h .sound .settings
@@ -83,6 +84,7 @@ lentReady {rec} h =
 -- ---- bytes that are ready are those that their contents spell
 
 module _ {s : List ℕ} (h : Ready s) (bytes : Bytes s) where
+  -- Bytes that are ready are those that their contents spell.
   pub readyEncoded : encodeRecord (slotted (contentsIn s)) ≡ s
   readyEncoded = ap encodeRecord (readySlotted h) ∙ encodeDecode s bytes (h .size)
 

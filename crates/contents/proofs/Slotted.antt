@@ -31,16 +31,19 @@ use Rattle.contents.proofs.Clean.{filledAt, cleanOf}
 
 -- ---- a clean record is the one that its contents fill
 
+-- To read a clean record's contents and to fill slots with them gives the record.
 pub slottedContents : (r : slots.Record) → Clean r → slotted (contents r) ≡ r
 unfolding contents slotted
 slottedContents r h = sym (λ i. record { set = r .set; view = r .view; plan = r .plan; slots = λ at. h .filled at i })
 
 -- ---- contents are read back
 
+-- Each slot that contents fill holds what `slotAt` says.
 pub slotSlotted : (c : Record) (i : ℕ) → i < slotCount → slotOf (slotted c) i ≡ slotAt c i
 unfolding slotted
 slotSlotted c i low = ap (λ (b : Bool). cond b (slotAt c i) emptySlot) (lt-ltb i slotCount low)
 
+-- Beyond the last slot they fill none.
 pub slotBeyond : (c : Record) (i : ℕ) → slotCount ≤ i → slotOf (slotted c) i ≡ emptySlot
 unfolding slotted
 slotBeyond c i far = ap (λ (b : Bool). cond b (slotAt c i) emptySlot) (le-ltb i slotCount far)
@@ -49,26 +52,33 @@ slotBeyond c i far = ap (λ (b : Bool). cond b (slotAt c i) emptySlot) (le-ltb i
 abbrev pub Placed : Record → Type 0
 Placed c = (k : ℕ) → hasPrevious k ≡ false → c .previous k ≡ none
 
+-- A vote that is spelt as a report reads as that vote.
 reportedSpelt : (o : Option Vote) → reported (spelt o) ≡ o
 reportedSpelt none = refl
 reportedSpelt (some x) = refl
 
+-- Where the test passes, `when` leaves all.
 guardedTrue : {A : Type 0} {b : Bool} (o : Option A) → b ≡ true → when b o ≡ o
 guardedTrue o e = ap (λ (b : Bool). when b o) e
 
 module _ (c : Record) (sound : Sound c) where
+  -- The slots that the contents fill.
   abbrev s : ℕ → Report
   s = slotOf (slotted c)
 
+  -- A frame's own slot is filled with its head.
   headSlotted : (k j : ℕ) → 1 ≤ k → k ≤ kinds → j < rows → s (frameSlot k j) ≡ headOf (c .kept k j)
   headSlotted k j low high row = slotSlotted c (frameSlot k j) (omega arith) ∙ slotHead c k j low high row
 
+  -- A report's slot is filled with the report.
   toldSlotted : (k w j : ℕ) → 7 ≤ k → k ≤ kinds → w < 3 → j < rows → s (reportSlot k w j) ≡ toldOf w (c .kept k j)
   toldSlotted k w j low high lw row = slotSlotted c (reportSlot k w j) (omega arith) ∙ slotTold c k w j low high lw row
 
+  -- A previous vote's slot is filled with that vote.
   previousSlotted : (k : ℕ) → hasPrevious k ≡ true → s (previousSlot (suc k)) ≡ spelt (c .previous k)
   previousSlotted k has = let (low, high) = previousBounds k has in slotSlotted c (previousSlot (suc k)) (omega arith) ∙ slotPrevious c k has
 
+  -- The last slot is filled with the decision.
   decisionSlotted : s decisionSlot ≡ spelt (c .decision)
   decisionSlotted = slotSlotted c decisionSlot (omega arith) ∙ slotDecision c
 
@@ -86,6 +96,7 @@ module _ (c : Record) (sound : Sound c) where
           (rw (is .kind, is .sender) (headSlotted k j low high row ∙ ap headOf e))
           (λ w lw seven. rw (is .kind, is .sender) (toldSlotted k w j (rw (is .kind) at seven) high lw row ∙ ap (toldOf w) e))))
 
+  -- Every kept frame is read back, also where there are no slots: a sound record keeps none there.
   keptSlotted : (k j : ℕ) → keptOf (slotted c) k j ≡ c .kept k j
   unfolding keptOf
   keptSlotted k j = go (c .kept k j) refl
@@ -102,6 +113,7 @@ module _ (c : Record) (sound : Sound c) where
           let gj : ltb j rows ≡ true = lt-ltb j rows (omega (arith, is .row, sizeBelow (c .set) (sound .settings))) in
           guardedTrue (keptFrame (slotted c) k j) (bothJoin (within 1 kinds k) (ltb j rows) gk gj) ∙ there gk gj ∙ e
 
+  -- The previous votes are read back.
   previousBack : Placed c → (k : ℕ) → previousOf (slotted c) k ≡ c .previous k
   unfolding previousOf
   previousBack two k = go (which (hasPrevious k))
@@ -110,6 +122,7 @@ module _ (c : Record) (sound : Sound c) where
       go (inl has) = guardedTrue (reported (s (previousSlot (suc k)))) has ∙ ap reported (previousSlotted k has) ∙ reportedSpelt (c .previous k)
       go (inr other) = ap (λ (b : Bool). when b (reported (s (previousSlot (suc k))))) other ∙ sym (two k other)
 
+  -- Sound contents are read back whole, if they have no previous votes but vote-1's and vote-2's.
   pub contentsSlotted : Placed c → contents (slotted c) ≡ c
   unfolding contents slotted
   contentsSlotted two =
@@ -123,6 +136,7 @@ module _ (c : Record) (sound : Sound c) where
         decision = decision i;
       }
 
+  -- A record that contents fill is clean.
   pub cleanSlotted : Clean (slotted c)
   cleanSlotted = cleanOf (slotted c) (slotBeyond c) (record {
     head = λ k j low high row. headSlotted k j low high row ∙ ap headOf (sym (keptBack k j low high row));

@@ -59,9 +59,11 @@ record Passed (set : Settings) (view : ℕ) (f : Frame) : Type 0 where
   leader : first (leaderRows f (set .n) (set .id)) ≡ 0
 
 module _ (set : Settings) (view : ℕ) (f : Frame) where
+  -- No row of these has number 0, so a table's answer 0 says that none applies.
   positive : Positive (contentRows f)
   positive = (omega arith, (omega arith, (omega arith, (omega arith, tt))))
 
+  -- The test of a kept frame, taken apart.
   passedOf : frameSound set view f ≡ true → Passed set view f
   unfolding frameSound
   passedOf h =
@@ -71,6 +73,7 @@ module _ (set : Settings) (view : ℕ) (f : Frame) where
       (eqb-true (first (contentRows f ++ leaderRows f (set .n) (set .id))) 0 c) in
       record { row = ltb-true (f .sender) (set .n) a; behind = not-true (ahead set view f) b; content = d; leader = e }
 
+  -- And put together again.
   passedSound : Passed set view f → frameSound set view f ≡ true
   unfolding frameSound
   passedSound p = bothJoin (ltb (f .sender) (set .n)) (not (ahead set view f) && eqb (first (contentRows f ++ leaderRows f (set .n) (set .id))) 0)
@@ -84,6 +87,7 @@ module _ (set : Settings) (view : ℕ) (f : Frame) where
   unfolding ahead
   notAhead own other h = ltb-false view (f .view) (rw (eq-eqb (f .sender) (set .id) own, ne-eqb (f .kind) 6 other) at h)
 
+  -- And back: a frame of another row, a view-change, or one not above the current view is not ahead.
   behindOf : (f .sender ≡ set .id → f .kind ≢ 6 → f .view ≤ view) → ahead set view f ≡ false
   unfolding ahead
   behindOf low = go (which (eqb (f .sender) (set .id))) (which (eqb (f .kind) 6))
@@ -102,6 +106,7 @@ record There (r : slots.Record) (k j : ℕ) (x : Frame) : Type 0 where
   mark : slotOf r (frameSlot k j) .mark ≡ 1
   is : frameIn (slotOf r) k j ≡ x
 
+-- Whatever the contents keep stands in slots.
 keptWas : (r : slots.Record) (k j : ℕ) (x : Frame) → contents r .kept k j ≡ some x → There r k j x
 unfolding contents keptOf
 keptWas r k j x e =
@@ -134,9 +139,11 @@ standsSpelt r h row k has =
 -- ---- from the test on slots
 
 module _ (r : slots.Record) (z : layout.Fits r) (h : sound r ≡ true) where
+  -- The slots.
   abbrev s : ℕ → Report
   s = slotOf r
 
+  -- The test's three parts: settings, rows and votes.
   partsPass : (first (settingRows (r .set)) ≡ 0) × (rowsSound s (r .set) (r .view) ≡ true) × (votesSound s (r .set .id) ≡ true)
   unfolding soundIn
   partsPass =
@@ -144,9 +151,11 @@ module _ (r : slots.Record) (z : layout.Fits r) (h : sound r ≡ true) where
       let (b, c) = bothSplit (rowsSound s (r .set) (r .view)) (votesSound s (r .set .id)) t in
       (eqb-true (first (settingRows (r .set))) 0 a, b, c)
 
+  -- The own number has a row.
   idRow : r .set .id < rows
   idRow = omega (arith, idBelow (r .set) (partsPass .0), sizeBelow (r .set) (partsPass .0))
 
+  -- The test of each kind and sender passes.
   placePass : (k j : ℕ) → 1 ≤ k → k ≤ kinds → j < rows → placeSound s (r .set) (r .view) k j ≡ true
   unfolding rowsSound kindSound
   placePass k j low high row =
@@ -165,6 +174,7 @@ module _ (r : slots.Record) (z : layout.Fits r) (h : sound r ≡ true) where
       (sym (eq-eqb (s (frameSlot k j) .mark) 1 e))
       ∙ placePass k j low high row)
 
+  -- So their slots hold what is read off them, and nothing besides.
   heldPass : (k j : ℕ) → 1 ≤ k → k ≤ kinds → j < rows → Held s k j
   heldPass k j low high row = go (which (present (s (frameSlot k j))))
     where
@@ -174,6 +184,7 @@ module _ (r : slots.Record) (z : layout.Fits r) (h : sound r ≡ true) where
           let m = eqb-false (s (frameSlot k j) .mark) 1 e in
           heldNot s k j m (sym (place-empty s (r .set) (r .view) k j m) ∙ placePass k j low high row)
 
+  -- The tests of the two previous votes and of the decision pass.
   votesPass : (previousSound s (r .set .id) 2 ≡ true) × (previousSound s (r .set .id) 3 ≡ true) × (badForm (s decisionSlot) ≡ false)
   unfolding votesSound
   votesPass =
@@ -181,6 +192,7 @@ module _ (r : slots.Record) (z : layout.Fits r) (h : sound r ≡ true) where
       let (b, c) = bothSplit (previousSound s (r .set .id) 3) (not (badForm (s decisionSlot))) t in
       (a, b, not-true (badForm (s decisionSlot)) c)
 
+  -- The same, by the vote's number.
   previousPass : (k : ℕ) → hasPrevious k ≡ true → previousSound s (r .set .id) (suc k) ≡ true
   previousPass k has = go (either (eqb k 1) (eqb k 2) has)
     where
@@ -197,6 +209,7 @@ module _ (r : slots.Record) (z : layout.Fits r) (h : sound r ≡ true) where
       (previousPass k has) in
       (not-true (badForm (s (previousSlot (suc k)))) a, not-true (badPrevious (s (frameSlot (suc k) (r .set .id))) (s (previousSlot (suc k)))) b)
 
+  -- A record that passes the test is clean.
   pub cleanSound : Clean r
   cleanSound = cleanOf r (z .beyond) (record {
     head = λ k j low high row. heldPass k j low high row .head;
@@ -205,6 +218,7 @@ module _ (r : slots.Record) (z : layout.Fits r) (h : sound r ≡ true) where
     decision = formedIs (s decisionSlot) (votesPass .2);
   })
 
+  -- Each kept frame passes 9 to 15 for its row.
   inRow : (k j : ℕ) (x : Frame) → There r k j x → InRow (r .set) k j x
   unfolding frameIn
   inRow k j x t =
@@ -218,12 +232,14 @@ module _ (r : slots.Record) (z : layout.Fits r) (h : sound r ≡ true) where
         leader = p .leader;
       })
 
+  -- No frame in the own row but the view-change is above the current view.
   ownLow : (k : ℕ) (x : Frame) → There r k (r .set .id) x → k ≢ 6 → x .view ≤ r .view
   unfolding frameIn
   ownLow k x t other =
       let p = passedOf (r .set) (r .view) (frameIn s k (r .set .id)) (framePass k (r .set .id) (t .low) (t .high) (t .row) (t .mark) .1) in
       subst (λ (y : Frame). y .view ≤ r .view) (t .is) (notAhead (r .set) (r .view) (frameIn s k (r .set .id)) refl other (p .behind))
 
+  -- The contents of a record that passes the test are sound.
   pub contentsSound : Sound (contents r)
   unfolding contents
   contentsSound = record {
@@ -236,22 +252,27 @@ module _ (r : slots.Record) (z : layout.Fits r) (h : sound r ≡ true) where
 -- ---- to the test on slots
 
 module _ (r : slots.Record) (clean : Clean r) (given : Sound (contents r)) where
+  -- The slots.
   abbrev u : ℕ → Report
   u = slotOf r
 
+  -- The settings pass 5 to 8.
   settingsGiven : first (settingRows (r .set)) ≡ 0
   unfolding contents
   settingsGiven = given .settings
 
+  -- So the own number has a row.
   idGiven : r .set .id < rows
   idGiven = omega (arith, idBelow (r .set) settingsGiven, sizeBelow (r .set) settingsGiven)
 
+  -- The slots of each kind and sender hold what is read off them.
   heldGiven : (k j : ℕ) → 1 ≤ k → k ≤ kinds → j < rows → Held u k j
   heldGiven k j low high row = record {
     head = filledOf r clean .head k j low high row;
     told = λ w lw seven. filledOf r clean .told k w j seven high lw row;
   }
 
+  -- A frame that is kept passes its test.
   passedGiven : (k j : ℕ) → 1 ≤ k → k ≤ kinds → j < rows → u (frameSlot k j) .mark ≡ 1 → Passed (r .set) (r .view) (frameIn u k j)
   unfolding contents frameIn
   passedGiven k j low high row e =
@@ -265,6 +286,7 @@ module _ (r : slots.Record) (clean : Clean r) (given : Sound (contents r)) where
         leader = is .leader;
       }
 
+  -- So each kind and sender passes its test, with a frame or without.
   placeGiven : (k j : ℕ) → 1 ≤ k → k ≤ kinds → j < rows → placeSound u (r .set) (r .view) k j ≡ true
   unfolding frameIn
   placeGiven k j low high row = go (which (present (u (frameSlot k j))))
@@ -279,11 +301,13 @@ module _ (r : slots.Record) (clean : Clean r) (given : Sound (contents r)) where
           let m = eqb-false (u (frameSlot k j) .mark) 1 e in
           place-empty u (r .set) (r .view) k j m ∙ emptyOf u k j m (heldGiven k j low high row)
 
+  -- And all of them together.
   rowsGiven : rowsSound u (r .set) (r .view) ≡ true
   unfolding rowsSound kindSound
   rowsGiven = allOf (λ k. kindSound u (r .set) (r .view) (k + 1)) kinds (λ k low.
       allOf (placeSound u (r .set) (r .view) (k + 1)) rows (λ j row. placeGiven (k + 1) j (omega arith) (omega arith) row))
 
+  -- Each previous vote passes its test.
   previousGiven : (k : ℕ) → hasPrevious k ≡ true → previousSound u (r .set .id) (suc k) ≡ true
   unfolding previousSound stands contents
   previousGiven k has =
@@ -291,6 +315,7 @@ module _ (r : slots.Record) (clean : Clean r) (given : Sound (contents r)) where
       (ap not (formedOf (u (previousSlot (suc k))) (filledOf r clean .previous k has)))
       (ap not (sym (standsSpelt r clean idGiven k has) ∙ given .previous k has))
 
+  -- And with them the decision.
   votesGiven : votesSound u (r .set .id) ≡ true
   unfolding votesSound
   votesGiven =
@@ -298,6 +323,7 @@ module _ (r : slots.Record) (clean : Clean r) (given : Sound (contents r)) where
       (bothJoin (previousSound u (r .set .id) 3) (not (badForm (u decisionSlot))) (previousGiven 2 refl)
       (ap not (formedOf (u decisionSlot) (filledOf r clean .decision))))
 
+  -- A clean record whose contents are sound passes the test.
   pub soundContents : sound r ≡ true
   unfolding soundIn
   soundContents =
@@ -307,6 +333,7 @@ module _ (r : slots.Record) (clean : Clean r) (given : Sound (contents r)) where
 
 -- ---- what is lent
 
+-- The test says sound only where the length is right and the slots pass.
 soundOnly : (a b c : Bool) → cond a (cond b lent.Blank (cond c lent.Sound lent.Unsound)) lent.Unsound ≡ lent.Sound
     → (a ≡ true) × (c ≡ true)
 soundOnly true true c e = let z : _≡_ {A = ℕ} 0 1 = cc in absurd (omega arith)
@@ -332,21 +359,26 @@ soundRead rec bytes e =
 -- ---- what is written and lent again
 
 module _ (c : Record) (held : Sound c) (ranged : Ranged c) (two : Placed c) where
+  -- The bytes that contents spell are read as the record that they fill.
   pub decodedBack : decodeRecord (encodeRecord (slotted c)) ≡ slotted c
   decodedBack = decodeEncode (slotted c) (fitsSlotted c held ranged)
 
+  -- So the contents are read back from their bytes.
   pub heldBack : contents (decodeRecord (encodeRecord (slotted c))) ≡ c
   heldBack = ap contents decodedBack ∙ contentsSlotted c held two
 
+  -- The bytes are not blank, as n is above the own number.
   notBlank : decodeRecord (encodeRecord (slotted c)) .set .n ≡ 0 → ⊥
   unfolding slotted
   notBlank e =
       let is : c .set .n ≡ 0 = sym (ap (λ (q : slots.Record). q .set .n) decodedBack) ∙ e in
       omega (arith, idBelow (c .set) (held .settings))
 
+  -- The slots that they fill pass the test.
   soundBack : sound (slotted c) ≡ true
   soundBack = soundContents (slotted c) (cleanSlotted c held) (subst Sound (sym (contentsSlotted c held two)) held)
 
+  -- So bytes that contents spell are sound when they are lent.
   pub lentBack : lentIs (encodeRecord (slotted c)) ≡ lent.Sound
   lentBack =
       lent-other (encodeRecord (slotted c)) (encodeSize (slotted c)) notBlank

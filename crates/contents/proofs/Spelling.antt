@@ -42,6 +42,7 @@ use Rattle.contents.proofs.Stays.{callPlaced}
 
 -- ---- contents that a vault may have
 
+-- Sound, with numbers of their widths, and no previous votes but vote-1's and vote-2's.
 pub record Fine (r : Record) : Type 0 where
   pub sound : Sound r
   pub ranged : Ranged r
@@ -53,6 +54,7 @@ callFine b a was fed o is =
     let proper = callProper b a (λ r e. (was r e .sound, was r e .ranged)) fed o is in
     record { sound = proper .sound; ranged = proper .ranged; placed = callPlaced b a (λ r e. was r e .placed) o is }
 
+-- All contents that accepted calls reach are such.
 pub reachedFine : {b : Option Record} → Reached b → (r : Record) → b ≡ some r → Fine r
 reachedFine blank r e = absurd (none≢some e)
 reachedFine (next {b = b} {o = o} to a fed is) r e =
@@ -62,12 +64,14 @@ reachedFine (next {b = b} {o = o} to a fed is) r e =
 -- ---- their bytes
 
 module _ (r : Record) (fine : Fine r) where
+  -- Their bytes spell them.
   pub fineSpells : Spells (encodeRecord (slotted r)) (some r)
   fineSpells = record {
     sound = lentBack r (fine .sound) (fine .ranged) (fine .placed);
     holds = heldBack r (fine .sound) (fine .ranged) (fine .placed);
   }
 
+  -- They are below 256.
   fineBytes : Bytes (encodeRecord (slotted r))
   fineBytes = encodeBytes (slotted r) (fitsSlotted r (fine .sound) (fine .ranged))
 
@@ -84,22 +88,27 @@ spelledFine s (some c) bytes spells r e =
     let same : c ≡ r = cc in
     subst Fine (spells .holds ∙ same) (record { sound = sound; ranged = ranged; placed = placedIn (decodeRecord s) })
 
+-- Bytes that spell contents are just those that the contents fill.
 spelledOnce : (r : Record) (s : List ℕ) → Bytes s → Spells s (some r) → s ≡ encodeRecord (slotted r)
 spelledOnce r s bytes spells = readySpells (readyLent s bytes (spells .sound)) bytes (spells .holds)
 
 -- ---- blank bytes
 
+-- Zeros, at every place.
 zeroAt : (n i : ℕ) → _≡_ {A = ℕ} (getD (replicate n 0) i 0) 0
 zeroAt zero i = refl
 zeroAt (suc n) zero = refl
 zeroAt (suc n) (suc i) = zeroAt n i
 
+-- A blank record: zeros of the record's length.
 abbrev zeros : List ℕ
 zeros = replicate recordSize 0
 
+-- Zeros are bytes.
 zerosBytes : Bytes zeros
 zerosBytes i = omega (arith, zeroAt recordSize i)
 
+-- They spell a blank record, as n is 0.
 zerosBlank : Spells zeros none
 unfolding decodeRecord
 zerosBlank = lent-blank zeros (length-replicate {A = ℕ} recordSize 0) (zeroAt recordSize 0)
@@ -118,6 +127,7 @@ calledRoom k rec out b a h room =
     ap (λ (t : Bool). cond t (gave 1 rec out) (after rec out (onLent (lentIs rec) k (contentsIn rec) a))) (le-ltb (length out) 256 room)
     ∙ ap (after rec out) (onSpelled k rec b a h)
 
+-- The layout loses nothing: a blank record, every content reached, one spelling of each, and what calls leave.
 pub losesNothing : LosesNothing
 losesNothing = record {
   blank = (zeros, (zerosBytes, zerosBlank));

@@ -34,6 +34,7 @@ From P none short = Unit {0}
 From P (some r) a = P r
 
 module _ (P : Record → Type 0) (acts : (r : Record) (a : Act) → P r → P (does r a)) (keeps : (x : Frame) (r : Record) → P r → P (keep x r)) where
+  -- What holds through each act holds of what a pass leaves.
   passStays : {steps : List Step} → Sure steps → (r : Record) → P r → P ((pass steps r) .left)
   unfolding pass
   passStays done r h = h
@@ -44,6 +45,7 @@ module _ (P : Record → Type 0) (acts : (r : Record) (a : Act) → P r → P (d
       go none = h
       go (some a) = acts r a h
 
+  -- And of what an accepted call leaves, as it holds through keeping a frame too.
   callStays : (b : Option Record) (a : Call) → From P b a → (o : Out) → answer b a ≡ accepted o → P (o .left)
   unfolding answer started heard rung
   callStays none (start s p) h o e =
@@ -67,11 +69,13 @@ pub callSet : (b : Option Record) (a : Call) (t : Settings) → From (λ r. r .s
 unfolding keep
 callSet b a t = callStays (λ r. r .set ≡ t) (λ r a e. doesSet r a ∙ e) (λ x r e. e) b a
 
+-- A table without other previous votes stays so when vote-1's or vote-2's is put in.
 putPlaced : (b : Bool) (k : ℕ) (x : Option Vote) (t : ℕ → Option Vote) → hasPrevious k ≡ b → ((j : ℕ) → hasPrevious j ≡ false → t j ≡ none)
     → (j : ℕ) → hasPrevious j ≡ false → cond b (put k x t) t j ≡ none
 putPlaced true k x t has old j lacks = putOther k x t j (λ (e : k ≡ j). clash (ap hasPrevious (sym e) ∙ has) lacks) ∙ old j lacks
 putPlaced false k x t has old j lacks = old j lacks
 
+-- So an act adds no other previous vote.
 doesPlaced : (r : Record) (a : Act) → Placed r → Placed (does r a)
 unfolding does
 doesPlaced r (ask w) h = h

@@ -32,6 +32,7 @@ use Rattle.contents.specs.Contents.{headOf, nth, toldBy, toldOf}
 
 -- ---- a test of all numbers below n
 
+-- Where all numbers pass, each does.
 pub allAt : (test : ℕ → Bool) (n i : ℕ) → all test n ≡ true → i < n → test i ≡ true
 allAt test n i h low = go (which (test i))
   where
@@ -39,6 +40,7 @@ allAt test n i h low = go (which (test i))
     go (inl e) = e
     go (inr e) = absurd (clash h (all-stop test n i low e))
 
+-- And back.
 pub allOf : (test : ℕ → Bool) (n : ℕ) → ((i : ℕ) → i < n → test i ≡ true) → all test n ≡ true
 unfolding all
 allOf test zero h = refl
@@ -46,6 +48,7 @@ allOf test (suc n) h = bothJoin (all test n) (test n) (allOf test n (λ i low. h
 
 -- ---- a slot
 
+-- 'Absent means all 13 bytes zero': a slot that tests as absent is the empty one.
 pub absentIs : (x : Report) → absent x ≡ true → x ≡ emptySlot
 absentIs x h =
     let (a, t) = bothSplit (eqb (x .mark) 0) (eqb (x .view) 0 && eqb (x .plan) 0) h in
@@ -55,6 +58,7 @@ absentIs x h =
     let p = eqb-true (x .plan) 0 c in
     λ i. record { mark = m i; view = v i; plan = p i }
 
+-- What the slot reports, its mark being known.
 readAs : (x : Report) {b : Bool} → eqb (x .mark) 1 ≡ b → spelt (cond b (some (record { view = x .view; plan = x .plan })) none) ≡ spelt (reported x)
 readAs x e = ap (λ (b : Bool). spelt (cond b (some (record { view = x .view; plan = x .plan })) none)) (sym e)
 
@@ -67,6 +71,7 @@ formedIs x h = go (which (present x))
     go (inl e) = (let m = eqb-true (x .mark) 1 e in λ i. record { mark = m i; view = x .view; plan = x .plan }) ∙ readAs x e
     go (inr e) = absentIs x (ap (λ (b : Bool). b || absent x) (sym e) ∙ not-false (present x || absent x) h) ∙ readAs x e
 
+-- And back.
 pub formedOf : (x : Report) → x ≡ spelt (reported x) → badForm x ≡ false
 unfolding badForm
 formedOf x e = ap badForm e ∙ go (reported x)
@@ -83,9 +88,11 @@ pub record Held (s : ℕ → Report) (k j : ℕ) : Type 0 where
   pub told : (w : ℕ) → w < 3 → 7 ≤ k → s (reportSlot k w j) ≡ toldOf w (keptIn s k j)
 
 module _ (s : ℕ → Report) (k j : ℕ) where
+  -- The frame's own slot.
   abbrev x : Report
   x = s (frameSlot k j)
 
+  -- The frame that the slots say.
   abbrev f : Frame
   f = frameIn s k j
 
@@ -97,18 +104,21 @@ module _ (s : ℕ → Report) (k j : ℕ) where
   planIs (reports low high) h = eqb-true (x .plan) 0 (ap (λ (b : Bool). b || eqb (x .plan) 0) (sym (le-ltb k 6 (omega arith))) ∙ h)
       ∙ sym (ap planOf (bodyReports s k j low))
 
+  -- And back: a slot whose plan is the body's passes the test.
   pub planOnly : Form k → x .plan ≡ planOf (bodyIn s k j) → noPlan k (x .plan) ≡ true
   unfolding noPlan
   planOnly (plan low high) h = orLeft (ltb k 6) (eqb (x .plan) 0) (lt-ltb k 6 (omega arith))
   planOnly (bare e) h = orRight (ltb k 6) (eqb (x .plan) 0) (eq-eqb (x .plan) 0 (h ∙ ap planOf (bodyBare s k j e)))
   planOnly (reports low high) h = orRight (ltb k 6) (eqb (x .plan) 0) (eq-eqb (x .plan) 0 (h ∙ ap planOf (bodyReports s k j low)))
 
+  -- A report's slot is that report of the frame.
   nthIn : (w : ℕ) → w < 3 → s (reportSlot k w j) ≡ nth w (reportsIn s k j)
   nthIn zero low = refl
   nthIn (suc zero) low = refl
   nthIn (suc (suc zero)) low = refl
   nthIn (suc (suc (suc w))) low = absurd (omega arith)
 
+  -- A slot that is marked, with a plan where its kind has one, holds the frame and nothing besides.
   pub heldThere : Form k → x .mark ≡ 1 → noPlan k (x .plan) ≡ true → Held s k j
   unfolding frameIn
   heldThere form e h =
@@ -119,6 +129,7 @@ module _ (s : ℕ → Report) (k j : ℕ) where
         told = λ w lw seven. nthIn w lw ∙ ap (toldBy w) (sym (bodyReports s k j seven)) ∙ ap (toldOf w) (sym kept);
       }
 
+  -- Slots that are all empty hold no frame and nothing besides.
   pub heldNot : (x .mark ≡ 1 → ⊥) → emptyAt s k j ≡ true → Held s k j
   unfolding emptyAt reportsAbsent
   heldNot e h =
@@ -143,6 +154,7 @@ module _ (s : ℕ → Report) (k j : ℕ) where
           pick (suc (suc zero)) low a b c = c
           pick (suc (suc (suc w))) low a b c = absurd (omega arith)
 
+  -- And back: slots that hold no frame, and nothing besides, are all empty.
   pub emptyOf : (x .mark ≡ 1 → ⊥) → Held s k j → emptyAt s k j ≡ true
   unfolding emptyAt reportsAbsent
   emptyOf e h =

@@ -39,6 +39,7 @@ use Rattle.contents.proofs.Slotted.{slotSlotted, slotBeyond}
 
 -- ---- from slots to contents
 
+-- The vote in a slot has the slot's widths.
 reportedFits : (y : Report) (x : Vote) → Small y → reported y ≡ some x → Fits x
 reportedFits y x small e = go (eqb (y .mark) 1) e
   where
@@ -46,6 +47,7 @@ reportedFits y x small e = go (eqb (y .mark) 1) e
     go true e = let is : record { view = y .view; plan = y .plan } ≡ x = cc in rw (← is) (small .view, small .plan)
     go false e = absurd (none≢some e)
 
+-- Contents of slots that have their widths have theirs.
 pub rangedFits : (r : slots.Record) → layout.Fits r → Ranged (contents r)
 unfolding contents previousOf
 rangedFits r z = record {
@@ -57,14 +59,17 @@ rangedFits r z = record {
 
 -- ---- from contents to slots
 
+-- The empty slot has its widths.
 smallEmpty : Small emptySlot
 smallEmpty = record { mark = omega arith; view = omega arith; plan = omega arith }
 
+-- A spelt vote has its widths.
 smallSpelt : (o : Option Vote) → ((x : Vote) → o ≡ some x → Fits x) → Small (spelt o)
 smallSpelt none fit = smallEmpty
 smallSpelt (some x) fit = record { mark = omega arith; view = fit x refl .0; plan = fit x refl .1 }
 
 module _ (x : Frame) (valid : Valid x) where
+  -- The head of a frame that has bytes has its widths.
   smallHead : Small (headSlot x)
   smallHead = record { mark = omega arith; view = viewFits x valid; plan = go (x .body) (valid .sized) }
     where
@@ -73,6 +78,7 @@ module _ (x : Frame) (valid : Valid x) where
       go Empty s = omega arith
       go (Told t) s = omega arith
 
+  -- So have its reports.
   smallTold : (w : ℕ) → Small (toldBy w (x .body))
   smallTold w = go (x .body) (valid .sized) w
     where
@@ -84,6 +90,7 @@ module _ (x : Frame) (valid : Valid x) where
       go (Told t) s (suc (suc w)) = let m = s .1 .1 .1 .1 .1 .1 .1 .1 .1 in record { mark = m .0; view = m .1 .0; plan = m .1 .1 .0 }
 
 module _ (c : Record) (sound : Sound c) (ranged : Ranged c) where
+  -- So every place that sound contents fill has its widths.
   smallAt : (i : ℕ) → i < slotCount → Small (slotAt c i)
   smallAt = everywhere (λ (i : ℕ). Small (slotAt c i))
       (λ k j low high row. subst Small (sym (slotHead c k j low high row)) (head (c .kept k j) (λ x e. sound .kept k j x e .valid)))
@@ -99,6 +106,7 @@ module _ (c : Record) (sound : Sound c) (ranged : Ranged c) where
       told w none valid = smallEmpty
       told w (some x) valid = smallTold x (valid x refl) w
 
+  -- So has every slot, as those beyond are empty.
   smallSlot : (i : ℕ) → Small (slotOf (slotted c) i)
   smallSlot i = go (decLt i slotCount)
     where
@@ -106,6 +114,7 @@ module _ (c : Record) (sound : Sound c) (ranged : Ranged c) where
       go (yes low) = subst Small (sym (slotSlotted c i low)) (smallAt i low)
       go (no far) = subst Small (sym (slotBeyond c i (omega arith))) smallEmpty
 
+  -- The record that sound contents fill has the widths of its bytes.
   pub fitsSlotted : layout.Fits (slotted c)
   unfolding slotted
   fitsSlotted = record {

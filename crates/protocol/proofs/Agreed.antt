@@ -33,6 +33,7 @@ module _ (r : Record) (third : 3 * r .set .f < r .set .n) where
       let (j, low, all, here) = blockingKeeper most (groupMap (λ i low h keeps. h) (quorumBlocks most enough)) in
       (j, low, here)
 
+  -- The quorum for p, member by member: each has a vote-k for p in this view.
   voters : (k p : ℕ) → hasQuorum r k p ≡ true → Quorum (vaults r) (λ j. planNow r k j ≡ some p)
   voters k p h =
       groupMap (λ j low t. let (q, is, same) = holdsWhere (planNow r k j) (eqb p) t in is ∙ ap some (sym (eqb-true p q same)))

@@ -62,11 +62,13 @@ pastRefused l x k e = (
       ∙ ap (λ (es : List Entry). put (x .at) es (written l)) (append-nil (written l (x .at))) ∙ putOwn (x .at) (written l),
 )
 
+-- An accepted call's vault has the record that it left.
 pub recordAccepted : (l : List Item) (x : Item) (o : Out) → answer (recordAt l (x .at)) (x .call) ≡ accepted o
     → recordAt (x ∷ l) ≡ put (x .at) (some (o .left)) (recordAt l)
 unfolding recordAt
 recordAccepted l x o e = ap (λ (a : Answer). put (x .at) (leftBy (recordAt l (x .at)) a) (recordAt l)) e
 
+-- The past after an accepted call is the one before it, with what the call answered.
 pub pastAccepted : (l : List Item) (x : Item) (o : Out) → answer (recordAt l (x .at)) (x .call) ≡ accepted o → past (x ∷ l) ≡ onto (past l) (x .at) o
 unfolding written
 pastAccepted l x o e z = record { wrote = wrote z; at = at z }
@@ -103,6 +105,7 @@ module _ (c : Setting) (Began : ℕ → Type 0) where
   -- ---- what is written
 
   module _ {l : List Item} (v : Inv l) where
+    -- A vault that has written something has a record, and it is good.
     author : (i : ℕ) (e : Entry) → e ∈ written l i → (r : Record) × (r .set .id ≡ i) × Third × Good c Began (past l) r
     author i e at = go (recordAt l i) refl
       where
@@ -110,11 +113,13 @@ module _ (c : Setting) (Began : ℕ → Type 0) where
         go none is = elim (subst (λ (es : List Entry). e ∈ es) (v .blank i is) at) [ ]
         go (some r) is = let (id, third, g) = v .good i r is in (r, id, third, g)
 
+    -- Every entry of the run says what is so.
     toldAt : (i : ℕ) (e : Entry) → e ∈ written l i → Past′.Told c Began (past l) i e
     toldAt i e at =
         let (r, id, third, g) = author i e at in
         subst (λ (j : ℕ). e ∈ written l j → Past′.Told c Began (past l) j e) id (g .told e) at
 
+    -- No vault sent one vote twice in a view, for two plans.
     onceAt : (i k w p q : ℕ) → Voted (past l) i k w p → Voted (past l) i k w q → p ≡ q
     onceAt i k w p q x y =
         let (r, id, third, g) = author i _ x in
@@ -133,9 +138,11 @@ module _ (c : Setting) (Began : ℕ → Type 0) where
       eqb-false (x .sender) i (neither (leb (c .vaults .n) (x .sender)) (eqb (x .sender) i)
       (noneGiven (linkRows (x .sender) (x .sender) (c .vaults .n) i) (read .link) .0) .1)
 
+  -- A refused call is no accepted one.
   never : {A : Type 0} {k : ℕ} {o : Out} → refused k ≡ accepted o → A
   never e = let z : _≡_ {A = ℕ} 0 1 = cc in absurd (omega arith)
 
+  -- An accepted call, as the run lets it come, leaves a good record and a later past.
   callWent : Seed c Began → {l : List Item} (v : Inv l) (i : ℕ) (a : Call) → ((s : Settings) (p : ℕ) → a ≡ start s p → Began p) → Fair c l i a → (o : Out)
       → answer (recordAt l i) a ≡ accepted o
       → Third × Went c Began (past l) i o
@@ -180,10 +187,12 @@ module _ (c : Setting) (Began : ℕ → Type 0) where
                 (subst (λ (j : ℕ). Went c Began (past l) j (rung r)) id (rungWent c Began seed (past l) r room g)),
           )
 
+  -- The invariant holds before any call: all is blank.
   invNone : Inv []
   unfolding recordAt written
   invNone = record { good = λ i r e. absurd (none≢some e); blank = λ i e. refl; kept = λ i e at. elim at [ ] }
 
+  -- A refused call keeps the invariant, as it changes nothing.
   invRefused : {l : List Item} (x : Item) (k : ℕ) → answer (recordAt l (x .at)) (x .call) ≡ refused k → Inv l → Inv (x ∷ l)
   invRefused {l} x k is v =
       let (records, entries) = pastRefused l x k is in
@@ -196,6 +205,7 @@ module _ (c : Setting) (Began : ℕ → Type 0) where
         kept = λ i e at. v .kept i e (subst (λ (t : ℕ → List Entry). e ∈ t i) entries at);
       }
 
+  -- An accepted call keeps it: its vault's record is good, and the other vaults only see a later past.
   invAccepted : {l : List Item} (x : Item) (o : Out) → c .keeps (x .at) ≡ true → answer (recordAt l (x .at)) (x .call) ≡ accepted o
       → Third → Went c Began (past l) (x .at) o → Inv l → Inv (x ∷ l)
   invAccepted {l} x o keeps is third w v = record {
@@ -233,6 +243,7 @@ module _ (c : Setting) (Began : ℕ → Type 0) where
       keptAt i e (inl same) at = subst (λ (j : ℕ). c .keeps j ≡ true) (eqb-true (x .at) i same) keeps
       keptAt i e (inr other) at = v .kept i e (rw other at at)
 
+  -- In every run all records are good for the past of the list.
   pub invariant : Seed c Began → {l : List Item} → Run c l → ((p : ℕ) → Started p l → Began p) → Inv l
   invariant seed nothingYet began = invNone
   invariant seed (andThen {l = l} {x = x} run keeps fair) began =
@@ -247,9 +258,11 @@ module _ (c : Setting) (Began : ℕ → Type 0) where
   -- ---- the history is lawful
 
   module _ {l : List Item} (v : Inv l) where
+    -- Every vote of the run has its ground.
     groundAt : {i k w p : ℕ} → Voted (past l) i k w p → Ground c Began (past l) k w p
     groundAt {i} {k} {w} {p} at = toldAt v i _ at .1 k p refl refl
 
+    -- The votes of the run are a lawful history: what crate agreement asks of voters.
     lawful : Lawful (c .vaults) (c .keeps) (Voted (past l))
     lawful = record {
       once = λ {i} {v = w} {p} {q} keeps x y. onceAt v i 1 w p q x y;
@@ -257,6 +270,7 @@ module _ (c : Setting) (Began : ℕ → Type 0) where
       chain = λ k keeps x. groundAt x;
     }
 
+    -- And a led one: what crate agreement asks of leaders.
     led : Third → Led (c .vaults) (c .keeps) (Voted (past l)) Began
     led third = record {
       leader = λ w. leaderOf w (c .vaults .n);
@@ -269,9 +283,11 @@ module _ (c : Setting) (Began : ℕ → Type 0) where
         exactly (own b) = own b
         exactly (found s rs from unsafe safe) = found s rs (λ j r h e. from j r h e .1) unsafe safe
 
+    -- A decision has a quorum of vote-4, as far as rule-keepers go; and f is below a third, as a start was accepted.
     decided : (i : ℕ) {p : ℕ} → Decides l i p → (w : ℕ) × Third × Locked (c .vaults) (c .keeps) (Voted (past l)) w p
     decided i (w, at) = let (r, id, third, g) = author v i _ at in (w, third, toldAt v i _ at)
 
+    -- The run's rule-keepers are as the laws on quorums ask.
     mostly : Third → Mostly (c .vaults) (c .keeps)
     mostly third = record { third = third; others = omega (arith, c .most, weighRest (c .vaults .weight) (c .keeps) (c .vaults .n)) }
 
@@ -296,5 +312,6 @@ runsValid c l run all i p a =
     v : Inv c (λ p. Started p l) l
     v = invariant c (λ p. Started p l) (chosenSeed c (λ p. Started p l)) run (λ p s. s)
 
+-- Demand 3 by contents: agreement and validity together.
 pub demand3 : Demand3
 demand3 c l run = record { agreement = runsAgree c l run; validity = runsValid c l run }

@@ -47,14 +47,17 @@ voteByPlan v (Plan p) {x} e = let is : record { view = v; plan = p } ≡ x = cc 
 voteByPlan v Empty e = absurd (none≢some e)
 voteByPlan v (Told r) e = absurd (none≢some e)
 
+-- A vote that is spelt as a report reads as that vote.
 reportedSpelt : (o : Option Vote) → reported (spelt o) ≡ o
 reportedSpelt none = refl
 reportedSpelt (some x) = refl
 
+-- A view-change's or a report's contents are no plan, so such frames are no votes.
 pub notPlan : {p : ℕ} {b : Body} → b ≡ Plan p → (b ≡ Empty) ⊎ ((r : _) × (b ≡ Told r)) → ⊥
 notPlan e (inl f) = let z : _≡_ {A = ℕ} 0 1 = cc in omega arith
 notPlan e (inr (r, f)) = let z : _≡_ {A = ℕ} 0 1 = cc in omega arith
 
+-- Broadcasts that are the same have the same frame.
 frameIs : {x y : Frame} → ForAll x ≡ ForAll y → x ≡ y
 frameIs e = cc
 
@@ -98,6 +101,7 @@ isCast (cast k′ q) k = go (ℕ-discrete k′ k)
 -- ---- what acts leave alone
 
 module _ (r : Record) where
+  -- No act changes the settings.
   pub doesSet : (a : Act) → (does r a) .set ≡ r .set
   unfolding does
   doesSet (ask w) = refl
@@ -105,6 +109,7 @@ module _ (r : Record) where
   doesSet (cast k p) = refl
   doesSet (decide p) = refl
 
+  -- No act changes the starting plan.
   doesStart : (a : Act) → (does r a) .start ≡ r .start
   unfolding does
   doesStart (ask w) = refl
@@ -112,6 +117,7 @@ module _ (r : Record) where
   doesStart (cast k p) = refl
   doesStart (decide p) = refl
 
+  -- The view does not fall.
   doesView : (a : Act) → May r a → r .view ≤ (does r a) .view
   unfolding does
   doesView (ask w) may = omega arith
@@ -137,10 +143,12 @@ module _ (r : Record) where
           keepOtherKind (voteFrame r k′ p) (r .kept) (suc k) j (λ (e : suc k′ ≡ suc k). other p (let is : k′ ≡ k = cc in ap (λ (x : ℕ). cast x p) is))
       row (decide p) other = refl
 
+  -- A vote that is cast is the vault's own highest, in the current view.
   pub voteCast : (k p : ℕ) → voteOf (does r (cast k p)) k (r .set .id) ≡ some (record { view = r .view; plan = p })
   unfolding does
   voteCast k p = ap (λ (o : Option Frame). each o (λ x. voteBy (x .view) (x .body))) (keepSame (voteFrame r k p) (r .kept))
 
+  -- Of the previous votes, an act changes only that of the vote which it casts.
   pub previousKept : (a : Act) (k : ℕ) → ((p : ℕ) → a ≡ cast k p → ⊥) → (does r a) .previous k ≡ r .previous k
   unfolding does
   previousKept (ask w) k other = refl
@@ -152,15 +160,18 @@ module _ (r : Record) where
       go true = putOther k′ _ (r .previous) k (λ e. other p (ap (λ (x : ℕ). cast x p) e))
       go false = refl
 
+  -- A vote-1 or vote-2 that is cast shifts the previous vote.
   pub previousCast : (k p : ℕ) → hasPrevious k ≡ true → (does r (cast k p)) .previous k ≡ shift p (voteOf r k (r .set .id)) (r .previous k)
   unfolding does
   previousCast k p h =
       ap (λ (b : Bool). cond b (put k (shift p (voteOf r k (r .set .id)) (r .previous k)) (r .previous)) (r .previous) k) h ∙ putSame k _ (r .previous)
 
+-- Only vote-1 and vote-2 have a previous vote.
 pub previousThird : (k : ℕ) → hasPrevious k ≡ true → k < 3
 previousThird k h =
     ⊎-elim (λ e. let is : k ≡ 1 = eqb-true k 1 e in omega arith) (λ e. let is : k ≡ 2 = eqb-true k 2 e in omega arith) (either (eqb k 1) (eqb k 2) h)
 
+-- The same, as a bound on the numbers of votes.
 pub previousBelow : (k : ℕ) → hasPrevious k ≡ true → k < 5
 previousBelow k h = omega (arith, previousThird k h)
 
@@ -171,6 +182,7 @@ abbrev pub onto : Past → ℕ → Out → Past
 onto h i o = record { wrote = put i (h .wrote i ++ o .wrote) (h .wrote); at = put i (o .left .view) (h .at) }
 
 module _ (c : Setting) (Began : ℕ → Type 0) where
+  -- The record of a rule-keeper is what it has sent and heard: its own votes, what it keeps of others, and what its entries say.
   pub record Good (h : Past) (r : Record) : Type 0 where
     pub vaults : vaultsOf (r .set) ≡ c .vaults
     pub plan : Began (r .start)
@@ -207,11 +219,13 @@ module _ (c : Setting) (Began : ℕ → Type 0) where
         let (kind, fine) = g .kept (kindOf rule) j y is keeps in
         subst (λ (u : ℕ). ExactNow h rule u j x) (eqb-true (y .view) (r .view) t) (fine .told rule x kind body)
 
+    -- A quorum of kept votes was sent, as far as rule-keepers go.
     quorumSent : (k p : ℕ) → Quorum (vaults r) (Held r k p) → Quorum (c .vaults) (λ j. c .keeps j ≡ true → Voted h j k (r .view) p)
     quorumSent k p q =
         subst (λ (vs : Vaults). Quorum vs (λ j. c .keeps j ≡ true → Voted h j k (r .view) p)) (g .vaults)
         (groupMap (λ j low e keeps. keptWasSent k j p keeps e) q)
 
+    -- Step C's choice is a leader's reason: its starting plan, or a plan found safe where that is not.
     chosenReason : (p : ℕ) {o : Option ℕ} → Chosen (vaults r) (reportsOf r rule1) (r .view) (r .start) o → o ≡ some p
         → Reason (c .vaults) (c .keeps) (ExactNow h rule1 (r .view)) Began (r .view) p
     chosenReason p (Rules.own safe) e = let is : r .start ≡ p = cc in own (rw is at (g .plan))
@@ -223,6 +237,7 @@ module _ (c : Setting) (Began : ℕ → Type 0) where
         (subst (λ (vs : Vaults). Safe rule1 vs (reportsOf r rule1) (r .view) p) (g .vaults)
         (subst (λ (x : ℕ). Safe rule1 (vaults r) (reportsOf r rule1) (r .view) x) is (least .0)))
 
+    -- What lets the vault send a vote is the ground of that vote.
     ground : Seed → (k p : ℕ) → Reached r k p → Ground c Began h k (r .view) p
     ground seed zero p (lead, e) = seed h r g p e
     ground seed (suc zero) p (safe, e) = (
@@ -246,6 +261,7 @@ module _ (c : Setting) (Began : ℕ → Type 0) where
         let sent : sentNow r k ≡ true = rw (e, same) in
         clash sent new
 
+  -- What a leader proposes by step C is reasoned: for validity, where only plans of starts count as begun.
   pub chosenSeed : Seed
   chosenSeed h r g p e = chosenReason g p (proposedChosen r p e) refl
 
@@ -267,12 +283,15 @@ module _ (c : Setting) (Began : ℕ → Type 0) where
   -- ---- an act leaves the record good
 
   module _ {h : Past} {r : Record} (g : Good h r) (a : Act) (may : May r a) where
+    -- The vault that acts.
     abbrev i : ℕ
     i = r .set .id
 
+    -- The past, once it has acted.
     abbrev h′ : Past
     h′ = onto h (r .set .id) (taken r (some a))
 
+    -- Entries stay.
     entryOld : (j : ℕ) (e : Entry) → e ∈ h .wrote j → e ∈ h′ .wrote j
     entryOld j e at = go (which (eqb i j))
       where
@@ -280,18 +299,23 @@ module _ (c : Setting) (Began : ℕ → Type 0) where
         go (inl same) = rw same (Memᴰ·append-left {s = h .wrote i} (writes r a) (subst (λ (x : ℕ). e ∈ h .wrote x) (sym (eqb-true i j same)) at))
         go (inr other) = rw other at
 
+    -- What the act writes is among the vault's entries.
     entryNew : (e : Entry) → e ∈ writes r a → e ∈ h′ .wrote i
     entryNew e at = rw (putSame i (h .wrote i ++ writes r a) (h .wrote)) (Memᴰ·append-right (h .wrote i) at)
 
+    -- An entry of the vault is an old one, or one that the act writes.
     entrySplit : (e : Entry) → e ∈ h′ .wrote i → (e ∈ h .wrote i) ⊎ (e ∈ writes r a)
     entrySplit e at = List·Memᴰ·append-cases (h .wrote i) (rw (putSame i (h .wrote i ++ writes r a) (h .wrote)) at at)
 
+    -- Votes of the vault stay.
     votedOld : (k u p : ℕ) → Voted h i k u p → Voted h′ i k u p
     votedOld k u p at = entryOld i _ at
 
+    -- A vote of the vault is an old one, or the one that the act casts in the current view.
     votedSplit : (k u p : ℕ) → Voted h′ i k u p → Voted h i k u p ⊎ ((a ≡ cast k p) × (u ≡ r .view))
     votedSplit k u p at = ⊎-elim inl (λ new. inr (newVote r a i k u p new)) (entrySplit _ at)
 
+    -- The act makes the past later: a new vote is in the current view, so none is added below it.
     pub actLater : Later h h′
     actLater = record { more = entryOld; rises = λ j. rise j (which (eqb i j)); settled = λ j k u p low at. settle j k u p (which (eqb i j)) low at }
       where
@@ -310,6 +334,7 @@ module _ (c : Setting) (Began : ℕ → Type 0) where
 
     -- ---- its own frames
 
+    -- Its view-change holds no vote and no report, so there is nothing to be wrong.
     fineChange : (w : ℕ) → Fine h′ i (changeFrame r w)
     fineChange w = record {
       sender = refl;
@@ -367,6 +392,7 @@ module _ (c : Setting) (Began : ℕ → Type 0) where
                   same exact,
             )
 
+    -- Its vote is broadcast by this very act.
     fineVote : (k p : ℕ) → a ≡ cast k p → Fine h′ i (voteFrame r k p)
     unfolding writes
     fineVote k p is = record {
@@ -384,6 +410,7 @@ module _ (c : Setting) (Began : ℕ → Type 0) where
 
     -- ---- all of it
 
+    -- It still sends each vote once a view: a cast needs that none was sent in this view.
     onceNow : (k v p q : ℕ) → Voted h′ i k v p → Voted h′ i k v q → p ≡ q
     onceNow k v p q x y = go (votedSplit k v p x) (votedSplit k v q y)
       where
@@ -398,9 +425,11 @@ module _ (c : Setting) (Began : ℕ → Type 0) where
         go (inr new) (inl old) = absurd (twice q p old new)
         go (inr (is, now)) (inr (is′, now′)) = cc
 
+    -- After a cast, a vote of that number is an old one or this one.
     castSplit : (k p : ℕ) → a ≡ cast k p → (u s : ℕ) → Voted h′ i k u s → Voted h i k u s ⊎ ((u ≡ r .view) × (s ≡ p))
     castSplit k p is u s at = ⊎-elim inl (λ (new, now). inr (now, cc)) (votedSplit k u s at)
 
+    -- Its row still has the highest of its votes.
     highestNow : (k : ℕ) → k < 5 → Tops (Voted h′ i k) (voteOf (does r a) k i)
     highestNow k low = go (isCast a k)
       where
@@ -413,6 +442,7 @@ module _ (c : Setting) (Began : ℕ → Type 0) where
             (newTops (r .view) p (votedOld k) (castSplit k p is) (fineVote k p is .vote k p refl refl)
             (λ u s at. ⊎-elim (g .below k u s) (λ new. omega (arith, new .1)) (votedSplit k u s at)))
 
+    -- Its previous votes are still the highest for another plan: here `shift` is used.
     previousNow : (k : ℕ) → hasPrevious k ≡ true → Tops (Other (Voted h′ i k) (voteOf (does r a) k i)) ((does r a) .previous k)
     previousNow k has = go (isCast a k)
       where
@@ -429,6 +459,7 @@ module _ (c : Setting) (Began : ℕ → Type 0) where
             (sym (ap (λ (b : Act). (does r b) .previous k) is ∙ previousCast r k p has))
             (shiftTops (r .view) p (votedOld k) (castSplit k p is) (g .highest k (previousBelow k has)) (g .previous k has)))
 
+    -- What it keeps of rule-keepers they still rightly sent, its own new frame included.
     keptNow : (b : Act) → a ≡ b → (k j : ℕ) (x : Frame) → (does r b) .kept k j ≡ some x → c .keeps j ≡ true → (x .kind ≡ k) × Fine h′ j x
     unfolding does
     keptNow b is = go b is
@@ -447,6 +478,7 @@ module _ (c : Setting) (Began : ℕ → Type 0) where
         go (cast k p) is = keptBy h′ (voteFrame r k p) (r .kept) (λ keeps. fineVote k p is) old
         go (decide p) is = old
 
+    -- What the act writes says what is so.
     toldNow : Seed → (b : Act) → a ≡ b → (e : Entry) → e ∈ writes r b → Past′.Told c Began h′ i e
     unfolding writes
     toldNow seed (ask w) is e at =
@@ -473,6 +505,7 @@ module _ (c : Setting) (Began : ℕ → Type 0) where
         subst (Past′.Told c Began h′ i) (sym (List·Memᴰ·eq-of-singleton at))
         (groupMap (λ j low was keeps. entryOld j _ (was keeps)) (quorumSent g 4 p (subst (May r) is may .1)))
 
+    -- An act that the record allows leaves the record good.
     pub actGood : Seed → Good h′ (does r a)
     actGood seed = record {
       vaults = ap vaultsOf (doesSet r a) ∙ g .vaults;

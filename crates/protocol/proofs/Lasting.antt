@@ -34,10 +34,12 @@ Brings (frame x) = Unit {0}
 Brings (timer v) = Unit {0}
 Brings short = Unit {0}
 
+-- All starts of the list bring 64-bit plans.
 abbrev pub Wide : List Item → Type 0
 Wide [] = Unit {0}
 Wide (x ∷ l) = Brings (x .call) × Wide l
 
+-- What holds all along a run: records are sound with numbers of their widths, and entries have bytes.
 pub record Lasting (l : List Item) : Type 0 where
   pub records : (i : ℕ) (r : Record) → recordAt l i ≡ some r → Sound r × Ranged r
   pub entries : (i : ℕ) → AllValid (written l i)
@@ -58,10 +60,12 @@ module _ (c : Setting) where
       go (timer w) b e brings fair = tt
       go short b e brings fair = tt
 
+  -- All this holds before any call.
   lastsNone : Lasting []
   unfolding recordAt written
   lastsNone = record { records = λ i r e. absurd (none≢some e); entries = λ i. tt }
 
+  -- It stays so after a refused call, which changes no record and writes nothing.
   lastsRefused : {l : List Item} (x : Item) (k : ℕ) → answer (recordAt l (x .at)) (x .call) ≡ refused k → Lasting l → Lasting (x ∷ l)
   lastsRefused {l} x k is v =
       let (records, entries) = pastRefused l x k is in
@@ -70,6 +74,7 @@ module _ (c : Setting) where
         entries = λ i. subst (λ (t : ℕ → List Entry). AllValid (t i)) (sym entries) (v .entries i);
       }
 
+  -- It stays so after an accepted call that leaves what is proper.
   lastsAccepted : {l : List Item} (x : Item) (o : Out) → answer (recordAt l (x .at)) (x .call) ≡ accepted o → Proper o → Lasting l → Lasting (x ∷ l)
   lastsAccepted {l} x o is proper v = record {
     records = λ i r e. recordsAt i r (which (eqb (x .at) i)) (ap (λ (t : ℕ → Option Record). t i) (sym (recordAccepted l x o is)) ∙ e);

@@ -45,6 +45,7 @@ module _ (r : Record) where
   May (cast k p) = (k < 5) × (sentNow r k ≡ false) × Reached k p
   May (decide p) = (r .decision ≡ none) × Reached 5 p
 
+  -- Step A asks only for a view above the current one, for which a view-change is kept.
   mayA : (a : Act) → actA r ≡ some a → May a
   mayA a e =
       let (w, is, g) = eachSome (highest (asked r isBlocking) (changeOf r) (r .set .n)) _ e in
@@ -54,9 +55,11 @@ module _ (r : Record) where
       let same : ask w ≡ a = cc in
       rw (← same) (ltb-true (r .view) w above, inl (j, at))
 
+  -- A view that can be entered is above the current one.
   enteredAbove : (w : ℕ) → canEnter r w ≡ true → r .view < w
   enteredAbove w can = ltb-true (r .view) w (bothSplit (ltb (r .view) w) (asked r isQuorum w) can .0)
 
+  -- Step B enters only a view above the current one, for which a view-change is kept.
   mayB : (a : Act) → actB r ≡ some a → May a
   mayB a e =
       let (w, is, g) = eachSome (highest (canEnter r) (changeOf r) (r .set .n)) _ e in
@@ -65,6 +68,7 @@ module _ (r : Record) where
       let same : enter w ≡ a = cc in
       rw (← same) (enteredAbove w can, (j, at))
 
+  -- Step C proposes only where the vault leads the view and has not proposed in it.
   mayC : (a : Act) → actC r ≡ some a → May a
   mayC a e =
       let (free, g) = whenSome (mayPropose r) _ e in
@@ -90,6 +94,7 @@ module _ (r : Record) where
       let s : x .plan ≡ p = cc in
       is ∙ (λ z. some (record { view = v z; plan = s z }))
 
+  -- Step D votes-1 once a view, for the leader's kept proposal, if that is safe by Rule 3.
   mayD : (a : Act) → actD r ≡ some a → May a
   mayD a e =
       let (p, is, g) = eachSome (planNow r 0 (leader r (r .view))) _ e in
@@ -108,10 +113,12 @@ module _ (r : Record) where
       groupMap (λ j low t. let (q, is, same) = holdsWhere (planNow r k j) (eqb p) t in let at : p ≡ q = eqb-true p q same in nowHeld k j (rw at is))
       (countQuorum (vaults r) (λ j. holds (eqb p) (planNow r k j)) .1 h)
 
+  -- The plan that steps E to H act on has a quorum of kept votes.
   pub agreedHeld : (k p : ℕ) → agreed r k ≡ some p → Quorum (vaults r) (Held k p)
   unfolding agreed
   agreedHeld k p e = quorumHeld k p (highestHas (hasQuorum r k) (planNow r k) (r .set .n) e .0)
 
+  -- Steps E to G send each vote once a view, on a quorum of the vote before.
   mayVote : (k : ℕ) → k < 3 → (a : Act) → actVote r (suc k) ≡ some a → May a
   mayVote k low a e =
       let (p, is, g) = eachSome (agreed r (suc k)) _ e in
@@ -119,6 +126,7 @@ module _ (r : Record) where
       let same : cast (suc (suc k)) p ≡ a = cc in
       rw (← same) (omega arith, not-true (sentNow r (suc (suc k))) new, agreedHeld (suc k) p is)
 
+  -- Step H decides where nothing was decided, on a quorum of vote-4.
   mayH : (a : Act) → actH r ≡ some a → May a
   mayH a e =
       let (p, is, g) = eachSome (agreed r 4) _ e in
@@ -128,41 +136,51 @@ module _ (r : Record) where
 
 -- ---- steps that do only what they may
 
+-- The step takes an act or none, and only one that the record allows.
 pub record Lawful (s : Step) : Type 0 where
   pub act : Record → Option Act
   pub does : (r : Record) → s r ≡ taken r (act r)
   pub may : (r : Record) (a : Act) → act r ≡ some a → May r a
 
+-- Each step of the list is lawful.
 pub data Sure : List Step → Type 0 where
   done : Sure []
   and : {s : Step} {l : List Step} → Lawful s → Sure l → Sure (s ∷ l)
 
+-- Step A is lawful.
 lawA : Lawful stepA
 unfolding stepA
 lawA = record { act = actA; does = λ r. refl; may = mayA }
 
+-- Step B is lawful.
 lawB : Lawful stepB
 unfolding stepB
 lawB = record { act = actB; does = λ r. refl; may = mayB }
 
+-- Step C is lawful.
 lawC : Lawful stepC
 unfolding stepC
 lawC = record { act = actC; does = λ r. refl; may = mayC }
 
+-- Step D is lawful.
 lawD : Lawful stepD
 unfolding stepD
 lawD = record { act = actD; does = λ r. refl; may = mayD }
 
+-- Steps E, F and G are lawful.
 lawVote : (k : ℕ) → k < 3 → Lawful (stepVote (suc k))
 unfolding stepVote
 lawVote k low = record { act = λ r. actVote r (suc k); does = λ r. refl; may = λ r. mayVote r k low }
 
+-- Step H is lawful.
 lawH : Lawful stepH
 unfolding stepH
 lawH = record { act = actH; does = λ r. refl; may = mayH }
 
+-- All steps from C are lawful.
 pub sureC : Sure fromC
 sureC = and lawC (and lawD (and (lawVote 0 (omega arith)) (and (lawVote 1 (omega arith)) (and (lawVote 2 (omega arith)) (and lawH done)))))
 
+-- All steps from A are lawful.
 pub sureA : Sure fromA
 sureA = and lawA (and lawB sureC)

@@ -6,14 +6,17 @@ use Rattle.entry.specs.declared.Entry.{Entry}
 use Rattle.protocol.specs.Record.{Record}
 use Rattle.protocol.specs.Pass.{Out, Step, onward, pass}
 
+-- A pass of no steps changes nothing.
 pub passNone : (r : Record) → pass [] r ≡ record { left = r; wrote = [] }
 unfolding pass
 passNone r = refl
 
+-- A pass is its first step, and then the rest on what that left.
 pub passMore : (s : Step) (rest : List Step) (r : Record) → pass (s ∷ rest) r ≡ onward ((s r) .wrote) (pass rest ((s r) .left))
 unfolding pass
 passMore s rest r = refl
 
+-- What is written in two parts is written end to end.
 joined : (es fs : List Entry) (o : Out) → onward es (onward fs o) ≡ onward (es ++ fs) o
 joined es fs o z = record { left = o .left; wrote = sym (append-assoc es fs (o .wrote)) z }
 

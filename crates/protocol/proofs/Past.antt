@@ -21,6 +21,7 @@ use Rattle.protocol.specs.Record.{reportBy, kindOf}
 use Rattle.protocol.specs.Tables.{_∈_}
 use Rattle.protocol.specs.inside.Runs.{Setting}
 
+-- What each vault wrote so far, and the view in which it is.
 pub record Past : Type 0 where
   pub wrote : ℕ → List Entry
   pub at : ℕ → ℕ
@@ -29,11 +30,13 @@ pub record Past : Type 0 where
 abbrev pub Voted : Past → History
 Voted h j k v p = ForAll (record { kind = suc k; sender = j; view = v; body = Plan p }) ∈ h .wrote j
 
+-- Past g comes after h: entries stay, views do not fall, and no vote is added below a vault's view.
 pub record Later (h g : Past) : Type 0 where
   pub more : (j : ℕ) (e : Entry) → e ∈ h .wrote j → e ∈ g .wrote j
   pub rises : (j : ℕ) → h .at j ≤ g .at j
   pub settled : (j k u p : ℕ) → u < h .at j → Voted g j k u p → Voted h j k u p
 
+-- Later than later is later.
 pub laterTrans : {a b c : Past} → Later a b → Later b c → Later a c
 laterTrans x y = record {
   more = λ j e at. y .more j e (x .more j e at);
@@ -43,6 +46,7 @@ laterTrans x y = record {
 
 -- ---- reports
 
+-- The highest vote below v stays so, where no vote below v is added.
 pub highestOn : {P Q : ℕ → ℕ → Type 0} {v : ℕ} {o : Option Vote} → ((u p : ℕ) → P u p → Q u p) → ((u p : ℕ) → u < v → Q u p → P u p) → Highest P v o
     → Highest Q v o
 highestOn to back t = record {
@@ -55,6 +59,7 @@ highestOn to back t = record {
 abbrev pub ExactNow : Past → Rule → ℕ → ℕ → Report → Type 0
 ExactNow h rule v j x = (v ≤ h .at j) × Exact (Voted h j) rule v x
 
+-- A report that is exact stays exact: votes in views below its own are settled.
 pub exactOn : {h g : Past} → Later h g → (rule : Rule) (v j : ℕ) (x : Report) → ExactNow h rule v j x → ExactNow g rule v j x
 exactOn {h} {g} on rule v j x (under, t) = (
   omega (arith, on .rises j),
@@ -79,6 +84,7 @@ pub record Fine (h : Past) (j : ℕ) (x : Frame) : Type 0 where
   pub vote : (k p : ℕ) → x .kind ≡ suc k → x .body ≡ Plan p → Voted h j k (x .view) p
   pub told : (rule : Rule) (r : Report) → x .kind ≡ kindOf rule → reportBy (x .body) ≡ some r → ExactNow h rule (x .view) j r
 
+-- A frame that was rightly sent stays so.
 pub fineOn : {h g : Past} → Later h g → {j : ℕ} {x : Frame} → Fine h j x → Fine g j x
 fineOn on {j} {x} t = record {
   sender = t .sender;
@@ -97,11 +103,13 @@ module _ (c : Setting) (Began : ℕ → Type 0) where
       Vouched (c .vaults) (c .keeps) (ExactNow h rule3 v) v p × (c .keeps (leaderOf v (c .vaults .n)) ≡ true → Voted h (leaderOf v (c .vaults .n)) 0 v p)
   Ground h (suc (suc k)) v p = Quorum (c .vaults) (λ j. c .keeps j ≡ true → Voted h j (suc k) v p)
 
+  -- A leader's reason stays a reason.
   reasonOn : {h g : Past} → Later h g → {v p : ℕ} → Reason (c .vaults) (c .keeps) (ExactNow h rule1 v) Began v p
       → Reason (c .vaults) (c .keeps) (ExactNow g rule1 v) Began v p
   reasonOn on (own b) = own b
   reasonOn on {v} (found s rs from unsafe safe) = found s rs (λ j x keeps e. exactOn on rule1 v j x (from j x keeps e)) unsafe safe
 
+  -- What stood behind a vote stands behind it later.
   pub groundOn : {h g : Past} → Later h g → (k v p : ℕ) → Ground h k v p → Ground g k v p
   groundOn on zero v p t = reasonOn on t
   groundOn on (suc zero) v p (t, proposal) = (
@@ -117,6 +125,7 @@ module _ (c : Setting) (Began : ℕ → Type 0) where
   Told h j (Timer v ms) = Unit {0}
   Told h j (Decision v p) = Locked (c .vaults) (c .keeps) (Voted h) v p
 
+  -- What an entry says stays so.
   pub toldOn : {h g : Past} → Later h g → (j : ℕ) (e : Entry) → Told h j e → Told g j e
   toldOn on j (ForAll x) (t, why) = (fineOn on t, λ k p kind body. groundOn on k (x .view) p (why k p kind body))
   toldOn on j (ForOne i x) t = fineOn on t

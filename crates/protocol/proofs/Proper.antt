@@ -33,10 +33,12 @@ use Rattle.protocol.proofs.Went.{noneGiven, unlessAccepted, wantedMay}
 use Rattle.protocol.proofs.Sound.{Whole, actWhole, actValid, delayLow, rowsBy}
 use Rattle.protocol.proofs.Size.{outputShort}
 
+-- Entries that have bytes, after entries that have bytes.
 pub allJoin : (es fs : List Entry) → AllValid es → AllValid fs → AllValid (es ++ fs)
 allJoin [] fs a b = b
 allJoin (e ∷ es) fs (v, a) b = (v, allJoin es fs a b)
 
+-- A pass leaves a sound record with numbers of their widths, and writes entries that have bytes.
 passWhole : {steps : List Step} → Sure steps → (r : Record) → Whole r → Whole ((pass steps r) .left) × AllValid ((pass steps r) .wrote)
 unfolding pass
 passWhole done r w = (w, tt)
@@ -51,6 +53,7 @@ passWhole (and {s = s} {l = rest} law sure) r w =
         let (left, valid) = then (does r a) (actWhole w a (law .may r a e)) in
         (left, allJoin (writes r a) ((pass rest (does r a)) .wrote) (actValid w a (law .may r a e)) valid)
 
+-- The record that a start begins with is sound: it keeps nothing.
 pub freshWhole : (s : Settings) (p : ℕ) → first (settingRows s) ≡ 0 → p < 2 ^ 64 → Whole (fresh s p)
 unfolding badPrevious
 freshWhole s p given low = record {
@@ -71,6 +74,7 @@ readInRow s x read = record {
   leader = read .leader;
 }
 
+-- A record stays sound when a frame that the reader accepted is kept.
 pub heardWhole : (r : Record) (x : Frame) → Readable (r .set .n) (r .set .id) x → Whole r → Whole (keep x r)
 unfolding keep
 heardWhole r x read w = record {
@@ -91,6 +95,7 @@ heardWhole r x read w = record {
     ownVote : (k : ℕ) → voteOf (keep x r) k (r .set .id) ≡ voteOf r k (r .set .id)
     ownVote k = ap (λ (o : Option Frame). each o (λ y. voteBy (y .view) (y .body))) (keepOtherSender x (r .kept) (suc k) (r .set .id) other)
 
+-- So every accepted call leaves a sound record and writes entries that have bytes.
 callWhole : (b : Option Record) (a : Call) → ((r : Record) → b ≡ some r → Sound r × Ranged r) → Fed b a → (o : Out) → answer b a ≡ accepted o
     → Whole (o .left) × AllValid (o .wrote)
 unfolding answer started heard rung

@@ -16,10 +16,12 @@ use Rattle.frame.proofs.Theorems.{passed, accepted-valid, readBack}
 use Rattle.protocol.specs.Fed.{Readable}
 use Rattle.protocol.proofs.Went.{noneGiven}
 
+-- Byte 1 is the sender that the reader finds.
 senderSaid : (s : List ℕ) → getD s 1 0 ≡ (decode s) .sender
 unfolding decode
 senderSaid s = mathlib.Core.Path.refl
 
+-- A frame that the reader accepts is from its link, and readable.
 pub acceptedReadable : (s : List ℕ) (link n own : ℕ) (x : Frame) → Bytes s → readFrame s link n own ≡ Accepted x → (x .sender ≡ link) × Readable n own x
 acceptedReadable s link n own x bytes e =
     let p = passed s link n own x e in
@@ -38,5 +40,6 @@ acceptedReadable s link n own x bytes e =
       },
     )
 
+-- The bytes of a readable frame are accepted, as that frame.
 pub readableAccepted : (n own : ℕ) (x : Frame) → Readable n own x → readFrame (encode x) (x .sender) n own ≡ Accepted x
 readableAccepted n own x read = readBack x (x .sender) n own (read .valid) (read .link) (read .content) (read .leader)

@@ -57,19 +57,23 @@ Right n i (ForOne j x) = Goes n i j x
 Right n i (Timer v m) = Unit {0}
 Right n i (Decision v p) = Unit {0}
 
+-- All of vault i's entries pass at whom they are for.
 abbrev pub AllRight : ℕ → ℕ → List Entry → Type 0
 AllRight n i [] = Unit {0}
 AllRight n i (e ∷ es) = Right n i e × AllRight n i es
 
 module _ (n i : ℕ) where
+  -- Entries that pass, after entries that pass.
   pub rightJoin : (es fs : List Entry) → AllRight n i es → AllRight n i fs → AllRight n i (es ++ fs)
   rightJoin [] fs a b = b
   rightJoin (e ∷ es) fs (v, a) b = (v, rightJoin es fs a b)
 
+  -- Each of them passes.
   rightAt : (es : List Entry) → AllRight n i es → (e : Entry) → e ∈ es → Right n i e
   rightAt [] all e at = elim at [ ]
   rightAt (d ∷ es) (this, rest) e at = ⊎-elim (λ is. subst (Right n i) (sym is) this) (rightAt es rest e) (List·Memᴰ·cases-cons at)
 
+  -- A frame among them that is for vault j passes at j.
   pub goesFor : (es : List Entry) → AllRight n i es → (j : ℕ) (x : Frame) → IsFor j x es → Goes n i j x
   goesFor es all j x for = ⊎-elim (λ at. rightAt es all (ForAll x) at j) (rightAt es all (ForOne j x)) for
 
@@ -102,10 +106,12 @@ goesReadable n i j x g other = record {
 
 -- ---- the acts
 
+-- Entries of the vault with these settings pass at whom they are for.
 abbrev OwnRight : Settings → List Entry → Type 0
 OwnRight s es = AllRight (s .n) (s .id) es
 
 module _ {r : Record} (w : Whole r) where
+  -- A frame that the vault sends passes at j, if 15 does: a proposal is from its leader, and a suggest is for it.
   goes : (x : Frame) (j : ℕ) → x .sender ≡ r .set .id → Sendable (r .set .n) (r .set .id) x → (x .kind ≡ 1 → leaderOf (x .view) (r .set .n) ≡ x .sender)
       → (x .kind ≡ 7 → leaderOf (x .view) (r .set .n) ≡ j) → Goes (r .set .n) (r .set .id) j x
   goes x j own ok one seven = record {
@@ -116,6 +122,7 @@ module _ {r : Record} (w : Whole r) where
     leader = ledRight x (r .set .n) j one seven;
   }
 
+  -- What an act writes passes at whom it is for.
   actRight : (a : Act) → May r a → OwnRight (r .set) (writes r a)
   unfolding writes
   actRight (ask v) may =
@@ -143,10 +150,12 @@ record Keeps (s : Settings) (o : Out) : Type 0 where
   pub stays : o .left .set ≡ s
   pub right : OwnRight s (o .wrote)
 
+-- Entries that pass, written before what follows.
 keepsMore : (s : Settings) (es : List Entry) {t : Settings} {o : Out} → t ≡ s → OwnRight s es → Keeps t o → Keeps s (onward es o)
 keepsMore s es {t} {o} same all k =
     record { stays = k .stays ∙ same; right = rightJoin (s .n) (s .id) es (o .wrote) all (subst (λ (t : Settings). OwnRight t (o .wrote)) same (k .right)) }
 
+-- What a pass writes passes, and the settings stay.
 passKeeps : {steps : List Step} → Sure steps → (r : Record) → Whole r → Keeps (r .set) (pass steps r)
 unfolding pass
 passKeeps done r w = record { stays = refl; right = tt }
@@ -158,10 +167,12 @@ passKeeps (and {s = s} {l = rest} law sure) r w =
     go none e then = keepsMore (r .set) [] refl tt (then r w)
     go (some a) e then = keepsMore (r .set) (writes r a) (doesSet r a) (actRight w a (law .may r a e)) (then (does r a) (actWhole w a (law .may r a e)))
 
+-- The same of the answer, by the settings of the record that is left.
 ownRight : {s : Settings} {o u : Out} → o ≡ u → Keeps s o → OwnRight (u .left .set) (u .wrote)
 ownRight {s} {o} same k =
     subst (λ (u : Out). OwnRight (u .left .set) (u .wrote)) same (subst (λ (t : Settings). OwnRight t (o .wrote)) (sym (k .stays)) (k .right))
 
+-- What an accepted call writes passes at whom it is for.
 pub callRight : (b : Option Record) (a : Call) → ((r : Record) → b ≡ some r → Sound r × Ranged r) → Fed b a
     → (o : Out) → answer b a ≡ accepted o → OwnRight (o .left .set) (o .wrote)
 unfolding answer started heard rung

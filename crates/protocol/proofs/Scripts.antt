@@ -45,6 +45,7 @@ pick k [] = none
 pick zero (e ∷ es) = some e
 pick (suc k) (e ∷ es) = pick k es
 
+-- A picked entry is one of the list.
 pub pickIn : (k : ℕ) (es : List Entry) {e : Entry} → pick k es ≡ some e → e ∈ es
 pickIn k [] is = absurd (none≢some is)
 pickIn zero (d ∷ es) {e} is = let same : e ≡ d = cc in List·Memᴰ·head same
@@ -62,6 +63,7 @@ heardOf i (some (ForOne j x)) = cond (eqb j i) (frame (Accepted x)) short
 heardOf i (some (Timer v m)) = short
 heardOf i (some (Decision v p)) = short
 
+-- The call that a move makes, after the calls so far. A liar's frame is given as the vault's reader answers its bytes.
 abbrev pub callOf : List Item → Move → Item
 callOf l (begin i p) = record { at = i; call = start (four i) p }
 callOf l (hear i j k) = record { at = i; call = heardOf i (pick k (written l j)) }
@@ -81,6 +83,7 @@ module _ (keeps : Set) where
   isFair (ring i v) = keeps i
   isFair (lie i x) = keeps i && not (keeps (x .sender))
 
+  -- Every move of the script is fair.
   abbrev pub allFair : List Move → Bool
   allFair [] = true
   allFair (m ∷ ms) = isFair m && allFair ms
@@ -108,6 +111,7 @@ module _ (keeps : Set) (most : total (equals 4 1) - 1 ≤ size (equals 4 1) keep
         let (own, can) = runReadable ofFour (so .run) (so .wide) i j x other for in
         (can, λ rules. subst (λ (k : ℕ). IsFor i x (written l k)) (sym own) for)
 
+    -- A vault may hear an entry that another wrote: a frame for it comes, and anything else comes to nothing.
     hearNext : (i j : ℕ) (o : Option Entry) → keeps i ≡ true → i ≢ j → ((e : Entry) → o ≡ some e → e ∈ written l j)
         → Next l (record { at = i; call = heardOf i o })
     hearNext i j none rules other has = record { called = rules; fair = tt; brings = tt }
@@ -134,6 +138,7 @@ module _ (keeps : Set) (most : total (equals 4 1) - 1 ≤ size (equals 4 1) keep
             let (own, can) = acceptedReadable (encode x) (x .sender) 4 i y (encode-bytes x) read in
             record { called = rules; fair = (can, λ bad. absurd (clash (subst (λ (j : ℕ). keeps j ≡ true) own bad) lies)); brings = tt }
 
+    -- A fair move makes a call with which the run can go on.
     moveNext : (m : Move) → isFair keeps m ≡ true → Next l (callOf l m)
     moveNext (begin i p) ok =
         let (rules, low) = bothSplit (keeps i) (ltb p (2 ^ 64)) ok in
@@ -146,6 +151,7 @@ module _ (keeps : Set) (most : total (equals 4 1) - 1 ≤ size (equals 4 1) keep
         let (rules, lies) = bothSplit (keeps i) (not (keeps (x .sender))) ok in
         lieNext i x rules (not-true (keeps (x .sender)) lies)
 
+  -- So a script of fair moves is a run.
   pub scriptRuns : (ms : List Move) → allFair keeps ms ≡ true → Runs (calls ms)
   unfolding calls
   scriptRuns [] ok = record { run = nothingYet; wide = tt }

@@ -30,9 +30,11 @@ use Rattle.protocol.proofs.ReadsBack.{Goes, AllRight, rightJoin, goesFo
 use Rattle.protocol.proofs.Lasting.{Wide, Lasting, feeds, runLasts}
 
 module _ (c : Setting) where
+  -- The number of vaults in the run.
   abbrev n : ℕ
   n = c .vaults .n
 
+  -- After one more accepted call, all that was ever written still passes at whom it is for.
   rightMore : (l : List Item) (x : Item) (o : Out) → answer (recordAt l (x .at)) (x .call) ≡ accepted o → AllRight n (x .at) (o .wrote)
       → ((j : ℕ) → AllRight n j (written l j)) → (j : ℕ) → AllRight n j (written (x ∷ l) j)
   rightMore l x o is new old j = subst (λ (h : Past). AllRight n j (h .wrote j)) (sym (pastAccepted l x o is)) (go (which (eqb (x .at) j)))
@@ -42,6 +44,7 @@ module _ (c : Setting) where
           (rightJoin n (x .at) (written l (x .at)) (o .wrote) (old (x .at)) new))
       go (inr other) = rw other (old j)
 
+  -- All that is written in a run passes at whom it is for.
   pub runRight : {l : List Item} → Run c l → Wide l → (j : ℕ) → AllRight n j (written l j)
   unfolding written
   runRight nothingYet wide = λ j. tt

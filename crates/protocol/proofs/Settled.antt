@@ -35,6 +35,7 @@ use Rattle.protocol.proofs.Passes.{passNone, passMore}
 
 -- ---- what each step reads
 
+-- The kept frames of one kind, by sender.
 abbrev Row : Type 0
 Row = ℕ → Option Frame
 
@@ -44,18 +45,23 @@ seen s begin v kept = record { set = s; start = begin; view = v; kept = kept; pr
 
 -- The two records agree on settings and view, and on the kinds that the step reads.
 module _ (r t : Record) (set : t .set ≡ r .set) (view : t .view ≡ r .view) where
+  -- Of the kept frames, step A reads the view-changes only.
   sameA : t .kept 6 ≡ r .kept 6 → actA t ≡ actA r
   sameA row z = actA (seen (set z) 0 (view z) (λ k. row z))
 
+  -- So does step B.
   sameB : t .kept 6 ≡ r .kept 6 → actB t ≡ actB r
   sameB row z = actB (seen (set z) 0 (view z) (λ k. row z))
 
+  -- Step C reads the starting plan, the proposals and the suggests.
   sameC : t .start ≡ r .start → t .kept 1 ≡ r .kept 1 → t .kept 7 ≡ r .kept 7 → actC t ≡ actC r
   sameC begin own suggests z = actC (seen (set z) (begin z) (view z) (λ k. cond (eqb k 1) (own z) (suggests z)))
 
+  -- Step D reads the proposals, vote-1 and the proofs.
   sameD : t .kept 1 ≡ r .kept 1 → t .kept 2 ≡ r .kept 2 → t .kept 8 ≡ r .kept 8 → actD t ≡ actD r
   sameD proposals own proofs z = actD (seen (set z) 0 (view z) (λ k. cond (eqb k 1) (proposals z) (cond (eqb k 2) (own z) (proofs z))))
 
+  -- Steps E to G read the votes that they count and the ones that they send.
   sameVote : (k : ℕ) → k < 3 → t .kept (suc (suc k)) ≡ r .kept (suc (suc k)) → t .kept (suc (suc (suc k))) ≡ r .kept (suc (suc (suc k)))
       → actVote t (suc k) ≡ actVote r (suc k)
   unfolding agreed
@@ -206,6 +212,7 @@ castDone n r k p low five q = record {
 abbrev Climbs : ℕ → Step → Type 0
 Climbs n s = (r : Record) → Done n r → Done (suc n) ((s r) .left)
 
+-- Step A: once it has asked for a view, it has nothing to ask for.
 climbA : Climbs 0 stepA
 unfolding stepA
 climbA r q = go (actA r) refl
@@ -230,6 +237,7 @@ climbA r q = go (actA r) refl
         let same : ask w ≡ x = cc in
         subst (λ (y : Act). Done 1 (does r y)) same (only (does r (ask w)) (ownA r w top))
 
+-- Step B: entering a view gives A nothing to do, and no higher view can be entered.
 climbB : Climbs 1 stepB
 unfolding stepB
 climbB r q = go (actB r) refl
@@ -254,6 +262,7 @@ climbB r q = go (actB r) refl
         let up : r .view < w = ltb-true (r .view) w (bothSplit (ltb (r .view) w) _ (highestHas (canEnter r) (changeOf r) (r .set .n) top .0) .0) in
         subst (λ (y : Act). Done 2 (does r y)) same (both (does r (enter w)) (enterA r w up (q .a (omega arith))) (ownB r w top))
 
+-- Step C: the proposal is sent now, so it proposes no more in this view.
 climbC : Climbs 2 stepC
 unfolding stepC
 climbC r q = go (actC r) refl
@@ -280,6 +289,7 @@ climbC r q = go (actC r) refl
         let (p, same) = actIs (chosen r) (λ p. true) (cast 0) g in
         subst (λ (y : Act). Done 3 (does r y)) same (more (does r (cast 0 p)) (castDone 2 r 0 p (omega arith) (omega arith) q) (own p))
 
+-- Step D: vote-1 is sent now.
 climbD : Climbs 3 stepD
 unfolding stepD
 climbD r q = go (actD r) refl
@@ -305,6 +315,7 @@ climbD r q = go (actD r) refl
         let (p, same) = actIs (planNow r 0 (leader r (r .view))) (approves r) (cast 1) e in
         subst (λ (y : Act). Done 4 (does r y)) same (more (does r (cast 1 p)) (castDone 3 r 1 p (omega arith) (omega arith) q) (own p))
 
+-- Steps E to G: the vote is sent now.
 climbVote : (k : ℕ) → k < 3 → Climbs (k + 4) (stepVote (suc k))
 unfolding stepVote
 climbVote k low r q = go (actVote r (suc k)) refl
@@ -333,6 +344,7 @@ climbVote k low r q = go (actVote r (suc k)) refl
         subst (λ (y : Act). Done (suc (k + 4)) (does r y)) same
         (more (does r (cast (suc (suc k)) p)) (castDone (k + 4) r (suc (suc k)) p (omega arith) (omega arith) q) (own p))
 
+-- Step H: something is decided, and it changes nothing else.
 climbH : Climbs 7 stepH
 unfolding stepH does agreed
 climbH r q = go (actH r) refl
@@ -361,10 +373,12 @@ climbH r q = go (actH r) refl
 
 -- ---- passes
 
+-- After a pass from C nothing is left to do, where A and B had nothing to do.
 doneC : (r : Record) → Done 2 r → Done 8 ((pass fromC r) .left)
 unfolding pass
 doneC r q = climbH _ (climbVote 2 (omega arith) _ (climbVote 1 (omega arith) _ (climbVote 0 (omega arith) _ (climbD _ (climbC r q)))))
 
+-- After a pass from A nothing is left to do.
 doneA : (r : Record) → Done 8 ((pass fromA r) .left)
 unfolding pass
 doneA r = doneC _ (climbB _ (climbA r none-yet))
@@ -381,6 +395,7 @@ doneA r = doneC _ (climbB _ (climbA r none-yet))
           h = λ le. absurd (omega arith);
         }
 
+-- On the record that a start begins with, A and B have nothing to do: no view-change is kept.
 doneFresh : (s : Settings) (p : ℕ) → Done 2 (fresh s p)
 doneFresh s p = record {
   a = λ le. ap (λ (o : Option ℕ). each o (λ w. when (isNews (fresh s p) w) (some (ask w)))) (highestNone (asked (fresh s p) isBlocking) (s .n));
@@ -396,6 +411,7 @@ quietStep : (s : Step) (rest : List Step) (r : Record) → s r ≡ record { left
     → pass (s ∷ rest) r ≡ record { left = r; wrote = [] }
 quietStep s rest r e f = passMore s rest r ∙ ap (λ (o : Out). onward (o .wrote) (pass rest (o .left))) e ∙ ap (onward []) f
 
+-- A pass over a record with nothing left to do changes nothing and writes nothing.
 quietPass : (r : Record) → Done 8 r → pass fromA r ≡ record { left = r; wrote = [] }
 unfolding stepA stepB stepC stepD stepVote stepH
 quietPass r q =

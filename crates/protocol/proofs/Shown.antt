@@ -38,6 +38,7 @@ says i j k = hear i j (k + cond (eqb j 0) 1 0)
 abbrev three : ℕ → List Move
 three k = says 0 1 k ∷ says 0 2 k ∷ says 1 0 k ∷ says 1 2 k ∷ says 2 0 k ∷ says 2 1 k ∷ []
 
+-- All four hear each other's entry k.
 abbrev all : ℕ → List Move
 all k = says 0 3 k ∷ says 1 3 k ∷ says 2 3 k ∷ says 3 0 k ∷ says 3 1 k ∷ says 3 2 k ∷ three k
 
@@ -45,6 +46,7 @@ all k = says 0 3 k ∷ says 1 3 k ∷ says 2 3 k ∷ says 3 0 k ∷ says 3 1 k �
 abbrev begun : List Move
 begun = hear 1 0 1 ∷ hear 2 0 1 ∷ hear 3 0 1 ∷ begin 3 6 ∷ begin 2 9 ∷ begin 1 8 ∷ begin 0 7 ∷ []
 
+-- All vaults keep the rules.
 abbrev pub everyone : Set
 everyone i = true
 
@@ -63,9 +65,11 @@ keptIn (some r) k j = r .kept k j
 abbrev pub plain : List Move
 plain = all 4 ++ (all 3 ++ (all 2 ++ (all 1 ++ begun)))
 
+-- The script is fair, so it is a run.
 pub plainFair : allFair everyone plain ≡ true
 plainFair = refl
 
+-- All four decide 7 in view 0.
 pub plainDecides : (wrote plain 0 6 ≡ some (Decision 0 7))
     × (wrote plain 1 5 ≡ some (Decision 0 7))
     × (wrote plain 2 5 ≡ some (Decision 0 7))
@@ -89,15 +93,18 @@ abbrev pub lied : List Move
 lied = three 4 ++ (three 3 ++ (three 2 ++ (three 1
     ++ (lie 0 (voteOf3 7) ∷ lie 1 (voteOf3 7) ∷ lie 2 (voteOf3 9) ∷ hear 1 0 1 ∷ hear 2 0 1 ∷ begin 2 9 ∷ begin 1 8 ∷ begin 0 7 ∷ []))))
 
+-- The script is fair, so it is a run.
 pub liedFair : allFair butOne lied ≡ true
 liedFair = refl
 
+-- Vaults 0 and 2 keep different votes of vault 3.
 pub liedKept : (keptIn (recordAt (calls lied) 0) 2 3 ≡ some (voteOf3 7)) × (keptIn (recordAt (calls lied) 2) 2 3 ≡ some (voteOf3 9))
 unfolding delayOf answer started keep heard rung pass stepA stepB stepC stepD stepVote stepH does writes agreed highest safe free allowed claimed
     twoSets backed choice smallest any weigh isQuorum isBlocking reach claims unlocked allows recordAt written calls within lengthOf encode
     bodyAs decode badForm tooHigh badPrevious viewMissing misled refusal readFrame numberAt digits
 liedKept = (refl, refl)
 
+-- The three others decide 7 all the same.
 pub liedDecides : (wrote lied 0 6 ≡ some (Decision 0 7)) × (wrote lied 1 5 ≡ some (Decision 0 7)) × (wrote lied 2 5 ≡ some (Decision 0 7))
 unfolding delayOf answer started keep heard rung pass stepA stepB stepC stepD stepVote stepH does writes agreed highest safe free allowed claimed
     twoSets backed choice smallest any weigh isQuorum isBlocking reach claims unlocked allows recordAt written calls within lengthOf encode
@@ -114,9 +121,11 @@ locked = says 1 0 7 ∷ says 1 2 7 ∷ says 1 3 7 ∷ all 6 ++ (all 4 ++ (ring 0
 abbrev pub later : List Move
 later = all 11 ++ (all 10 ++ (all 9 ++ (all 8 ++ (hear 0 1 7 ∷ hear 2 1 7 ∷ hear 3 1 7 ∷ locked))))
 
+-- The script is fair, so it is a run.
 pub laterFair : allFair everyone later ≡ true
 laterFair = refl
 
+-- All four decide 7 in view 1.
 pub laterDecides : (wrote later 0 13 ≡ some (Decision 1 7))
     × (wrote later 1 12 ≡ some (Decision 1 7))
     × (wrote later 2 12 ≡ some (Decision 1 7))

@@ -34,10 +34,12 @@ size (ForOne i x) = 1 + total (widths (fieldsOf x))
 size (Timer v ms) = 10
 size (Decision v p) = 14
 
+-- The bytes of several entries.
 abbrev sizes : List Entry → ℕ
 sizes [] = 0
 sizes (e ∷ es) = size e + sizes es
 
+-- An entry's bytes are as many as `size` says.
 entryLength : (e : Entry) → length (entryBytes e) ≡ size e
 unfolding entryBytes encode
 entryLength (ForAll x) = omega (arith, length-spell (fieldsOf x))
@@ -45,22 +47,26 @@ entryLength (ForOne i x) = omega (arith, length-spell (fieldsOf x))
 entryLength (Timer v ms) = length-spell (hostFields 11 v 4 ms)
 entryLength (Decision v p) = length-spell (hostFields 10 v 8 p)
 
+-- So are those of entries end to end.
 layoutLength : (es : List Entry) → length (layout es) ≡ sizes es
 layoutLength [] = refl
 layoutLength (e ∷ es) = omega (arith, length-append (entryBytes e) (layout es), entryLength e, layoutLength es)
 
+-- Entries after entries: their bytes add up.
 sizesJoin : (es fs : List Entry) → sizes (es ++ fs) ≡ sizes es + sizes fs
 sizesJoin [] fs = omega arith
 sizesJoin (e ∷ es) fs = omega (arith, sizesJoin es fs)
 
 -- ---- acts
 
+-- How many bytes an act writes at most.
 abbrev cost : Act → ℕ
 cost (ask w) = 7
 cost (enter w) = 102
 cost (cast k p) = 15
 cost (decide p) = 14
 
+-- An act writes no more than that.
 actSize : (r : Record) (a : Act) → sizes (writes r a) ≤ cost a
 unfolding writes
 actSize r (ask w) = omega arith
@@ -82,30 +88,38 @@ actIs o test f {a} e =
     let same : f x ≡ a = cc in
     (x, same)
 
+-- A step's act writes at most m bytes.
 abbrev Costs : (Record → Option Act) → ℕ → Type 0
 Costs act m = (r : Record) (a : Act) → act r ≡ some a → cost a ≤ m
 
+-- A view-change: 7.
 costA : Costs actA 7
 costA r a e = let (w, is) = actIs (highest (asked r isBlocking) (changeOf r) (r .set .n)) (isNews r) ask e in subst (λ (b : Act). cost b ≤ 7) is (omega arith)
 
+-- Entering a view: 102.
 costB : Costs actB 102
 costB r a e = let (w, is) = actIs (highest (canEnter r) (changeOf r) (r .set .n)) (λ w. true) enter e in subst (λ (b : Act). cost b ≤ 102) is (omega arith)
 
+-- A proposal: 15.
 costC : Costs actC 15
 costC r a e =
     let (t, g) = whenSome (mayPropose r) _ e in
     let (p, is) = actIs (chosen r) (λ p. true) (cast 0) g in
     subst (λ (b : Act). cost b ≤ 15) is (omega arith)
 
+-- Vote-1: 15.
 costD : Costs actD 15
 costD r a e = let (p, is) = actIs (planNow r 0 (leader r (r .view))) (approves r) (cast 1) e in subst (λ (b : Act). cost b ≤ 15) is (omega arith)
 
+-- Votes 2 to 4: 15 each.
 costVote : (k : ℕ) → Costs (λ r. actVote r k) 15
 costVote k r a e = let (p, is) = actIs (agreed r k) (λ p. not (sentNow r (suc k))) (cast (suc k)) e in subst (λ (b : Act). cost b ≤ 15) is (omega arith)
 
+-- A decision: 14.
 costH : Costs actH 14
 costH r a e = let (p, is) = actIs (agreed r 4) (λ p. isNone (r .decision)) decide e in subst (λ (b : Act). cost b ≤ 14) is (omega arith)
 
+-- So a step writes at most m bytes.
 takenSize : (act : Record → Option Act) (m : ℕ) → Costs act m → (r : Record) → sizes ((taken r (act r)) .wrote) ≤ m
 takenSize act m costs r = go (act r) refl
   where
@@ -115,15 +129,18 @@ takenSize act m costs r = go (act r) refl
 
 -- ---- passes and calls
 
+-- A pass writes what its first step writes, and what the rest does.
 passSize : (s : Step) (l : List Step) (m k : ℕ) → ((r : Record) → sizes ((s r) .wrote) ≤ m) → ((r : Record) → sizes ((pass l r) .wrote) ≤ k)
     → (r : Record) → sizes ((pass (s ∷ l) r) .wrote) ≤ m + k
 unfolding pass
 passSize s l m k here rest r = omega (arith, sizesJoin ((s r) .wrote) ((pass l ((s r) .left)) .wrote), here r, rest ((s r) .left))
 
+-- A pass of no steps writes nothing.
 noneSize : (r : Record) → sizes ((pass [] r) .wrote) ≤ 0
 unfolding pass
 noneSize r = omega arith
 
+-- From C on: a proposal and four votes of 15 bytes each, and a decision of 14.
 sizeC : (r : Record) → sizes ((pass fromC r) .wrote) ≤ 89
 unfolding stepC stepD stepVote stepH
 sizeC =
@@ -132,10 +149,12 @@ sizeC =
     (passSize (stepVote 2) _ 15 29 (takenSize (λ r. actVote r 2) 15 (costVote 2)) (passSize (stepVote 3) _ 15 14 (takenSize (λ r. actVote r 3) 15 (costVote 3))
     (passSize stepH [] 14 0 (takenSize actH 14 costH) noneSize)))))
 
+-- From A on: 7 and 102 bytes more.
 sizeA : (r : Record) → sizes ((pass fromA r) .wrote) ≤ 198
 unfolding stepA stepB
 sizeA = passSize stepA _ 7 191 (takenSize actA 7 costA) (passSize stepB fromC 102 89 (takenSize actB 102 costB) sizeC)
 
+-- The longest output is a timer's: its own view-change adds 7 bytes to a pass from A.
 callSize : (b : Option Record) (a : Call) (o : Out) → answer b a ≡ accepted o → sizes (o .wrote) ≤ 205
 unfolding answer started heard rung
 callSize b short o e = let z : _≡_ {A = ℕ} 0 1 = cc in absurd (omega arith)

@@ -32,16 +32,19 @@ use Rattle.protocol.specs.inside.Sound.{Fits}
 abbrev pub Under : ℕ → Option Vote → Type 0
 Under w o = (x : Vote) → o ≡ some x → x .view < w
 
+-- A spelt vote has a good form: its mark is 0 or 1, and an absent one is all zeros.
 formSpelt : (o : Option Vote) → badForm (spelt o) ≡ false
 unfolding badForm
 formSpelt none = refl
 formSpelt (some x) = refl
 
+-- A spelt vote below view w passes 'view not below the frame's'.
 underSpelt : (w : ℕ) (o : Option Vote) → Under w o → tooHigh w (spelt o) ≡ false
 unfolding tooHigh
 underSpelt w none low = refl
 underSpelt w (some x) low = lt-leb w (x .view) (low x refl)
 
+-- Row 14 passes three spelt votes below the frame's view, of which the previous one stands to the highest.
 pub reportsPass : (w : ℕ) (h p l : Option Vote) → Under w h → Under w p → Under w l → badPrevious (spelt h) (spelt p) ≡ false
     → first (reportRows w (spelt h ∷ spelt p ∷ spelt l ∷ [])) ≡ 0
 reportsPass w h p l uh up ul stands = rw (formSpelt h, formSpelt p, formSpelt l, underSpelt w h uh, underSpelt w p up, underSpelt w l ul, stands)
@@ -50,6 +53,7 @@ reportsPass w h p l uh up ul stands = rw (formSpelt h, formSpelt p, formSpelt l,
 abbrev pub Stands : Option Vote → Option Vote → Type 0
 Stands top old = (x : Vote) → old ≡ some x → (y : Vote) × (top ≡ some y) × (x .view < y .view) × (y .plan ≢ x .plan)
 
+-- What row 14 says of a previous vote that passes.
 pub standsOf : (top old : Option Vote) → badPrevious (spelt top) (spelt old) ≡ false → Stands top old
 unfolding badPrevious
 standsOf none none e x is = absurd (none≢some is)
@@ -61,6 +65,7 @@ standsOf (some y) (some x′) e x is =
     let other : eqb (y .plan) (x .plan) ≡ false = rw same at (neither (leb (y .view) (x′ .view)) (eqb (y .plan) (x′ .plan)) e .1) in
     (y, refl, leb-false (y .view) (x .view) low, eqb-false (y .plan) (x .plan) other)
 
+-- And back: a previous vote that stands to the highest passes.
 pub standsTo : (top old : Option Vote) → Stands top old → badPrevious (spelt top) (spelt old) ≡ false
 unfolding badPrevious
 standsTo none none s = refl
@@ -104,6 +109,7 @@ pub record Sendable (n i : ℕ) (x : Frame) : Type 0 where
   pub leader : (x .kind ≡ 7 → leaderOf (x .view) n ≡ i) → first (leaderRows x n i) ≡ 0
 
 module _ (n i : ℕ) (small : i < 256) where
+  -- A view-change for a view above 0 is sendable.
   pub changeSendable : (w : ℕ) → 0 < w → w < 2 ^ 32 → Sendable n i (record { kind = 6; sender = i; view = w; body = Empty })
   unfolding viewMissing within misled
   changeSendable w some-view low = record {
@@ -112,6 +118,7 @@ module _ (n i : ℕ) (small : i < 256) where
     leader = λ led. refl;
   }
 
+  -- A vote is sendable; a proposal where its sender leads the view.
   pub voteSendable : (k v p : ℕ) → k < 5 → (k ≡ 0 → leaderOf v n ≡ i) → v < 2 ^ 32 → p < 2 ^ 64
       → Sendable n i (record { kind = suc k; sender = i; view = v; body = Plan p })
   unfolding viewMissing within misled
@@ -132,6 +139,7 @@ module _ (n i : ℕ) (small : i < 256) where
   sizedSpelt none fs fit rest = (omega arith, (omega arith, (omega arith, rest)))
   sizedSpelt (some x) fs fit rest = (omega arith, (fit x refl .0, (fit x refl .1, rest)))
 
+  -- A suggest or proof is sendable, where its votes are below its view and have their widths.
   pub reportSendable : (rule : Rule) (w : ℕ) (h p l : Option Vote) → 0 < w → w < 2 ^ 32 → Under w h → Under w p → Under w l
       → badPrevious (spelt h) (spelt p) ≡ false
       → ((x : Vote) → h ≡ some x → Fits x) → ((x : Vote) → p ≡ some x → Fits x) → ((x : Vote) → l ≡ some x → Fits x)
@@ -161,9 +169,11 @@ module _ (n i : ℕ) (small : i < 256) where
 
 -- ---- the widths of what is kept
 
+-- The view of a frame that has bytes is 32 bits wide.
 pub viewFits : (x : Frame) → Valid x → x .view < 2 ^ 32
 viewFits x v = v .sized .1 .1 .0
 
+-- The vote in a frame that has bytes has its widths.
 pub voteFits : (x : Frame) → Valid x → (y : Vote) → voteBy (x .view) (x .body) ≡ some y → Fits y
 voteFits x v y e = go (x .body) (v .sized) e
   where
@@ -172,6 +182,7 @@ voteFits x v y e = go (x .body) (v .sized) e
     go Empty s e = absurd (none≢some e)
     go (Told r) s e = absurd (none≢some e)
 
+-- The vote that a report tells has the report's widths.
 slotFits : (z : Slot.Report) (y : Vote) → z .view < 2 ^ 32 → z .plan < 2 ^ 64 → reported z ≡ some y → Fits y
 slotFits z y lv lp e = go (eqb (z .mark) 1) e
   where
@@ -185,6 +196,7 @@ pub record ReportFits (r : Report) : Type 0 where
   pub previous : (y : Vote) → r .previous ≡ some y → Fits y
   pub lock : (y : Vote) → r .lock ≡ some y → Fits y
 
+-- The votes in a suggest or proof that has bytes have their widths.
 pub reportFits : (x : Frame) → Valid x → (r : Report) → reportBy (x .body) ≡ some r → ReportFits r
 reportFits x v r e = go (x .body) (v .sized) e
   where

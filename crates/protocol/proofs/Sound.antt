@@ -42,12 +42,15 @@ use Rattle.protocol.proofs.Slots.{Under, Stands, standsOf, standsTo, sh
 
 -- ---- settings
 
+-- Row 7 leaves the vault's number below n.
 pub idBelow : (s : Settings) → first (settingRows s) ≡ 0 → s .id < s .n
 idBelow s e = leb-false (s .n) (s .id) (noneGiven (settingRows s) e .1 .1 .0)
 
+-- Row 5 leaves n at most 64.
 pub sizeBelow : (s : Settings) → first (settingRows s) ≡ 0 → s .n ≤ 64
 sizeBelow s e = ltb-false 64 (s .n) (neither (ltb (s .n) 4) (ltb 64 (s .n)) (noneGiven (settingRows s) e .0) .1)
 
+-- No delay is above 5000 milliseconds, so a timer entry's number fits.
 pub delayLow : (class : ℕ) → delayOf class ≤ 5000
 unfolding delayOf
 delayLow zero = omega arith
@@ -67,11 +70,13 @@ untoldCast r k p has = ap (λ (b : Bool). cond b (put k (shift p (voteOf r k (r 
 
 -- ---- a record with both
 
+-- Sound, with numbers of their widths: what one act is shown to keep.
 pub record Whole (r : Record) : Type 0 where
   pub sound : Sound r
   pub ranged : Ranged r
 
 module _ {r : Record} (w : Whole r) where
+  -- The vault's number is one byte.
   small : r .set .id < 256
   small = omega (arith, idBelow (r .set) (w .sound .settings), sizeBelow (r .set) (w .sound .settings))
 
@@ -83,6 +88,7 @@ module _ {r : Record} (w : Whole r) where
       let le : y .view ≤ r .view = w .sound .own (suc k) y is (λ (z : suc k ≡ 6). omega arith) in
       omega arith
 
+  -- A vote of the own row that was not sent in this view is of an earlier one.
   ownBefore : (k : ℕ) → k < 5 → sentNow r k ≡ false → Under (r .view) (voteOf r k (r .set .id))
   ownBefore k low new x e =
       let le : x .view ≤ r .view = ownLow k x low e in
@@ -92,9 +98,11 @@ module _ {r : Record} (w : Whole r) where
       go (inl same) le = let sent : sentNow r k ≡ true = rw (e, same) in absurd (clash sent new)
       go (inr other) le = let ne : x .view ≢ r .view = eqb-false (x .view) (r .view) other in omega arith
 
+  -- The previous vote stands to the highest one, as row 14 asks.
   previousStands : (k : ℕ) → hasPrevious k ≡ true → Stands (voteOf r k (r .set .id)) (r .previous k)
   previousStands k has = standsOf (voteOf r k (r .set .id)) (r .previous k) (w .sound .previous k has)
 
+  -- The previous vote is not above the current view.
   previousLow : (k : ℕ) (x : Vote) → hasPrevious k ≡ true → r .previous k ≡ some x → x .view ≤ r .view
   previousLow k x has e =
       let (y, is, low, other) = previousStands k has x e in
@@ -103,15 +111,18 @@ module _ {r : Record} (w : Whole r) where
 
   -- ---- the widths of what may be written
 
+  -- A kept vote has its widths.
   voteWidth : (k j : ℕ) (x : Vote) → voteOf r k j ≡ some x → Fits x
   voteWidth k j x e = let (y, is, v) = eachSome (r .kept (suc k) j) _ e in voteFits y (w .sound .kept (suc k) j y is .valid) x v
 
+  -- A view for which a view-change is kept is 32 bits wide.
   pub wishWidth : (v : ℕ) → Wished r v → v < 2 ^ 32
   wishWidth v (j, e) =
       let (y, is, q) = eachSome (r .kept 6 j) _ e in
       let same : y .view ≡ v = cc in
       rw same at (viewFits y (w .sound .kept 6 j y is .valid))
 
+  -- The votes of a kept report have their widths.
   reportWidth : (rule : Rule) (j : ℕ) (x : Report) → reportsOf r rule j ≡ some x → ReportFits x
   reportWidth rule j x e =
       let (y, is, q) = eachSome (r .kept (kindOf rule) j) _ e in
@@ -122,9 +133,11 @@ module _ {r : Record} (w : Whole r) where
   someHeld : (k p : ℕ) → Quorum (vaults r) (Held r k p) → (j : ℕ) × Held r k p j
   someHeld k p q = let (j, low, held) = quorumMember r (thirdOf (r .set) (w .sound .settings)) q in (j, held)
 
+  -- The plan of a kept vote is 64 bits wide.
   heldWidth : (k p j : ℕ) → Held r k p j → p < 2 ^ 64
   heldWidth k p j e = voteWidth k j _ e .1
 
+  -- A plan that a report names is 64 bits wide.
   namedWidth : (p : ℕ) (x : Report) → ReportFits x → names p x ≡ true → p < 2 ^ 64
   unfolding names
   namedWidth p x fit h = ⊎-elim (of (x .lock) (fit .lock)) (of (x .highest) (fit .highest)) (either (holds (λ y. eqb (y .plan) p) (x .lock)) _ h)
@@ -132,6 +145,7 @@ module _ {r : Record} (w : Whole r) where
       of : (o : Option Vote) → ((y : Vote) → o ≡ some y → Fits y) → holds (λ y. eqb (y .plan) p) o ≡ true → p < 2 ^ 64
       of o fit h = let (y, is, same) = holdsWhere o (λ y. eqb (y .plan) p) h in rw (eqb-true (y .plan) p same) at (fit y is .1)
 
+  -- Step C's choice is 64 bits wide: the starting plan is, and another is named by a report.
   chosenWidth : (p : ℕ) {o : Option ℕ} → Chosen (vaults r) (reportsOf r rule1) (r .view) (r .start) o → o ≡ some p → p < 2 ^ 64
   chosenWidth p (Rules.own safe) e = let is : r .start ≡ p = cc in rw is at (w .ranged .start)
   chosenWidth p (Rules.other {o = none} never least) e = absurd (none≢some e)
@@ -141,6 +155,7 @@ module _ {r : Record} (w : Whole r) where
       let (x, at, h) = holdsWhere (reportsOf r rule1 j) (names q) named in
       rw is at (namedWidth q x (reportWidth rule1 j x at) h)
 
+  -- So is every plan that the vault may vote for or decide.
   planWidth : (k p : ℕ) → Reached r k p → p < 2 ^ 64
   planWidth zero p (lead, e) = chosenWidth p (proposedChosen r p e) refl
   planWidth (suc zero) p (safe, held) = heldWidth 0 p (leader r (r .view)) held
@@ -148,13 +163,16 @@ module _ {r : Record} (w : Whole r) where
 
   -- ---- the frames
 
+  -- A vault that may propose leads the view.
   pub leadsFirst : (k p : ℕ) → Reached r k p → k ≡ 0 → leaderOf (r .view) (r .set .n) ≡ r .set .id
   leadsFirst zero p (lead, chosen) e = lead
   leadsFirst (suc k) p why e = absurd (omega arith)
 
+  -- The vote that it may send is sendable.
   pub voteGoes : (k p : ℕ) → May r (cast k p) → Sendable (r .set .n) (r .set .id) (voteFrame r k p)
   voteGoes k p may = voteSendable (r .set .n) (r .set .id) small k (r .view) p (may .0) (leadsFirst k p (may .2)) (w .ranged .view) (planWidth k p (may .2))
 
+  -- The suggest and proof that it sends on entering a view are sendable.
   pub reportGoes : (v : ℕ) → r .view < v → v < 2 ^ 32 → (rule : Rule) → Sendable (r .set .n) (r .set .id) (reportFrame r rule v)
   reportGoes v later low rule =
       reportSendable (r .set .n) (r .set .id) small rule v (voteOf r (claimVote rule) (r .set .id)) (r .previous (claimVote rule))
@@ -166,6 +184,7 @@ module _ {r : Record} (w : Whole r) where
       (w .sound .previous (claimVote rule) (claimBelow rule .1))
       (voteWidth (claimVote rule) (r .set .id)) (w .ranged .previous (claimVote rule)) (voteWidth (lockVote rule) (r .set .id))
 
+  -- A sendable frame of its own belongs into its own row.
   ownRow : (y : Frame) → y .sender ≡ r .set .id → Sendable (r .set .n) (r .set .id) y → (y .kind ≡ 7 → leaderOf (y .view) (r .set .n) ≡ r .set .id)
       → InRow (r .set) (y .kind) (y .sender) y
   ownRow y own ok led = record {
@@ -179,6 +198,7 @@ module _ {r : Record} (w : Whole r) where
 
   -- ---- the acts
 
+  -- Every kept frame is still in its row, once a frame that belongs there is kept.
   pub rowsBy : (y : Frame) (t : ℕ → ℕ → Option Frame) → InRow (r .set) (y .kind) (y .sender) y → ((k j : ℕ) (x : Frame) → t k j ≡ some x → InRow (r .set) k j x)
       → (k j : ℕ) (x : Frame) → keeping y t k j ≡ some x → InRow (r .set) k j x
   rowsBy y t new old k j x e = ⊎-elim
@@ -186,12 +206,14 @@ module _ {r : Record} (w : Whole r) where
       (subst (λ (i : ℕ). InRow (r .set) k i y) sender (subst (λ (i : ℕ). InRow (r .set) i (y .sender) y) kind new)))
       (old k j x) (keepWas y t k j e)
 
+  -- No frame of the own row but the view-change is above view v, once one that is not is kept.
   ownBy : (v : ℕ) (y : Frame) (t : ℕ → ℕ → Option Frame) → (y .kind ≢ 6 → y .view ≤ v) → ((k : ℕ) (x : Frame) → t k (r .set .id) ≡ some x → k ≢ 6 → x .view ≤ v)
       → (k : ℕ) (x : Frame) → keeping y t k (r .set .id) ≡ some x → k ≢ 6 → x .view ≤ v
   ownBy v y t new old k x e other = ⊎-elim
       (λ (kind, sender, same). subst (λ (z : Frame). z .view ≤ v) same (new (λ (six : y .kind ≡ 6). other (sym kind ∙ six))))
       (λ was. old k x was other) (keepWas y t k (r .set .id) e)
 
+  -- After an act the previous vote stands to the highest one, old or new.
   previousNow : (a : Act) → May r a → (k : ℕ) → hasPrevious k ≡ true → Stands (voteOf (does r a) k (r .set .id)) ((does r a) .previous k)
   previousNow a may k has = go (isCast a k)
     where
@@ -205,12 +227,15 @@ module _ {r : Record} (w : Whole r) where
           (subst (Stands (some (record { view = r .view; plan = p }))) (sym (ap (λ (b : Act). (does r b) .previous k) is ∙ previousCast r k p has))
           (shiftStands (r .view) p (voteOf r k (r .set .id)) (r .previous k) (ownBefore k low new) (previousStands k has)))
 
+  -- The view that it may ask for is 32 bits wide.
   askWidth : (v : ℕ) → May r (ask v) → v < 2 ^ 32
   askWidth v (above, from) = ⊎-elim (wishWidth v) (λ (is, room). omega (arith, w .ranged .view, is, room)) from
 
+  -- The view-change that it may send is sendable.
   pub changeGoes : (v : ℕ) → May r (ask v) → Sendable (r .set .n) (r .set .id) (changeFrame r v)
   changeGoes v may = changeSendable (r .set .n) (r .set .id) small v (omega (arith, may .0)) (askWidth v may)
 
+  -- An act that the record allows leaves it sound.
   actSound : (a : Act) → May r a → Sound (does r a)
   unfolding does
   actSound (ask v) may = record {
@@ -257,6 +282,7 @@ module _ {r : Record} (w : Whole r) where
   }
   actSound (decide p) may = record { settings = w .sound .settings; kept = w .sound .kept; own = w .sound .own; previous = w .sound .previous }
 
+  -- After an act the previous votes have their widths: each is an old one, or was the highest.
   previousWidth : (a : Act) (k : ℕ) (x : Vote) → (does r a) .previous k ≡ some x → Fits x
   previousWidth a k x e = go (isCast a k)
     where
@@ -276,6 +302,7 @@ module _ {r : Record} (w : Whole r) where
       go (inl (p, is)) = casts p is (which (hasPrevious k))
       go (inr other) = w .ranged .previous k x (sym (previousKept r a k other) ∙ e)
 
+  -- An act that the record allows leaves numbers of their widths.
   actRanged : (a : Act) → May r a → Ranged (does r a)
   unfolding does
   actRanged (ask v) may = record { start = w .ranged .start; view = w .ranged .view; previous = w .ranged .previous; decision = w .ranged .decision }
@@ -288,9 +315,11 @@ module _ {r : Record} (w : Whole r) where
     decision = λ x e. let is : record { view = r .view; plan = p } ≡ x = cc in rw (← is) (w .ranged .view, planWidth 5 p (may .1));
   }
 
+  -- Both together.
   pub actWhole : (a : Act) → May r a → Whole (does r a)
   actWhole a may = record { sound = actSound a may; ranged = actRanged a may }
 
+  -- The entries that an act writes have bytes.
   pub actValid : (a : Act) → May r a → AllValid (writes r a)
   unfolding writes
   actValid (ask v) may = (changeGoes v may .valid, tt)

@@ -20,12 +20,15 @@ use Rattle.protocol.specs.Tables.{put}
 
 -- ---- tables
 
+-- At its place a changed table has the new entry.
 pub putSame {ℓ} : {A : Type ℓ} (k : ℕ) (x : A) (t : ℕ → A) → put k x t k ≡ x
 putSame k x t = rw (eq-eqb k k refl)
 
+-- Elsewhere it has the old one.
 pub putOther {ℓ} : {A : Type ℓ} (k : ℕ) (x : A) (t : ℕ → A) (j : ℕ) → (k ≡ j → ⊥) → put k x t j ≡ t j
 putOther k x t j ne = rw (ne-eqb k j ne)
 
+-- The second change of a place counts.
 pub putAgain {ℓ} : {A : Type ℓ} (k : ℕ) (x y : A) (t : ℕ → A) → put k x (put k y t) ≡ put k x t
 putAgain k x y t = fun-ext (λ j. go j (eqb k j))
   where
@@ -33,6 +36,7 @@ putAgain k x y t = fun-ext (λ j. go j (eqb k j))
     go j true = refl
     go j false = refl
 
+-- An entry put where it was changes nothing.
 pub putOwn {ℓ} : {A : Type ℓ} (k : ℕ) (t : ℕ → A) → put k (t k) t ≡ t
 putOwn k t = fun-ext (λ j. go j (which (eqb k j)))
   where
@@ -40,12 +44,15 @@ putOwn k t = fun-ext (λ j. go j (which (eqb k j)))
     go j (inl e) = rw e (ap t (eqb-true k j e))
     go j (inr e) = rw e
 
+-- A frame that is kept is found in its sender's row.
 pub keepSame : (f : Frame) (t : ℕ → ℕ → Option Frame) → keeping f t (f .kind) (f .sender) ≡ some f
 keepSame f t = rw (eq-eqb (f .kind) (f .kind) refl, eq-eqb (f .sender) (f .sender) refl)
 
+-- Frames of other kinds stay.
 pub keepOtherKind : (f : Frame) (t : ℕ → ℕ → Option Frame) (k j : ℕ) → (f .kind ≡ k → ⊥) → keeping f t k j ≡ t k j
 keepOtherKind f t k j ne = rw (ne-eqb (f .kind) k ne)
 
+-- Other senders' frames stay.
 pub keepOtherSender : (f : Frame) (t : ℕ → ℕ → Option Frame) (k j : ℕ) → (f .sender ≡ j → ⊥) → keeping f t k j ≡ t k j
 keepOtherSender f t k j ne = go (eqb (f .kind) k)
   where
@@ -65,20 +72,24 @@ keepWas f t k j {g} e = go (eqb (f .kind) k && eqb (f .sender) j) refl e
 
 -- ---- options
 
+-- Something follows from an option only if something is there.
 pub eachSome : {A B : Type 0} (o : Option A) (f : A → Option B) {b : B} → each o f ≡ some b → (a : A) × (o ≡ some a) × (f a ≡ some b)
 eachSome none f e = absurd (none≢some e)
 eachSome (some a) f e = (a, refl, e)
 
+-- Something is left by `when` only if the test passed.
 pub whenSome : {A : Type 0} (b : Bool) (o : Option A) {x : A} → when b o ≡ some x → (b ≡ true) × (o ≡ some x)
 whenSome true o e = (refl, e)
 whenSome false o e = absurd (none≢some e)
 
 -- ---- the highest
 
+-- What holds of both numbers holds of the one that a test picks.
 condOne : (P : ℕ → Type 0) (b : Bool) (x y : ℕ) → P x → P y → P (cond b x y)
 condOne P true x y hx hy = hx
 condOne P false x y hx hy = hy
 
+-- What holds of two numbers holds of the higher.
 higherHas : (P : ℕ → Type 0) (a b : Option ℕ) {w : ℕ} → ((x : ℕ) → a ≡ some x → P x) → ((x : ℕ) → b ≡ some x → P x) → higher a b ≡ some w → P w
 higherHas P none b {w} ha hb e = hb w e
 higherHas P (some x) none {w} ha hb e = ha w e
@@ -102,6 +113,7 @@ highestHas test f (suc n) {w} e =
     flat : {x : ℕ} → (test x ≡ true) × ((j : ℕ) × (j < n) × (f j ≡ some x)) → (test x ≡ true) × (j : ℕ) × (j < n) × (f j ≡ some x)
     flat (p, (j, low, at)) = (p, j, low, at)
 
+-- The higher of two is no lower than either.
 higherMost : (a b : Option ℕ) (x : ℕ) → ((a ≡ some x) ⊎ ((y : ℕ) × (b ≡ some y) × (x ≤ y))) → (w : ℕ) × (higher a b ≡ some w) × (x ≤ w)
 higherMost none b x (inl e) = absurd (none≢some e)
 higherMost none b x (inr h) = h
@@ -132,6 +144,7 @@ unfolding highest
 highestNone test zero = refl
 highestNone test (suc n) = highestNone test n
 
+-- Nothing follows from an option, if nothing follows from what is there.
 pub eachNone : {A B : Type 0} (o : Option A) (f : A → Option B) → ((x : A) → o ≡ some x → f x ≡ none) → each o f ≡ none
 eachNone none f h = refl
 eachNone (some x) f h = h x refl
@@ -141,10 +154,12 @@ pub eachWas : {A B : Type 0} (o : Option A) (f : A → Option B) (x : A) → eac
 eachWas none f x e is = absurd (none≢some is)
 eachWas (some y) f x e is = let same : y ≡ x = cc in rw (← same) e
 
+-- Nothing is left of something only if the test failed.
 pub whenNone : {A : Type 0} (b : Bool) (x : A) → when b (some x) ≡ none → b ≡ false
 whenNone true x e = absurd (none≢some (sym e))
 whenNone false x e = refl
 
+-- Where the test fails nothing is left.
 pub whenFalse : {A : Type 0} (b : Bool) (o : Option A) → b ≡ false → when b o ≡ none
 whenFalse true o e = absurd (false≢true (sym e))
 whenFalse false o e = refl

@@ -27,9 +27,11 @@ use Rattle.protocol.proofs.Sound.{sizeBelow}
 use Rattle.protocol.specs.inside.Sound.{every, ifAny, passesRow, previousStands, isSound, Tabled}
 use Rattle.protocol.specs.Sound.{InRow, Sound}
 
+-- Where every number passes, each does.
 everyAt : (test : ℕ → Bool) (n i : ℕ) → every test n ≡ true → i < n → test i ≡ true
 everyAt test n i h low = not-false (test i) (noneAt (λ i. not (test i)) n i (not-true (any (λ i. not (test i)) n) h) low)
 
+-- Where each passes, every number does.
 everyOf : (test : ℕ → Bool) (n : ℕ) → ((i : ℕ) → i < n → test i ≡ true) → every test n ≡ true
 everyOf test n all = go (which (any (λ i. not (test i)) n))
   where
@@ -37,10 +39,12 @@ everyOf test n all = go (which (any (λ i. not (test i)) n))
     go (inl some-fails) = let (i, low, fails) = anyWhere (λ i. not (test i)) n some-fails in absurd (clash (all i low) (not-true (test i) fails))
     go (inr none-fails) = rw none-fails
 
+-- Where `ifAny` passes and something is there, it passes the test.
 ifAnyAt : {A : Type 0} (test : A → Bool) (o : Option A) (x : A) → ifAny test o ≡ true → o ≡ some x → test x ≡ true
 ifAnyAt test none x h e = absurd (none≢some e)
 ifAnyAt test (some y) x h e = let same : y ≡ x = cc in rw same at h
 
+-- And back.
 ifAnyOf : {A : Type 0} (test : A → Bool) (o : Option A) → ((x : A) → o ≡ some x → test x ≡ true) → ifAny test o ≡ true
 ifAnyOf test none all = refl
 ifAnyOf test (some x) all = all x refl
@@ -51,6 +55,7 @@ kindKnown k (Plan p) h = let (low, high) = bounds 1 5 k h in (low, omega arith)
 kindKnown k Empty h = let is : k ≡ 6 = eqb-true k 6 h in (omega arith, omega arith)
 kindKnown k (Told x) h = let (low, high) = bounds 7 8 k h in (omega arith, omega arith)
 
+-- A sound record holds no more than a byte layout does.
 pub soundTabled : (r : Record) → Sound r → Tabled r
 soundTabled r s k j x e =
     let i = s .kept k j x e in
@@ -58,6 +63,7 @@ soundTabled r s k j x e =
     (omega (arith, low, i .kind), omega (arith, high, i .kind), omega (arith, i .row, sizeBelow (r .set) (s .settings)), i .valid)
 
 module _ (r : Record) (tabled : Tabled r) where
+  -- What the test on a row says, as `InRow`.
   rowTest : (k j : ℕ) (x : Frame) → Valid x → passesRow (r .set) k j x ≡ true → InRow (r .set) k j x
   rowTest k j x valid h =
       let (row, a) = bothSplit (ltb j (r .set .n)) _ h in
@@ -73,6 +79,7 @@ module _ (r : Record) (tabled : Tabled r) where
         leader = eqb-true (first (leaderRows x (r .set .n) (r .set .id))) 0 lead;
       }
 
+  -- And back.
   rowPasses : (k j : ℕ) (x : Frame) → InRow (r .set) k j x → passesRow (r .set) k j x ≡ true
   rowPasses k j x i =
       bothJoin (ltb j (r .set .n)) _ (lt-ltb j (r .set .n) (i .row)) (bothJoin (eqb (x .kind) k) _ (eq-eqb (x .kind) k (i .kind))
@@ -80,11 +87,13 @@ module _ (r : Record) (tabled : Tabled r) where
       (bothJoin (eqb (first (contentRows x)) 0) _ (eq-eqb (first (contentRows x)) 0 (i .content))
       (eq-eqb (first (leaderRows x (r .set .n) (r .set .id))) 0 (i .leader)))))
 
+  -- What the test on a previous vote says.
   standsTest : (k : ℕ) → previousStands r k ≡ true → hasPrevious k ≡ true → badPrevious (spelt (voteOf r k (r .set .id))) (spelt (r .previous k)) ≡ false
   standsTest k h has =
       ⊎-elim (λ never. absurd (clash has (not-true (hasPrevious k) never))) (not-true (badPrevious (spelt (voteOf r k (r .set .id))) (spelt (r .previous k))))
       (either (not (hasPrevious k)) _ h)
 
+  -- And back.
   standsPasses : (k : ℕ) → (hasPrevious k ≡ true → badPrevious (spelt (voteOf r k (r .set .id))) (spelt (r .previous k)) ≡ false) → previousStands r k ≡ true
   standsPasses k s = go (which (hasPrevious k))
     where
@@ -92,6 +101,7 @@ module _ (r : Record) (tabled : Tabled r) where
       go (inl has) = orRight (not (hasPrevious k)) _ (rw (s has))
       go (inr never) = orLeft (not (hasPrevious k)) _ (rw never)
 
+  -- The test and soundness say the same.
   pub isSoundIff : (isSound r ≡ true) ↔ Sound r
   unfolding isSound
   isSoundIff = (to, from)

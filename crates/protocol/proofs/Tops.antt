@@ -20,9 +20,11 @@ pub record Tops (P : ℕ → ℕ → Type 0) (o : Option Vote) : Type 0 where
   pub sent : {x : Vote} → o ≡ some x → P (x .view) (x .plan)
   pub top : (u p : ℕ) → P u p → (x : Vote) × (o ≡ some x) × (u ≤ x .view)
 
+-- The highest of the same votes, said in other words.
 pub topsOn : {P Q : ℕ → ℕ → Type 0} {o : Option Vote} → ((u p : ℕ) → P u p → Q u p) → ((u p : ℕ) → Q u p → P u p) → Tops P o → Tops Q o
 topsOn to back t = record { sent = λ {x} e. to (x .view) (x .plan) (t .sent e); top = λ u p at. t .top u p (back u p at) }
 
+-- Of no votes there is no highest.
 pub topsNone : {P : ℕ → ℕ → Type 0} → ((u p : ℕ) → ¬ P u p) → Tops P none
 topsNone never = record { sent = λ e. absurd (none≢some e); top = λ u p at. absurd (never u p at) }
 
@@ -32,9 +34,11 @@ topsHighest w below t = record { low = λ {x} e. below (x .view) (x .plan) (t .s
 
 -- One more vote, for p in view v, that is no lower than the others.
 module _ {P Q : ℕ → ℕ → Type 0} (v p : ℕ) (to : (u s : ℕ) → P u s → Q u s) (back : (u s : ℕ) → Q u s → P u s ⊎ ((u ≡ v) × (s ≡ p))) where
+  -- The new vote.
   abbrev this : Vote
   this = record { view = v; plan = p }
 
+  -- The new vote is the highest.
   pub newTops : Q v p → ((u s : ℕ) → Q u s → u ≤ v) → Tops Q (some this)
   newTops new below = record {
     sent = λ {x} e. let is : this ≡ x = cc in rw (← is) new;
@@ -47,6 +51,7 @@ module _ {P Q : ℕ → ℕ → Type 0} (v p : ℕ) (to : (u s : ℕ) → P u s 
       let differs : s ≢ p = λ same. ne (cc) in
       (⊎-elim (λ was. was) (λ here. absurd (differs (here .1))) (back u s at), differs)
 
+  -- The shifted previous vote is the highest for another plan than the new vote's.
   pub shiftTops : {o q : Option Vote} → Tops P o → Tops (Other P o) q → Tops (Other Q (some this)) (shift p o q)
   shiftTops {o} {q} high prev = go o refl
     where
@@ -79,10 +84,12 @@ module _ {P Q : ℕ → ℕ → Type 0} (v p : ℕ) (to : (u s : ℕ) → P u s 
                 (x, refl, rw same at le);
           }
 
+-- What a report tells as highest is a vote that has a previous one.
 pub claimBelow : (rule : Rule) → (claimVote rule < 5) × (hasPrevious (claimVote rule) ≡ true)
 claimBelow rule1 = (omega arith, refl)
 claimBelow rule3 = (omega arith, refl)
 
+-- A lock is one of the four votes.
 pub lockBelow : (rule : Rule) → lockVote rule < 5
 lockBelow rule1 = omega arith
 lockBelow rule3 = omega arith

@@ -41,12 +41,14 @@ NoneGiven [] = Unit {0}
 NoneGiven (row zero given ∷ rows) = Unit {0}
 NoneGiven (row (suc k) given ∷ rows) = (given ≡ false) × NoneGiven rows
 
+-- A table that gives no number has no row that applies.
 pub noneGiven : (rows : List Row) → first rows ≡ 0 → NoneGiven rows
 noneGiven [] e = tt
 noneGiven (row zero given ∷ rows) e = tt
 noneGiven (row (suc k) true ∷ rows) e = absurd (omega arith)
 noneGiven (row (suc k) false ∷ rows) e = (refl, noneGiven rows e)
 
+-- A call is accepted only where no row applies, and then leaves what it says.
 pub unlessAccepted : (k : ℕ) (o : Out) {o′ : Out} → unless k o ≡ accepted o′ → (k ≡ 0) × (o ≡ o′)
 unlessAccepted zero o e = (refl, cc)
 unlessAccepted (suc k) o e = let z : _≡_ {A = ℕ} 0 1 = cc in absurd (omega arith)
@@ -73,6 +75,7 @@ wantedMay r room = go (changeOf r (r .set .id)) refl
 
 -- ---- the past of several answers
 
+-- An answer that changes nothing leaves the past as it was.
 ontoNone : (h : Past) (i : ℕ) (r : Record) → h .at i ≡ r .view → onto h i (record { left = r; wrote = [] }) ≡ h
 ontoNone h i r now z = record { wrote = wrote z; at = at z }
   where
@@ -82,6 +85,7 @@ ontoNone h i r now z = record { wrote = wrote z; at = at z }
     at : put i (r .view) (h .at) ≡ h .at
     at = ap (λ (v : ℕ). put i v (h .at)) (sym now) ∙ putOwn i (h .at)
 
+-- Two answers of one vault are one, with their entries end to end.
 ontoTwice : (h : Past) (i : ℕ) (o u : Out) → onto (onto h i o) i u ≡ onto h i (onward (o .wrote) u)
 ontoTwice h i o u z = record { wrote = wrote z; at = putAgain i (u .left .view) (o .left .view) (h .at) z }
   where
@@ -92,6 +96,7 @@ ontoTwice h i o u z = record { wrote = wrote z; at = putAgain i (u .left .view) 
         ∙ putAgain i ((h .wrote i ++ o .wrote) ++ u .wrote) (h .wrote i ++ o .wrote) (h .wrote)
         ∙ ap (λ (l : List Entry). put i l (h .wrote)) (append-assoc (h .wrote i) (o .wrote) (u .wrote))
 
+-- The same past is a later one.
 laterSame : {h g : Past} → g ≡ h → Later h g
 laterSame {h} e = subst (Later h) (sym e) (record { more = λ j e at. at; rises = λ j. omega arith; settled = λ j k u p low at. at })
 
@@ -111,6 +116,7 @@ module _ (c : Setting) (Began : ℕ → Type 0) where
   }
 
 module _ (c : Setting) (Began : ℕ → Type 0) (seed : Seed c Began) where
+  -- A pass of lawful steps leaves the record good and the past later.
   passWent : {steps : List Step} → Sure steps → (h : Past) (r : Record) → Good c Began h r → Went c Began h (r .set .id) (pass steps r)
   unfolding pass
   passWent done h r g = record {
@@ -130,6 +136,7 @@ module _ (c : Setting) (Began : ℕ → Type 0) (seed : Seed c Began) where
 
   -- ---- the calls
 
+  -- So does an accepted start: its timer entry is the first thing that the vault writes, and says nothing.
   pub startWent : (h : Past) (s : Settings) (p : ℕ) → vaultsOf s ≡ c .vaults → Began p → h .wrote (s .id) ≡ [] → h .at (s .id) ≡ 0
       → Went c Began h (s .id) (started s p)
   unfolding started
@@ -181,11 +188,13 @@ module _ (c : Setting) (Began : ℕ → Type 0) (seed : Seed c Began) where
           settled j k u q (inl same) at = absurd (silent k u q (subst (λ (x : ℕ). Voted h₁ x k u q) (sym (eqb-true (s .id) j same)) at))
           settled j k u q (inr other) at = rw other at at
 
+  -- So does a frame of another vault, which rightly sent it if it keeps the rules.
   pub heardWent : (h : Past) (r : Record) (x : Frame) → x .sender ≢ r .set .id → (c .keeps (x .sender) ≡ true → Fine h (x .sender) x) → Good c Began h r
       → Went c Began h (r .set .id) (heard r x)
   unfolding heard keep
   heardWent h r x other fine g = passWent sureA h (keep x r) (heardGood c Began x other fine g)
 
+  -- So does an accepted timer: its view-change is an act, and then comes the pass.
   pub rungWent : (h : Past) (r : Record) → r .view ≢ 4294967295 → Good c Began h r → Went c Began h (r .set .id) (rung r)
   unfolding rung does
   rungWent h r room g =

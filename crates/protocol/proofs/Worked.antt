@@ -22,10 +22,12 @@ use Rattle.protocol.specs.Calls.{Call, start, frame, timer, short, Answe
 
 -- ---- a script of calls at one vault, and what it replies
 
+-- What one call of a script replies.
 data Reply : Type 0 where
   refusal : ℕ → Reply
   wrote : List Entry → Reply
 
+-- The replies of all calls, each on the record that the one before it left.
 unfoldable replies : List Call → Option Record → List Reply
 replies [] b = []
 replies (c ∷ cs) b = go (replies cs) (answer b c)
@@ -38,6 +40,7 @@ replies (c ∷ cs) b = go (replies cs) (answer b c)
 abbrev starts : ℕ → ℕ → Call
 starts id p = start (record { n = 4; f = 1; id = id; class = 2 }) p
 
+-- A frame of sender j.
 abbrev from : ℕ → ℕ → ℕ → Body → Frame
 from j kind v body = record { kind = kind; sender = j; view = v; body = body }
 
@@ -45,18 +48,23 @@ from j kind v body = record { kind = kind; sender = j; view = v; body = body }
 abbrev vote : ℕ → ℕ → ℕ → ℕ → Frame
 vote j k v p = from j (suc k) v (Plan p)
 
+-- Sender j's view-change for v.
 abbrev change : ℕ → ℕ → Frame
 change j v = from j 6 v Empty
 
+-- Sender j's suggest (rule1) or proof (rule3) for view v, with these reports.
 abbrev told : Rule → ℕ → ℕ → Option Vote → Option Vote → Option Vote → Frame
 told rule j v highest previous lock = from j (kindOf rule) v (Told (record { highest = spelt highest; previous = spelt previous; lock = spelt lock }))
 
+-- A vote for p in view v, as a report tells it.
 abbrev for : ℕ → ℕ → Option Vote
 for v p = some (record { view = v; plan = p })
 
+-- The call with an accepted frame.
 abbrev hears : Frame → Call
 hears f = frame (Accepted f)
 
+-- The timer entry of link class 2.
 abbrev timed : ℕ → Entry
 timed v = Timer v 900
 

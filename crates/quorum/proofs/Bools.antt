@@ -9,6 +9,7 @@ use native.Mathlib.Omega.{arith}
 use native.Mathlib.Decide.{decLt}
 use Rattle.quorum.specs.inside.Bools.{any}
 
+-- Cases on a test that keep the equation.
 pub which : (b : Bool) → (b ≡ true) ⊎ (b ≡ false)
 which true = inl refl
 which false = inr refl
@@ -17,6 +18,7 @@ which false = inr refl
 pub clash : {b : Bool} → b ≡ true → b ≡ false → ⊥
 clash t f = false≢true (sym f ∙ t)
 
+-- A test that cannot pass fails.
 pub notTrue : (b : Bool) → (b ≡ true → ⊥) → b ≡ false
 notTrue true never = absurd (never refl)
 notTrue false never = refl
@@ -27,32 +29,39 @@ sameTest true b to from = sym (to refl)
 sameTest false true to from = from refl
 sameTest false false to from = refl
 
+-- What passes `&&` passes both of its tests.
 pub bothSplit : (a b : Bool) → (a && b) ≡ true → (a ≡ true) × (b ≡ true)
 bothSplit true b h = (refl, h)
 bothSplit false b h = absurd (false≢true h)
 
+-- Two tests that pass make their `&&` pass.
 pub bothJoin : (a b : Bool) → a ≡ true → b ≡ true → (a && b) ≡ true
 bothJoin true b p q = q
 bothJoin false b p q = p
 
+-- The first test makes `||` pass.
 pub orLeft : (a b : Bool) → a ≡ true → (a || b) ≡ true
 orLeft true b h = refl
 orLeft false b h = absurd (false≢true h)
 
+-- The second test makes `||` pass.
 pub orRight : (a b : Bool) → b ≡ true → (a || b) ≡ true
 orRight true b h = refl
 orRight false b h = h
 
+-- What passes `||` passes one of its tests, and it is known which.
 pub either : (a b : Bool) → (a || b) ≡ true → (a ≡ true) ⊎ (b ≡ true)
 either true b h = inl refl
 either false b h = inr h
 
+-- Two tests that fail make their `||` fail.
 pub neither : (a b : Bool) → a ≡ false → b ≡ false → (a || b) ≡ false
 neither true b p q = p
 neither false b p q = q
 
 -- ---- some number below k
 
+-- One number below k that passes is enough for `any`.
 pub anyAt : (test : ℕ → Bool) (k i : ℕ) → i < k → test i ≡ true → any test k ≡ true
 unfolding any
 anyAt test zero i low here = absurd (omega arith)
@@ -62,6 +71,7 @@ anyAt test (suc k) i low here = go (decLt i k) (anyAt test k)
     go (yes below) rest = orLeft (any test k) (test k) (rest i below here)
     go (no above) rest = let e : i ≡ k = omega arith in orRight (any test k) (test k) (rw e at here)
 
+-- Where `any` passes, a number below k that passes is found.
 pub anyWhere : (test : ℕ → Bool) (k : ℕ) → any test k ≡ true → (i : ℕ) × (i < k) × (test i ≡ true)
 unfolding any
 anyWhere test zero h = absurd (false≢true h)

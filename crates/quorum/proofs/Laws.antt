@@ -19,6 +19,7 @@ use Rattle.quorum.proofs.Bools.{clash, notTrue, sameTest, bothSplit}
 
 -- ---- what a set weighs
 
+-- The first 0 vaults weigh 0: where a loop's count begins.
 pub weighNone : (w : ℕ → ℕ) (s : Set) → weigh w s 0 ≡ 0
 unfolding weigh
 weighNone w s = refl
@@ -47,6 +48,7 @@ weighPrefix w s k (suc n) le = go (decLe k n) (weighPrefix w s k n)
     go (yes low) rest = omega (arith, rest low)
     go (no last) rest = let e : k ≡ suc n = omega arith in rw e (omega arith)
 
+-- One vault: it is in both sets and outside the third, or adds to the two no more than to all and the third.
 share : (a b c : Bool) (w : ℕ) → ((a ≡ true) × (b ≡ true) × (c ≡ false)) ⊎ (cond a w 0 + cond b w 0 ≤ w + cond c w 0)
 share true true false w = inl (refl, refl, refl)
 share true true true w = inr (omega arith)
@@ -107,6 +109,7 @@ weighShared w s t (suc k) = omega (arith, weighShared w s t k, common (s k) (t k
 
 -- ---- quorums and blocking sets, by weight
 
+-- A quorum by weight: with f added it weighs what all vaults do.
 pub quorumWeighs : (vs : Vaults) (s : Set) → (isQuorum vs s ≡ true) ↔ (total vs ≤ size vs s + vs .f)
 unfolding isQuorum
 quorumWeighs vs s = (
@@ -114,6 +117,7 @@ quorumWeighs vs s = (
   λ h. le-leb (total vs - vs .f) (size vs s) (omega arith),
 )
 
+-- A blocking set by weight: it weighs more than f.
 pub blockingWeighs : (vs : Vaults) (s : Set) → (isBlocking vs s ≡ true) ↔ (vs .f < size vs s)
 unfolding isBlocking
 blockingWeighs vs s = (
@@ -135,9 +139,11 @@ blockingRest vs s = sameTest _ _
 abbrev pub ByWeight : (vs : Vaults) → (Set → Bool) → Type 0
 ByWeight vs enough = (s t : Set) → size vs s ≤ size vs t → enough s ≡ true → enough t ≡ true
 
+-- A set that weighs no less than a quorum is one.
 pub quorumByWeight : (vs : Vaults) → ByWeight vs (isQuorum vs)
 quorumByWeight vs s t le h = let low : total vs ≤ size vs s + vs .f = quorumWeighs vs s .0 h in quorumWeighs vs t .1 (omega arith)
 
+-- A set that weighs no less than a blocking set is one.
 pub blockingByWeight : (vs : Vaults) → ByWeight vs (isBlocking vs)
 blockingByWeight vs s t le h = let low : vs .f < size vs s = blockingWeighs vs s .0 h in blockingWeighs vs t .1 (omega arith)
 
@@ -146,6 +152,7 @@ pub enoughMono : (vs : Vaults) (enough : Set → Bool) → ByWeight vs enough �
     → ((i : ℕ) → i < vs .n → s i ≡ true → t i ≡ true) → enough s ≡ true → enough t ≡ true
 enoughMono vs enough by s t within = by s t (weighMono (vs .weight) s t (vs .n) within)
 
+-- A quorum or blocking set whose members have P has Q too, where P gives Q.
 pub groupMap : {vs : Vaults} {enough : Set → Bool} {P Q : ℕ → Type 0} → ((i : ℕ) → i < vs .n → P i → Q i) → Group vs enough P → Group vs enough Q
 groupMap f g = record { who = g .who; large = g .large; each = λ i low inside. f i low (g .each i low inside) }
 
@@ -156,9 +163,11 @@ counted vs enough by s = (
   λ h. record { who = s; large = h; each = λ i low inside. inside },
 )
 
+-- Some quorum passes a test exactly if all vaults that pass it are a quorum.
 pub countQuorum : (vs : Vaults) (s : Set) → Quorum vs (λ i. s i ≡ true) ↔ (isQuorum vs s ≡ true)
 countQuorum vs s = counted vs (isQuorum vs) (quorumByWeight vs) s
 
+-- Some blocking set passes a test exactly if all vaults that pass it are a blocking set.
 pub countBlocking : (vs : Vaults) (s : Set) → Blocking vs (λ i. s i ≡ true) ↔ (isBlocking vs s ≡ true)
 countBlocking vs s = counted vs (isBlocking vs) (blockingByWeight vs) s
 
@@ -217,6 +226,7 @@ module _ {vs : Vaults} {keeps : Set} (most : Mostly vs keeps) where
 
 -- ---- document 01's vaults, each of weight 1
 
+-- Where each weighs 1, n vaults weigh n.
 pub totalEquals : (n f : ℕ) → total (equals n f) ≡ n
 unfolding weigh
 totalEquals zero f = refl

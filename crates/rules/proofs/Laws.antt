@@ -26,10 +26,12 @@ use Rattle.rules.proofs.Single.{claimsFall, claimsUnnamed, allowsUnname
 
 -- ---- reporters
 
+-- What passes a test passes a weaker one.
 pub holdsMap : {A : Type 0} (o : Option A) (s t : A → Bool) → ((x : A) → o ≡ some x → s x ≡ true → t x ≡ true) → holds s o ≡ true → holds t o ≡ true
 holdsMap none s t to h = h
 holdsMap (some x) s t to h = to x refl h
 
+-- Where an option passes a test, something is there that does.
 pub holdsWhere : {A : Type 0} (o : Option A) (s : A → Bool) → holds s o ≡ true → (x : A) × (o ≡ some x) × (s x ≡ true)
 holdsWhere none s h = absurd (false≢true h)
 holdsWhere (some x) s h = (x, refl, h)
@@ -44,6 +46,7 @@ abbrev pub votes : Reports → ℕ → Set
 votes rs p = reporting rs (λ r. holds (λ x. eqb (x .plan) p) (r .highest))
 
 module _ (vs : Vaults) (rs : Reports) where
+  -- Some blocking set claims p at u exactly if all that claim it are one.
   pub claimedIff : (p u : ℕ) → Claimed vs rs p u ↔ (claimed vs rs p u ≡ true)
   unfolding claimed
   claimedIff p u = countBlocking vs (reporting rs (claims p u))
@@ -56,6 +59,7 @@ module _ (vs : Vaults) (rs : Reports) where
 
   -- ---- the plans of highest votes
 
+  -- The plan of a reporter whose highest vote is for p is p.
   pub votesPlan : (p i d : ℕ) → votes rs p i ≡ true → planBy (λ r. r .highest) d (rs i) ≡ p
   votesPlan p i d h =
       let (r, is, voted) = holdsWhere (rs i) (λ r. holds (λ x. eqb (x .plan) p) (r .highest)) h in
@@ -76,16 +80,19 @@ module _ (vs : Vaults) (rs : Reports) where
   abbrev Tried : ℕ → Type 0
   Tried p = (i : ℕ) × (i < vs .n + 2) × (votedPlan rs (vs .n) i ≡ p)
 
+  -- The plan of a highest vote is tried.
   triedVoted : (p : ℕ) → any (votes rs p) (vs .n) ≡ true → Tried p
   triedVoted p h =
       let (i, low, at) = anyWhere (votes rs p) (vs .n) h in
       (i, omega arith, rw (lt-ltb i (vs .n) low) (votesPlan p i 0 at))
 
+  -- Plans 0 and 1 are tried.
   triedSmall : (p : ℕ) → p < 2 → Tried p
   triedSmall p low =
       let e : vs .n + p - vs .n ≡ p = omega arith in
       (vs .n + p, omega arith, rw (le-ltb (vs .n + p) (vs .n) (omega arith)) e)
 
+  -- Two of the plans tried, claimed at u and at the next view, make the clause pass.
   twoTried : (v u p₁ p₂ : ℕ) → u + 1 < v → p₂ ≢ p₁ → Tried p₁ → Tried p₂ → claimed vs rs p₁ u ≡ true → claimed vs rs p₂ (u + 1) ≡ true
       → twoSets vs rs v u ≡ true
   unfolding twoSets
@@ -105,6 +112,7 @@ module _ (vs : Vaults) (rs : Reports) where
   another zero = (1, omega arith, λ (e : _≡_ {A = ℕ} 0 1). omega arith)
   another (suc p) = (0, omega arith, λ (e : suc p ≡ 0). omega arith)
 
+  -- The two-set clause by sets is the one by counting: plans that no highest vote is for are replaced by 0 and 1.
   pub twoIff : (v u : ℕ) → TwoSets vs rs v u ↔ (twoSets vs rs v u ≡ true)
   unfolding twoSets
   twoIff v u = (to, from)
@@ -153,6 +161,7 @@ module _ (vs : Vaults) (rs : Reports) where
 
   -- ---- safe plans
 
+  -- What a rule asks of the claims at a view, by sets and by counting.
   pub backedIff : (rule : Rule) (v p u : ℕ) → Backed rule vs rs v p u ↔ (backed rule vs rs v p u ≡ true)
   unfolding backed
   backedIff rule1 v p u = claimedIff p u
@@ -223,6 +232,7 @@ Least test plan k none = (i : ℕ) → i < k → ¬ (test (plan i) ≡ true)
 Least test plan k (some p) = (test p ≡ true) × ((i : ℕ) → i < k → test (plan i) ≡ true → p ≤ plan i)
 
 module _ (test : ℕ → Bool) (plan : ℕ → ℕ) where
+  -- One plan more: the least so far, held against it, is the least again.
   leastMore : (k : ℕ) (b : Bool) (o : Option ℕ) → test (plan k) ≡ b → Least test plan k o → Least test plan (suc k) (smaller b (plan k) o)
   leastMore k false none e l = λ i low h. go i low h (ℕ-discrete i k)
     where
@@ -249,6 +259,7 @@ module _ (test : ℕ → Bool) (plan : ℕ → ℕ) where
       go i low h (yes same) = rw same (omega arith)
       go i low h (no differ) = omega (arith, l .1 i (omega arith) h)
 
+  -- What `smallest` finds is the least of the plans that pass.
   pub smallestLeast : (k : ℕ) → Least test plan k (smallest test plan k)
   unfolding smallest
   smallestLeast zero =
@@ -306,6 +317,7 @@ module _ (vs : Vaults) (rs : Reports) (v start : ℕ) where
           (smallest (safe rule1 vs rs v) (namedPlan rs (vs .n) start) (vs .n + vs .n))
           (smallestLeast (safe rule1 vs rs v) (namedPlan rs (vs .n) start) (vs .n + vs .n)))
 
+  -- There is one smallest safe plan, or none.
   smallestOne : (o o′ : Option ℕ) → IsSmallest vs rs v o → IsSmallest vs rs v o′ → o ≡ o′
   smallestOne none none l l′ = refl
   smallestOne none (some q) l l′ = absurd (l q (l′ .0))

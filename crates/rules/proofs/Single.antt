@@ -23,6 +23,7 @@ viewed : (o : Option Vote) (u : ℕ) → u ≤ viewOf o → (u ≡ 0) ⊎ ((x : 
 viewed none u low = inl (omega arith)
 viewed (some x) u low = inr (x, refl, low)
 
+-- A vote for p is there, or its view counts as 0.
 viewedFor : (o : Option Vote) (p u : ℕ) → u ≤ viewFor p o → (u ≡ 0) ⊎ ((x : Vote) × (o ≡ some x) × (x .plan ≡ p) × (u ≤ x .view))
 viewedFor none p u low = inl (omega arith)
 viewedFor (some x) p u low = go (which (eqb (x .plan) p))
@@ -32,6 +33,7 @@ viewedFor (some x) p u low = go (which (eqb (x .plan) p))
     go (inl e) = inr (x, refl, eqb-true (x .plan) p e, rw e at low)
     go (inr e) = let none : u ≤ 0 = rw e at low in inl (omega arith)
 
+-- The view of a vote that is for p, as `viewFor` reads it.
 forItView : (o : Option Vote) (x : Vote) (p : ℕ) → o ≡ some x → x .plan ≡ p → viewFor p o ≡ x .view
 forItView o x p e same = rw (e, eq-eqb (x .plan) p same)
 
@@ -87,6 +89,7 @@ underRises r u w le h = le-leb (viewOf (r .lock)) w (omega (arith, leb-true (vie
 
 -- ---- plans that a report does not name
 
+-- A vote that is not for p counts for it with view 0.
 unnamedVote : (o : Option Vote) (p : ℕ) → holds (λ x. eqb (x .plan) p) o ≡ false → viewFor p o ≡ 0
 unnamedVote none p e = refl
 unnamedVote (some x) p e = rw e

@@ -30,6 +30,7 @@ abbrev pub Falls : (ℕ → Bool) → Type 0
 Falls test = (u w : ℕ) → w ≤ u → test u ≡ true → test w ≡ true
 
 module _ (test : ℕ → Bool) (falls : Falls test) where
+  -- If the last of c views passes, all c do.
   viewsAll : (c : ℕ) → ((u : ℕ) → u + 1 ≡ c → test u ≡ true) → views test c ≡ c
   unfolding weigh
   viewsAll zero last = refl
@@ -78,11 +79,13 @@ module _ (test : ℕ → Bool) (falls : Falls test) where
 module _ (vs : Vaults) (rs : Reports) (v : ℕ) where
   -- ---- the views that back a plan
 
+  -- The two-set clause, if it passes at a view, passes at earlier ones.
   twoFalls : Falls (twoSets vs rs v)
   twoFalls u w le h =
       let t : TwoSets vs rs v u = twoIff vs rs v u .1 h in
       twoIff vs rs v w .0 (record { p₁ = t .p₁; p₂ = t .p₂; a = t .a; b = t .b; another = t .another; from = omega arith; later = t .later; before = t .before; first = t .first; second = t .second })
 
+  -- What backs a plan at a view backs it at earlier ones.
   backedFalls : (rule : Rule) (p : ℕ) → Falls (backed rule vs rs v p)
   unfolding backed
   backedFalls rule1 p u w le h = claimedFalls vs rs p u w le h
@@ -92,9 +95,11 @@ module _ (vs : Vaults) (rs : Reports) (v : ℕ) where
 
   -- ---- the two-set clause at view u
 
+  -- The two-set clause needs a view between u and v.
   pub twoLate : (u : ℕ) → v ≤ u + 1 → twoSets vs rs v u ≡ false
   twoLate u late = notTrue _ (λ h. let t : TwoSets vs rs v u = twoIff vs rs v u .1 h in omega arith)
 
+  -- Where the two-set clause passes, one plan is claimed at u and another at the next view.
   twoClaims : (u : ℕ) → twoSets vs rs v u ≡ true → (p₁ p₂ : ℕ) × (p₂ ≢ p₁) × (claimed vs rs p₁ u ≡ true) × (claimed vs rs p₂ (u + 1) ≡ true)
   twoClaims u h =
       let t : TwoSets vs rs v u = twoIff vs rs v u .1 h in (
@@ -134,17 +139,21 @@ module _ (vs : Vaults) (rs : Reports) (v : ℕ) where
 
   -- ---- the lowest view with a cleared quorum
 
+  -- Reporters that pass a test are a quorum if those that pass a stronger one are.
   quorumReports : (s t : Report → Bool) → ((r : Report) → s r ≡ true → t r ≡ true) → isQuorum vs (reporting rs s) ≡ true → isQuorum vs (reporting rs t) ≡ true
   quorumReports s t to = enoughReports vs (isQuorum vs) (quorumByWeight vs) rs s t (λ i low r is. to r)
 
+  -- A quorum that allows p at a view has no lock above it.
   allowedClears : (p u : ℕ) → allowed vs rs p u ≡ true → cleared vs rs u ≡ true
   unfolding allowed cleared
   allowedClears p u = quorumReports (allows p u) (under u) (λ r. allowsUnder r p u)
 
+  -- A quorum with no lock above u allows every plan at every later view.
   clearedAllows : (p u w : ℕ) → u < w → cleared vs rs u ≡ true → allowed vs rs p w ≡ true
   unfolding allowed cleared
   clearedAllows p u w less = quorumReports (under u) (allows p w) (λ r. underAllows r p u w less)
 
+  -- If no quorum is cleared at a view, none is at an earlier one.
   lockedFalls : Falls (λ u. not (cleared vs rs u))
   unfolding cleared
   lockedFalls u w le h =
@@ -165,6 +174,7 @@ module _ (vs : Vaults) (rs : Reports) (v : ℕ) where
 
   -- ---- safe plans
 
+  -- A view below v that allows p and backs it makes it safe.
   servedSafe : (rule : Rule) (p u : ℕ) → u < v → allowed vs rs p u ≡ true → backed rule vs rs v p u ≡ true → safe rule vs rs v p ≡ true
   unfolding safe
   servedSafe rule p u low allow back =
@@ -173,6 +183,7 @@ module _ (vs : Vaults) (rs : Reports) (v : ℕ) where
 
   -- No quorum is without a lock: then a safe plan has a view that serves it, and a quorum is cleared there.
   module _ (locked : free vs rs ≡ false) (above : v ≢ 0) where
+    -- The view that serves a safe plan; it is not below the lowest one with a cleared quorum.
     safeServed : (rule : Rule) (p : ℕ) → safe rule vs rs v p ≡ true
         → (u : ℕ) × (u < v) × (lowestView vs rs v ≤ u) × (allowed vs rs p u ≡ true) × (backed rule vs rs v p u ≡ true)
     unfolding safe
@@ -193,6 +204,7 @@ module _ (vs : Vaults) (rs : Reports) (v : ℕ) where
     neverSafe rule p u is high = notTrue _ (λ h. let (w, low, le, allow, back) = safeServed rule p h in omega arith)
 
   module _ (rule : Rule) (p u : ℕ) (l : Lowest vs rs v u) where
+    -- The same, from the lowest view u.
     servedBy : safe rule vs rs v p ≡ true → (w : ℕ) × (w < v) × (u ≤ w) × (allowed vs rs p w ≡ true) × (backed rule vs rs v p w ≡ true)
     servedBy h =
         let (w, low, le, allow, back) = safeServed (l .locked) (λ (z : v ≡ 0). omega (arith, l .below)) rule p h in

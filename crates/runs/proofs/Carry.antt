@@ -41,6 +41,7 @@ use Rattle.runs.specs.Fixed.{leaves}
 
 -- ---- the call that bytes say
 
+-- The call by contents: a frame's bytes are read with the n and the number in the record.
 abbrev pub said : List ℕ → Call → by.Call
 said rec (start set plan) = by.start set plan
 said rec (frame link bytes) = by.frame (readFrame bytes link (decodeRecord rec .set .n) (decodeRecord rec .set .id))
@@ -51,6 +52,7 @@ abbrev pub Comes : List ℕ → List ℕ → Option Record → by.Call → Left 
 Comes rec out b a left =
     ((k : ℕ) × (left ≡ gave k rec out)) ⊎ ((o : Out) × (256 ≤ length out) × (answer b a ≡ accepted o) × (left ≡ after rec out (accepted o)))
 
+-- A call on bytes that spell something is refused or accepted as the call by contents is.
 calledComes : (k : ℕ) (rec out : List ℕ) (b : Option Record) (a : by.Call) → Spells rec b → Comes rec out b a (called k rec out a)
 unfolding called
 calledComes k rec out b a h = go (ltb (length out) 256) (answer b a) refl refl (onSpelled k rec b a h)
@@ -118,6 +120,7 @@ pub record LeftWell (rec out : List ℕ) (o : Out) : Type 0 where
   pub valid : AllValid (o .wrote)
   pub short : length (layout (o .wrote)) ≤ 256
 
+-- Every accepted call on contents that a vault may have leaves that.
 pub leftWell : (rec out : List ℕ) (b : Option Record) (a : by.Call) → ((r : Record) → b ≡ some r → Fine r) → Fed b a
     → (o : Out) → answer b a ≡ accepted o → LeftWell rec out o
 leftWell rec out b a fine fed o is =

@@ -51,10 +51,12 @@ use Rattle.runs.proofs.Carry.{said, carried, fedSaid, LeftWell, leftWel
 
 -- ---- lists of entries, and tables
 
+-- Entries that have bytes, after entries that have bytes.
 allJoin : (es fs : List Entry) → AllValid es → AllValid fs → AllValid (es ++ fs)
 allJoin [] fs a b = b
 allJoin (e ∷ es) fs (v, a) b = (v, allJoin es fs a b)
 
+-- Each of them has bytes.
 validIn : (es : List Entry) {e : Entry} → AllValid es → e ∈ es → ValidEntry e
 validIn [] valid at = elim at [ ]
 validIn (x ∷ es) {e} (v, valid) at = ⊎-elim (λ (same : e ≡ x). subst ValidEntry (sym same) v) (validIn es valid) (List·Memᴰ·cases-cons at)
@@ -68,14 +70,17 @@ putFour P k {a} {b} {c} {d} f g h t new old i = go (eqb k i) refl
     go true e = subst (λ (j : ℕ). P j a b c d) (eqb-true k i e) new
     go false e = old i
 
+-- A refused call is no accepted one.
 pub never : {A : Type 0} {k : ℕ} {o : Out} → refused k ≡ accepted o → A
 never e = let z : _≡_ {A = ℕ} 0 1 = cc in absurd (omega arith)
 
+-- A call without output space is refused, on any record.
 shortRefused : (b : Option Record) → answer b by.short ≡ refused 1
 unfolding answer
 shortRefused none = refl
 shortRefused (some r) = refl
 
+-- A plan of a start is that of the newest call, or of an earlier one.
 startedCases : {p : ℕ} {y : model.Item} {l : List model.Item} → model.Started p (y ∷ l)
     → ((s : Settings) × (o : Out) × (y .call ≡ by.start s p) × (answer (model.recordAt l (y .at)) (y .call) ≡ accepted o)) ⊎ model.Started p l
 startedCases (model.here {s = s} {o = o} call is) = inl (s, o, call, is)
@@ -84,6 +89,7 @@ startedCases (model.earlier s) = inr s
 -- ---- the run by contents
 
 module _ (c : Setting) where
+  -- The same vaults and rule-keepers, for the run by contents.
   abbrev plain : model.Setting
   plain = record { vaults = c .vaults; keeps = c .keeps; most = c .most }
 
@@ -100,6 +106,7 @@ module _ (c : Setting) where
     agree : es ≡ fs
     valid : AllValid fs
 
+  -- A run by contents: its records are what the bytes spell, its entries the same, and its starts are those of the byte run.
   record Carried (l : List Item) : Type 0 where
     items : List model.Item
     run : model.Run plain items
@@ -108,6 +115,7 @@ module _ (c : Setting) where
 
   -- ---- what a run lets a call bring
 
+  -- What a run lets the call at vault i bring; the record that it begins with has the run's n and f, and the own number.
   record Allowed (items : List model.Item) (i : ℕ) (b : Option Record) (a : by.Call) : Type 0 where
     fair : model.Fair plain items i a
     set : Settings
@@ -180,6 +188,7 @@ module _ (c : Setting) where
 
   -- ---- one more call
 
+  -- The empty run is carried to the empty one.
   carryNone : Carried []
   unfolding recordAt written model.recordAt model.written
   carryNone = record {
@@ -199,6 +208,7 @@ module _ (c : Setting) where
   unfolding recordAt written model.recordAt model.written
   sameNext {l} v x a new = putFour Same (x .at) (recordAt c l) (model.recordAt (v .items)) (written l) (model.written (v .items)) new (v .same)
 
+  -- A refused call is carried to a call without output space: nothing changes.
   carryRefused : {l : List Item} (v : Carried l) (x : Item) (k : ℕ) → c .keeps (x .at) ≡ true → x .left ≡ gave k (recordAt c l (x .at)) (x .out)
       → Carried (x ∷ l)
   carryRefused {l} v x k keeps is = record {
@@ -226,6 +236,7 @@ module _ (c : Setting) where
         valid = allJoin (model.written (v .items) i) [] (v .same i .valid) tt;
       }
 
+  -- An accepted call is carried to the call that its bytes say.
   carryAccepted : {l : List Item} (v : Carried l) (x : Item) (o : Out) → c .keeps (x .at) ≡ true → InWidth (x .call) → Fair c l (x .at) (x .call) (x .left)
       → answer (model.recordAt (v .items) (x .at)) (said (recordAt c l (x .at)) (x .call)) ≡ accepted o
       → x .left ≡ after (recordAt c l (x .at)) (x .out) (accepted o) → Carried (x ∷ l)
@@ -284,6 +295,7 @@ module _ (c : Setting) where
       begun p s (timer view) call e = let z : _≡_ {A = ℕ} 0 1 = cc in absurd (omega arith)
 
   module _ {keepsRules : Rules} (law : (rec : List ℕ) (a : Call) (out : List ℕ) (left : Left) → keepsRules rec a out left → left ≡ leaves rec a out) where
+    -- So each run is carried to a run by contents.
     carry : {l : List Item} → Run c keepsRules l → Carried l
     carry nothingYet = carryNone
     carry (andThen {l = l} {x = x} run keeps low ruled fair) = go (carry run) (law (recordAt c l (x .at)) (x .call) (x .out) (x .left) ruled)
@@ -324,5 +336,6 @@ demand3By law c l run = record {
     decided : (i p : ℕ) → Decides l i p → model.Decides (v .items) i p
     decided i p (w, at) = (w, subst (λ (es : List Entry). Decision w p ∈ es) (v .same i .agree) at)
 
+-- Demand 3 of the calls that the paper fixes.
 pub demand3 : Demand3 Fixed
 demand3 = demand3By (λ rec a out left e. e)

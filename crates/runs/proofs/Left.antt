@@ -47,12 +47,14 @@ placedTake : (out es : List ℕ) → take (length es) (placed out 0 es) ≡ es
 unfolding placed
 placedTake out es = take-at es (drop (0 + length es) out) (length es) refl
 
+-- And behind them the output is as it was.
 placedDrop : (out es : List ℕ) → drop (length es) (placed out 0 es) ≡ drop (length es) out
 unfolding placed
 placedDrop out es =
     let same : 0 + length es ≡ length es = omega arith in
     drop-at es (drop (0 + length es) out) (length es) refl ∙ ap (λ (k : ℕ). drop k out) same
 
+-- What is to be shown of an accepted call, from entries that have bytes and are read back, and a sound record.
 keptBy : (out : List ℕ) (es : List Entry) (rec′ : List ℕ) → 256 ≤ length out → length (layout es) ≤ 256 → AllValid es
     → entriesOf (take (length (layout es)) (placed out 0 (layout es))) ≡ es → lentIs rec′ ≡ Sound
     → Kept out (length (layout es)) rec′ (placed out 0 (layout es))
@@ -77,6 +79,7 @@ record Accepts (rec out : List ℕ) (a : Call) : Type 0 where
   answered : answer before (said rec a) ≡ accepted o
   is : leaves rec a out ≡ after rec out (accepted o)
 
+-- The call is refused, with record and output unchanged, or accepted.
 abbrev Goes : List ℕ → List ℕ → Call → Type 0
 Goes rec out a = ((k : ℕ) × (leaves rec a out ≡ gave k rec out)) ⊎ Accepts rec out a
 
@@ -101,6 +104,7 @@ unsoundCalled k rec out a bad = go (ltb (length out) 256) (lentIs rec) bad
     go true u e = (1, refl)
     go false u e = (k, ap (λ (u : Lent). after rec out (onLent u k (contents (decodeRecord rec)) a)) e)
 
+-- So each call on an unsound record is refused, whichever it is.
 unsoundGoes : (rec out : List ℕ) (a : Call) → lentIs rec ≡ Unsound → Goes rec out a
 unfolding startLeft frameLeft timerLeft
 unsoundGoes rec out (start set plan) bad = inl (unsoundCalled 4 rec out (said rec (start set plan)) bad)
@@ -119,9 +123,11 @@ goes rec out a bytes low = go (lentIs rec) refl
 -- ---- what it leaves
 
 module _ {rec out : List ℕ} {a : Call} (w : Accepts rec out a) where
+  -- What an accepted call leaves, by contents and by bytes.
   well : LeftWell rec out (w .o)
   well = leftWell rec out (w .before) (said rec a) (w .fine) (w .fed) (w .o) (w .answered)
 
+  -- An accepted call leaves a sound record and an output of entries.
   acceptedLeavesWell : LeavesWell rec out (after rec out (accepted (w .o)))
   acceptedLeavesWell =
       keptBy out (w .o .wrote) (recordIn (after rec out (accepted (w .o)))) (w .room) (well .short) (well .valid) (well .entries) (well .held .sound)
@@ -135,12 +141,14 @@ module _ {rec out : List ℕ} {a : Call} (w : Accepts rec out a) where
       (subst (ReadBy (w .o .left .set)) (sym (well .entries))
       (protocol.callReadsBack (w .before) (said rec a) (λ r e. (w .fine r e .sound, w .fine r e .ranged)) (w .fed) (w .o) (w .answered)))
 
+-- So does every call that is not refused, and a refused one changes nothing.
 pub callLeavesWell : AlwaysLeavesWell
 callLeavesWell rec out a bytes low = ⊎-elim
     (λ (k, is). subst (LeavesWell rec out) (sym is) (refl, refl))
     (λ w. subst (LeavesWell rec out) (sym (w .is)) (acceptedLeavesWell w))
     (goes rec out a bytes low)
 
+-- The frames that a call writes are read back by each other vault that they are for.
 pub callReadsBack : AlwaysReadsBack
 callReadsBack rec out a bytes low =
     ⊎-elim (λ (k, is). subst ReadsBack (sym is) tt) (λ w. subst ReadsBack (sym (w .is)) (acceptedReadsBack w)) (goes rec out a bytes low)

@@ -26,9 +26,11 @@ use Rattle.runs.proofs.Spelled.{spelled, Spelled, runSpelled}
 -- ---- a script over bytes
 
 module _ (keeps : Set) (most : total (equals 4 1) - 1 ≤ size (equals 4 1) keeps) (ms : List Move) (fair : allFair keeps ms ≡ true) where
+  -- The script's run by contents, over bytes.
   over : Spelled (ofFour keeps most) (calls ms)
   over = let so = scriptRuns keeps most ms fair in runSpelled (ofFour keeps most) (so .run) (so .wide)
 
+  -- So it is a run of four vaults over bytes.
   shown : Shown keeps
   shown = record { setting = spelled (ofFour keeps most); four = refl; rules = refl; calls = over .items; run = over .run }
 
@@ -46,6 +48,7 @@ module _ (keeps : Set) (most : total (equals 4 1) - 1 ≤ size (equals 4 1) keep
       go none spells e = absurd (none≢some e)
       go (some r) spells e = ap (λ (r : Record). r .kept (x .kind) (x .sender)) (spells .holds) ∙ e
 
+-- What holds of 0 to 3 holds of every number below 4.
 below4 : (P : ℕ → Type 0) → P 0 → P 1 → P 2 → P 3 → (i : ℕ) → i < 4 → P i
 below4 P p0 p1 p2 p3 zero low = p0
 below4 P p0 p1 p2 p3 (suc zero) low = p1
@@ -53,6 +56,7 @@ below4 P p0 p1 p2 p3 (suc (suc zero)) low = p2
 below4 P p0 p1 p2 p3 (suc (suc (suc zero))) low = p3
 below4 P p0 p1 p2 p3 (suc (suc (suc (suc i)))) low = absurd (omega arith)
 
+-- The same for 0 to 2.
 below3 : (P : ℕ → Type 0) → P 0 → P 1 → P 2 → (i : ℕ) → i < 3 → P i
 below3 P p0 p1 p2 zero low = p0
 below3 P p0 p1 p2 (suc zero) low = p1
@@ -61,14 +65,17 @@ below3 P p0 p1 p2 (suc (suc (suc i))) low = absurd (omega arith)
 
 -- ---- the three
 
+-- All four are n - f or more.
 allMost : total (equals 4 1) - 1 ≤ size (equals 4 1) everyone
 unfolding weigh
 allMost = omega arith
 
+-- So are three of the four.
 butOneMost : total (equals 4 1) - 1 ≤ size (equals 4 1) butOne
 unfolding weigh
 butOneMost = omega arith
 
+-- A run over bytes in which all four decide 7 in view 0.
 pub allDecide : AllDecide
 allDecide = (
   shown everyone allMost plain plainFair,
@@ -78,6 +85,7 @@ allDecide = (
     at : (i k : ℕ) → wrote plain i k ≡ some (Decision 0 7) → DecidesIn (shown everyone allMost plain plainFair) 0 i 7
     at i k = decides everyone allMost plain plainFair 0 i 7 k
 
+-- One in which vault 3 says different votes to vaults 0 and 2, and the others decide 7.
 pub oneLies : OneLies
 oneLies = (
   shown butOne butOneMost lied liedFair,
@@ -90,6 +98,7 @@ oneLies = (
     at : (i k : ℕ) → wrote lied i k ≡ some (Decision 0 7) → DecidesIn (shown butOne butOneMost lied liedFair) 0 i 7
     at i k = decides butOne butOneMost lied liedFair 0 i 7 k
 
+-- One in which all four decide 7 in view 1.
 pub laterDecide : LaterDecide
 laterDecide = (
   shown everyone allMost later laterFair,

@@ -51,6 +51,7 @@ spell by.short = timer 0
 abbrev space : List ℕ
 space = replicate 256 0
 
+-- The space passes refusal 1.
 room : 256 ≤ length space
 room = omega (arith, length-replicate {A = ℕ} 256 0)
 
@@ -71,11 +72,13 @@ module _ (c : model.Setting) where
     pub fine : (r : Record) → b ≡ some r → Fine r
     pub agree : es ≡ fs
 
+  -- A run over bytes in which each vault writes the same, and its bytes spell its record.
   pub record Spelled (l : List model.Item) : Type 0 where
     pub items : List Item
     pub run : Run spelled Fixed items
     pub same : (i : ℕ) → Same (recordAt spelled items i) (model.recordAt l i) (written items i) (model.written l i)
 
+  -- The empty run, with all records blank.
   spelledNone : Spelled []
   unfolding recordAt written model.recordAt model.written
   spelledNone = record {
@@ -84,6 +87,7 @@ module _ (c : model.Setting) where
     same = λ i. record { spells = losesNothing .blank .1 .1; fine = λ r e. absurd (none≢some e); agree = refl };
   }
 
+  -- A refused call is left out: it changes nothing.
   spelledRefused : (l : List model.Item) (x : model.Item) (k : ℕ) → answer (model.recordAt l (x .at)) (x .call) ≡ refused k → Spelled l → Spelled (x ∷ l)
   spelledRefused l x k is v =
       let (records, entries) = pastRefused l x k is in
@@ -99,6 +103,7 @@ module _ (c : model.Setting) where
   -- ---- an accepted call
 
   module _ {l : List model.Item} (v : Spelled l) (inv : Inv c (λ p. Unit {0}) l) (i : ℕ) where
+    -- The bytes of vault i.
     abbrev rec : List ℕ
     rec = recordAt spelled (v .items) i
 
@@ -121,6 +126,7 @@ module _ (c : model.Setting) where
     saysIt by.short none at spells fair o is = never is
     saysIt by.short (some r) at spells fair o is = never is
 
+    -- The plan is 64 bits wide, and a frame's bytes are bytes.
     spellWidth : (a : by.Call) → Brings a → InWidth (spell a)
     spellWidth (by.start s p) low = low
     spellWidth (by.timer w) low = tt
@@ -128,6 +134,7 @@ module _ (c : model.Setting) where
     spellWidth (by.frame (Accepted x)) low = encode-bytes x
     spellWidth by.short low = tt
 
+    -- The call is one that the run over bytes lets come: a frame that was sent there was sent here.
     spellFair : (a : by.Call) (left : Left) → model.Fair c l i a → (o : Out) → answer (model.recordAt l i) a ≡ accepted o
         → Fair spelled (v .items) i (spell a) left
     spellFair (by.start s p) left fair o is = λ went. fair o is
@@ -137,6 +144,7 @@ module _ (c : model.Setting) where
         λ keeps. (x, refl, subst (IsFor i x) (sym (v .same (x .sender) .agree)) (fair .1 keeps))
     spellFair by.short left fair o is = tt
 
+  -- An accepted call is made on the bytes.
   spelledAccepted : (l : List model.Item) (x : model.Item) (o : Out) → answer (model.recordAt l (x .at)) (x .call) ≡ accepted o → c .keeps (x .at) ≡ true
       → Brings (x .call) → model.Fair c l (x .at) (x .call) → Inv c (λ p. Unit {0}) l → Spelled l → Spelled (x ∷ l)
   unfolding recordAt written model.recordAt model.written
@@ -180,6 +188,7 @@ module _ (c : model.Setting) where
           (subst (λ (u : Answer). Same (recordIn (after bytes space (accepted o))) (model.leftBy (model.recordAt l i) u)
           (written (v .items) i ++ entriesIn (after bytes space (accepted o))) (model.written l i ++ model.wroteBy u)) (sym is) left)
 
+  -- So every run by contents whose starts bring 64-bit plans is a run over bytes.
   pub runSpelled : {l : List model.Item} → model.Run c l → Wide l → Spelled l
   runSpelled model.nothingYet wide = spelledNone
   runSpelled (model.andThen {l = l} {x = x} run keeps fair) (brings, wide) = go (runSpelled run wide) (answer (model.recordAt l (x .at)) (x .call)) refl

@@ -40,5 +40,6 @@ fixedContract rec (frame link bytes) out (gave number rec′ out′) e =
 fixedContract rec (timer view) out (wrote count rec′ out′) e = byTimer ([], ([], tt)) (lent rec) (lent out) view (Written count) rec′ out′ e
 fixedContract rec (timer view) out (gave number rec′ out′) e = byTimer ([], ([], tt)) (lent rec) (lent out) view (Refused number) rec′ out′ e
 
+-- The calls by the contracts are the calls that the paper fixes.
 pub contractAsFixed : AsFixed Contract
 contractAsFixed rec a out left = (contractFixed rec a out left, fixedContract rec a out left)

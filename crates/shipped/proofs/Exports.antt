@@ -28,10 +28,12 @@ smallLeft rec (start set plan) out = small-start rec set plan out
 smallLeft rec (frame link bytes) out = small-frame rec link bytes out
 smallLeft rec (timer view) out = small-timer rec view out
 
+-- Of a refusal, being small says that its number is in the table.
 smallNumber : (left : Left) → Small left → InTable left
 smallNumber (wrote count rec out) small = tt
 smallNumber (gave number rec out) small = small
 
+-- 'Each gives its number': each refusal has one from 1 to 19.
 pub refusalNumbers : RefusalNumbers
 refusalNumbers rec a out = smallNumber (leaves rec a out) (smallLeft rec a out)
 
@@ -46,11 +48,13 @@ tellsLeft (gave number rec out) small =
     let low : ltb number 256 ≡ true = lt-ltb number 256 (omega arith) in
     ap (λ (b : Bool). cond b (gave number rec out) (wrote (number - 256) rec out)) low
 
+-- A host can tell from its number what the call left.
 pub numbersTell : NumbersTell
 numbersTell rec a out = tellsLeft (leaves rec a out) (refusalNumbers rec a out)
 
 -- ---- the exports' runs are those that the paper fixes
 
+-- A run by the exports is a run by what the paper fixes.
 exportFixed : (rec : List ℕ) (a : Call) (out : List ℕ) (left : Left) → ExportContract rec a out left → Fixed rec a out left
 exportFixed rec a out left (byStart κs r o n f id class plan number rec′ out′ learnt) = ap leftOf learnt ∙ numbersTell rec a out
 exportFixed rec a out left (byFrame κs r s o link number rec′ out′ learnt) = ap leftOf learnt ∙ numbersTell rec a out
@@ -62,6 +66,7 @@ demand3 = demand3By exportFixed
 
 -- ---- and back: what the paper fixes is what the contracts let be
 
+-- Each answer of a call is one of the exports' numbers.
 fixedExport : (rec : List ℕ) (a : Call) (out : List ℕ) (left : Left) → Fixed rec a out left → ExportContract rec a out left
 unfolding lent
 fixedExport rec a out left e =
@@ -73,5 +78,6 @@ fixedExport rec a out left e =
     by (frame link bytes) (seen number rec′ out′) is = byFrame ([], ([], ([], tt))) (lent rec) (lent bytes) (lent out) link number rec′ out′ is
     by (timer view) (seen number rec′ out′) is = byTimer ([], ([], tt)) (lent rec) (lent out) view number rec′ out′ is
 
+-- The calls by the exports are the calls that the paper fixes.
 pub exportAsFixed : AsFixed ExportContract
 exportAsFixed rec a out left = (exportFixed rec a out left, fixedExport rec a out left)

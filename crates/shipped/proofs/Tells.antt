@@ -56,17 +56,21 @@ use Rattle.shipped.specs.Tells.{StartTells, FrameTells, TimerTells, Expo
 
 module _ (n : ℕ) (ps : List (PK n)) (r : RK n) (ρ : Routine) (Says : Out n ps r) where
   module _ (w : World) (x : Arguments n ps r w) (σ : Memory) (F : Pr w) where
+    -- P and Q are owned apart, in world w.
     abbrev _∗_ : Pr w → Pr w → Pr w
     P ∗ Q = sep (w .𝓤) P Q
 
+    -- P entails Q, in world w.
     abbrev _⊢_ : Pr w → Pr w → Type 1
     P ⊢ Q = ent (w .𝓤) P Q
 
     infix 26 _⊢_
     infixr 35 _∗_
+    -- The lent slices hold their last values.
     abbrev lastly : Last n ps r w x → Pr w
     lastly last = sem (w .𝓤) (w .H) (w .𝓖 .A) (lasts (endedOf n ps r) (x .0) (x .3) last)
 
+    -- The answer is handed back, and is v to the machine.
     abbrev handed : Val → Answer n ps r w x → Pr w
     handed v a = Back (w .𝓤) (w .H) (w .𝓖 .A) (sigOf n ps r) x v a
 
@@ -74,6 +78,7 @@ module _ (n : ℕ) (ps : List (PK n)) (r : RK n) (ρ : Routine) (Says : Out n ps
     abbrev Told : Answer n ps r w x → Last n ps r w x → Type 0
     Told a last = Fit (endedOf n ps r) (stays ps) (x .0) (x .3) last × Says (x .0) (x .3) a (atExit (endedOf n ps r) (x .0) (x .3) last)
 
+    -- The same, as a fact of the logic.
     abbrev told : Answer n ps r w x → Last n ps r w x → Pr w
     told a last = fact (w .𝓤) (Told a last)
 
@@ -92,6 +97,7 @@ module _ (n : ℕ) (ps : List (PK n)) (r : RK n) (ρ : Routine) (Says : Out n ps
     leftOwned v a last = monoL (w .𝓤) F (monoL (w .𝓤) (handed v a) (fst∗ (w .𝓤) (lastly last) (told a last)))
 
     module _ (steps : ℕ) (v : Val) (after : Memory) (runs : ρ .step steps (passed (w .𝓤) (w .H) (w .𝓖 .A) (sigOf n ps r) x) σ ≡ done (v, after)) where
+      -- The run, at an answer and last values for which the contract's end is owned.
       ranWith : (a : Answer n ps r w x) (last : Last n ps r w x) → Owned n ps r w after (ended v a last) F → ∥ Ran n ps r w ρ Says x σ F ∥₁
       ranWith a last owned =
           ∥∥₁-map (sat-fact (w .𝓤) (w .H) (w .𝓜) after (ended v a last ∗ F) (Told a last)
@@ -128,16 +134,19 @@ module _ (n : ℕ) (ps : List (PK n)) (r : RK n) (ρ : Routine) (Says : Out n ps
 
 -- ---- the calls of crate vault
 
+-- `start` ends, and leaves what `startLeft` says.
 pub startTells : StartTells
 startTells =
     tells 2 startKinds.ps startKinds.r start.routine _
     (λ w. readStart.known w (λ _. start.routine) anyName start.routine refl (metStart.met (w .𝓤) (w .H) (w .𝓜) (w .𝓖) (w .𝓡)))
 
+-- `frame` ends, and leaves what `frameLeft` says.
 pub frameTells : FrameTells
 frameTells =
     tells 3 frameKinds.ps frameKinds.r frame.routine _
     (λ w. readFrame.known w (λ _. frame.routine) anyName frame.routine refl (metFrame.met (w .𝓤) (w .H) (w .𝓜) (w .𝓖) (w .𝓡)))
 
+-- `timer` ends, and leaves what `timerLeft` says.
 pub timerTells : TimerTells
 timerTells =
     tells 2 timerKinds.ps timerKinds.r timer.routine _
@@ -145,16 +154,19 @@ timerTells =
 
 -- ---- the exports of crate vault_c
 
+-- `vault_start` ends, and its number and bytes are those of what `startLeft` says.
 pub exportStartTells : ExportStartTells
 exportStartTells =
     tells 2 exportStartKinds.ps exportStartKinds.r exportStart.routine _
     (λ w. readExportStart.known w (λ _. exportStart.routine) anyName exportStart.routine refl (metExportStart.met (w .𝓤) (w .H) (w .𝓜) (w .𝓖) (w .𝓡)))
 
+-- `vault_frame` ends, and its number and bytes are those of what `frameLeft` says.
 pub exportFrameTells : ExportFrameTells
 exportFrameTells =
     tells 3 exportFrameKinds.ps exportFrameKinds.r exportFrame.routine _
     (λ w. readExportFrame.known w (λ _. exportFrame.routine) anyName exportFrame.routine refl (metExportFrame.met (w .𝓤) (w .H) (w .𝓜) (w .𝓖) (w .𝓡)))
 
+-- `vault_timer` ends, and its number and bytes are those of what `timerLeft` says.
 pub exportTimerTells : ExportTimerTells
 exportTimerTells =
     tells 2 exportTimerKinds.ps exportTimerKinds.r exportTimer.routine _
