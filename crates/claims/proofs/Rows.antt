@@ -57,12 +57,15 @@ atAbove above w there = go (decLt w above)
 -- ---- what one report claims
 
 module _ (t : List ℕ) (r w : ℕ) where
+  -- The view + 1 of vault r's highest vote, 0 where it has none.
   abbrev high : ℕ
   high = getD t (column * 1 + r) 0
 
+  -- The plan of its highest vote.
   abbrev plan : ℕ
   plan = getD t (column * 2 + r) 0
 
+  -- The view + 1 of its previous vote, 0 where it has none.
   abbrev previous : ℕ
   previous = getD t (column * 3 + r) 0
 
@@ -71,9 +74,11 @@ module _ (t : List ℕ) (r w : ℕ) where
   unfolding reportsIn claims reach
   claimsIn p h = rw (h, viewForIn p high plan, viewIn previous (getD t (column * 4 + r) 0))
 
+  -- A previous vote at w or later claims every plan.
   pub claimsEvery : reporter t r ≡ true → leb w (previous - 1) ≡ true → (p : ℕ) → reporting (reportsIn t) (claims p w) r ≡ true
   claimsEvery h low p = claimsIn p h ∙ le-leb w _ (omega (arith, leb-true w (previous - 1) low))
 
+  -- Without one, a highest vote at w or later claims its own plan and no other.
   pub claimsOne : reporter t r ≡ true → leb w (previous - 1) ≡ false → leb w (high - 1) ≡ true → (p : ℕ) → reporting (reportsIn t) (claims p w) r ≡ eqb plan p
   claimsOne h few low p = claimsIn p h ∙ go (eqb plan p)
     where
@@ -81,6 +86,7 @@ module _ (t : List ℕ) (r w : ℕ) where
       go true = le-leb w _ (omega (arith, leb-true w (high - 1) low))
       go false = lt-leb w _ (omega (arith, leb-false w (previous - 1) few))
 
+  -- Without either, nothing is claimed.
   pub claimsNone : reporter t r ≡ true → leb w (previous - 1) ≡ false → leb w (high - 1) ≡ false → (p : ℕ) → reporting (reportsIn t) (claims p w) r ≡ false
   claimsNone h few less p = claimsIn p h ∙ go (eqb plan p)
     where
@@ -95,6 +101,7 @@ silent t r test h = rw h
 
 -- ---- rows
 
+-- A row without plans counts none.
 pub countNone : (plans : List ℕ) (at p : ℕ) → countOf plans at 0 p ≡ 0
 unfolding countOf
 countNone plans at p = weighNone _ _
@@ -109,6 +116,7 @@ pub countStep : (plans : List ℕ) (at k p every count share : ℕ) → count �
     → share ≡ cond (eqb (getD plans (at + k) 0) p) 1 0 → count + share ≡ every + countOf plans at (k + 1) p
 countStep plans at k p every count share e is = omega (arith, countMore plans at k p)
 
+-- A count depends on nothing but the places of its row.
 pub countSame : (before after : List ℕ) (at k p : ℕ) → ((r : ℕ) → r < k → getD after (at + r) 0 ≡ getD before (at + r) 0)
     → countOf after at k p ≡ countOf before at k p
 unfolding countOf
@@ -131,23 +139,29 @@ countWhere plans at (suc k) p more = go (ℕ-discrete (getD plans (at + k) 0) p)
 
 -- One report more: its plan is written behind the row, and counts where the report is for that plan only.
 module _ (plans : List ℕ) (at k x : ℕ) (low : at + k < length plans) where
+  -- The row with x behind its k plans.
   abbrev after : List ℕ
   after = set plans (at + k) x
 
+  -- The k plans before it are counted as they were.
   kept : (p : ℕ) → countOf after at k p ≡ countOf plans at k p
   kept p = countSame plans after at k p (λ r less. getD-set-other plans (at + k) (at + r) x 0 (λ (e : at + r ≡ at + k). omega arith))
 
+  -- With it, plan x is counted once more.
   more : (p : ℕ) → countOf after at (k + 1) p ≡ countOf plans at k p + cond (eqb x p) 1 0
   more p = countMore after at k p ∙ ap (λ (c : ℕ). c + cond (eqb (getD after (at + k) 0) p) 1 0) (kept p)
       ∙ ap (λ (y : ℕ). countOf plans at k p + cond (eqb y p) 1 0) (getD-set-same plans (at + k) x 0 low)
 
   module _ (rs : Reports) (test : ℕ → Report → Bool) (i all every some : ℕ) where
+    -- What the row tells after report i.
     abbrev Grown : Type 0
     Grown = Tells rs (i + 1) test after at (record { every = all + every; some = k + some })
 
+    -- How many of the first j reports pass the test of plan p.
     abbrev weighed : ℕ → ℕ → ℕ
     weighed p j = weigh (λ i. 1) (reporting rs (test p)) j
 
+    -- A row that tells of the first i reports tells of one more, whether that one is for every plan, for one or for none.
     pub rowMore : Stance (λ p. reporting rs (test p) i) x every some → Tells rs i test plans at (record { every = all; some = k }) → Grown
     rowMore (forAll e s pass) row = record { most = omega (arith, row .most); tells = λ p. tell p }
       where
@@ -220,6 +234,7 @@ module _ (test : ℕ → Bool) (low v : ℕ) where
   servingNext end w is high = rw (is, le-ltb w low high)
 
 module _ (plans : List ℕ) (c : Search) (low p : ℕ) where
+  -- The view that the search for p finds below `end`.
   abbrev serves : ℕ → ℕ
   serves end = servingView (claimedIn plans c p) low (c .v) end
 
@@ -234,10 +249,12 @@ module _ (plans : List ℕ) (c : Search) (low p : ℕ) where
   -- All claimers of p at the next view w are counted.
   module _ (end w row k claimers : ℕ) (t : Tally) (was : Below end) (above : low < end) (is : w ≡ end - 1)
       (at : row ≡ placeAt c w) (tally : t ≡ tallyAt c w) (all : k ≡ t .some) (count : claimers ≡ t .every + countOf plans row k p) where
+    -- A blocking set of those counted is the test that the search makes at w.
     claimersTell : leb (c .f + 1) claimers ≡ claimedIn plans c p w
     unfolding claimedIn
     claimersTell = rw (← tally, ← at, ← all) (ap (leb (c .f + 1)) count)
 
+    -- What the search finds below `end`: w where that serves, else what it finds below w.
     step : serves end ≡ cond (claimedIn plans c p w) w (serves w)
     step = servingNext (claimedIn plans c p) low (c .v) end w (omega arith) (omega arith)
 

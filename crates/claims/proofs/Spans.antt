@@ -27,6 +27,7 @@ pub highestMore : (spans : List ℕ) (w k : ℕ) → highestTo spans w (k + 1) �
 unfolding highestTo
 highestMore spans w k = rw add-one
 
+-- Of no spans the highest is 0: where the loop starts.
 pub highestNone : (spans : List ℕ) (w : ℕ) → highestTo spans w 0 ≡ 0
 unfolding highestTo
 highestNone spans w = refl
@@ -36,6 +37,7 @@ module _ (spans : List ℕ) (n f : ℕ) where
   abbrev pub covers : ℕ → ℕ
   covers u = weigh (λ i. 1) (covering spans u) n
 
+  -- View u is covered just where more than f spans cover it.
   pub coveredIff : (u : ℕ) → (covered spans n f u ≡ true) ↔ (f < covers u)
   unfolding covered
   coveredIff u = blockingWeighs (equals n f) (covering spans u)
@@ -45,10 +47,12 @@ module _ (spans : List ℕ) (n f : ℕ) where
   coverMono u w to =
       weighMono (λ i. 1) (covering spans u) (covering spans w) n (λ i low h. lt-ltb w (getD spans i 0) (to i low (ltb-true u (getD spans i 0) h)))
 
+  -- A view below a covered one is covered too, so the covered views are the first so many.
   coveredFalls : Falls (covered spans n f)
   coveredFalls u w le h =
       coveredIff w .1 (omega (arith, coveredIff u .0 h, coverMono u w (λ i low (l : u < getD spans i 0). omega arith)))
 
+  -- The highest span not above w is no lower than any of them.
   highestAt : (w k i : ℕ) → i < k → getD spans i 0 ≤ w → getD spans i 0 ≤ highestTo spans w k
   unfolding highestTo
   highestAt w zero i low le = absurd (omega arith)
@@ -61,6 +65,7 @@ module _ (spans : List ℕ) (n f : ℕ) where
           rw (same, le-leb (getD spans k 0) w at) (omega arith)
       go (no differ) rest = omega (arith, rest (omega arith) le)
 
+  -- It is not above w, so the search goes down.
   pub highestLow : (w k : ℕ) → highestTo spans w k ≤ w
   unfolding highestTo
   highestLow w zero = omega arith
@@ -93,6 +98,7 @@ module _ (spans : List ℕ) (n f : ℕ) where
 
   -- The candidate after view last, which too few cover: t views, the span that ends highest below last.
   module _ (v last t : ℕ) (low : last ≤ v) (few : covers last ≤ f) (is : t ≡ highestTo spans last n) where
+    -- Too few cover view t too: by `candidatesExact` no more than cover view last.
     fewAfter : covers t ≤ f
     fewAfter = rw is (omega (arith, candidatesExact last))
 
@@ -117,6 +123,7 @@ module _ (spans : List ℕ) (n f : ℕ) where
 -- ---- the spans of the vaults
 
 module _ (spans : List ℕ) (n : ℕ) (span : ℕ → ℕ) (are : AreSpans spans n span) where
+  -- The list's spans are at most v where the vaults' are.
   pub spansWithin : (v : ℕ) → ((i : ℕ) → span i ≤ v) → Within spans n v
   spansWithin v most i low = rw (are i low) (most i)
 

@@ -33,40 +33,49 @@ length-short k =
 
 -- ---- by two bytes
 
+-- A timer entry, second byte 0b, has 10 bytes.
 pub host-timer : (told : ℕ) → told ≡ 11 → hostSize told ≡ 10
 unfolding hostSize
 host-timer told e = simp (eq-eqb told 11 e) refl
 
+-- A decision entry, second byte 0a, has 14 bytes.
 pub host-decision : (told : ℕ) → told ≡ 10 → hostSize told ≡ 14
 unfolding hostSize
 host-decision told e = simp (ne-eqb told 11 (omega arith), eq-eqb told 10 e) refl
 
+-- No host entry has another second byte, so its size is 0.
 pub host-other : (told : ℕ) → (told ≡ 11 → ⊥) → (told ≡ 10 → ⊥) → hostSize told ≡ 0
 unfolding hostSize
 host-other told a b = simp (ne-eqb told 11 a, ne-eqb told 10 b) refl
 
+-- An unknown kind has no frame, so its size is 0.
 pub frame-none : (kind : ℕ) → lengthOf kind ≡ 0 → frameSize kind ≡ 0
 unfolding frameSize
 frame-none kind e = simp (eq-eqb (lengthOf kind) 0 e) refl
 
+-- A known kind has a recipient byte and its frame.
 pub frame-some : (kind : ℕ) → (lengthOf kind ≡ 0 → ⊥) → frameSize kind ≡ 1 + lengthOf kind
 unfolding frameSize
 frame-some kind h = simp (ne-eqb (lengthOf kind) 0 h) refl
 
+-- First byte fe: the second byte is a host entry's.
 pub by-host : (to next : ℕ) → to ≡ 254 → sizeBy to next ≡ hostSize next
 unfolding sizeBy
 by-host to next e = simp (eq-eqb to 254 e) refl
 
+-- Any other first byte is a vault's or all vaults': the second byte is a frame's kind.
 pub by-frame : (to next : ℕ) → (to ≡ 254 → ⊥) → sizeBy to next ≡ frameSize next
 unfolding sizeBy
 by-frame to next h = simp (ne-eqb to 254 h) refl
 
 -- ---- by some bytes
 
+-- Where all the bytes that the first two tell are there, the entry has that size.
 pub in-whole : (s : List ℕ) → sizeHere s ≤ length s → sizeIn s ≡ sizeHere s
 unfolding sizeIn
 in-whole s h = simp (le-leb (sizeHere s) (length s) h) refl
 
+-- Where some of them are missing, no whole entry stands there, and the size is 0.
 pub in-cut : (s : List ℕ) → length s < sizeHere s → sizeIn s ≡ 0
 unfolding sizeIn
 in-cut s h = simp (lt-leb (sizeHere s) (length s) h) refl
@@ -80,11 +89,13 @@ by-nothing to = go (eqb to 254)
     go true = host-other 0 (λ (e : 0 ≡ 11). omega arith) (λ (e : 0 ≡ 10). omega arith)
     go false = frame-none 0 (length-low 0 (omega arith))
 
+-- Of less than two bytes the second reads as 0.
 second-missing : (s : List ℕ) → length s < 2 → getD s 1 0 ≡ 0
 second-missing [] h = refl
 second-missing (x ∷ []) h = refl
 second-missing (x ∷ y ∷ s) h = absurd (omega arith)
 
+-- So less than two bytes hold no entry.
 pub in-short : (s : List ℕ) → length s < 2 → sizeIn s ≡ 0
 in-short s h =
     let none-here : sizeHere s ≡ 0 = ap (λ (k : ℕ). sizeBy (getD s 0 0) k) (second-missing s h) ∙ by-nothing (getD s 0 0) in

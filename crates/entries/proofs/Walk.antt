@@ -82,27 +82,33 @@ bytes-take (suc n) (x ∷ s) b (suc i) = bytes-take n s (λ j. b (suc j)) i
 
 -- Bytes of a frame's form behind a recipient.
 module _ (to : ℕ) (t : List ℕ) (b : Bytes (to ∷ t)) (there : lengthOf (getD t 0 0) ≡ 0 → ⊥) (long : lengthOf (getD t 0 0) ≤ length t) where
+  -- The frame's length, by its kind byte.
   abbrev size : ℕ
   size = lengthOf (getD t 0 0)
 
+  -- The bytes of the frame: so many from behind the recipient.
   abbrev framed : List ℕ
   framed = take size t
 
+  -- They have the form of a frame: a known kind, and its length.
   formed : Formed framed
   formed =
       let some : 0 < size = omega arith in
       let kind : getD framed 0 0 ≡ getD t 0 0 = getD-take size t 0 0 some in
       record { kind = rw kind (known (getD t 0 0) there); size = length-take-le size t long ∙ ap lengthOf (sym kind) }
 
+  -- They are bytes, as the whole is.
   framed-bytes : Bytes framed
   framed-bytes = bytes-take size t (λ i. b (suc i))
 
+  -- With a vault's number before them they are an entry for that vault.
   frame-only : to < 254 → (e : Entry) × (ValidEntry e × (entryBytes e ≡ take (suc size) (to ∷ t)))
   unfolding entryBytes
   frame-only low =
       let bytes = ap (λ (l : List ℕ). to ∷ l) (respell framed framed-bytes formed) in
       (ForOne to (decode framed), ((low, decode-valid framed framed-bytes formed), bytes))
 
+  -- With ff before them they are an entry for all vaults.
   all-only : to ≡ 255 → (e : Entry) × (ValidEntry e × (entryBytes e ≡ take (suc size) (to ∷ t)))
   unfolding entryBytes
   all-only all = (ForAll (decode framed), (decode-valid framed framed-bytes formed, (λ i. sym all i ∷ respell framed framed-bytes formed i)))

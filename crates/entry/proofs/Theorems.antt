@@ -33,11 +33,13 @@ pub record Says (e : Entry) (rest : List ℕ) : Type 0 where
 
 -- a frame after its recipient
 module _ (to : ℕ) (f : Frame) (v : Valid f) (rest : List ℕ) where
+  -- the second byte of the entry tells how long its frame is
   kind-here : lengthOf (getD (to ∷ (encode f ++ rest)) 1 0) ≡ length (encode f)
   kind-here =
       let there : 0 < length (encode f) = omega (arith, encode-head f) in
       ap lengthOf (List·getD-append (encode f) rest 0 0 there ∙ kind-at f v) ∙ sym (encode-length f v)
 
+  -- the frame in the entry is the one that was written
   frame-here : decode (frameIn (to ∷ (encode f ++ rest))) ≡ f
   frame-here = rw kind-here (ap decode (take-at (encode f) rest (length (encode f)) refl) ∙ decode-encode f v)
 
@@ -48,6 +50,7 @@ pub record Host (s : List ℕ) (code view width value : ℕ) : Type 0 where
   pub view-here : numberAt 4 s 2 ≡ view
   pub value-here : numberAt width s 6 ≡ value
 
+-- the bytes of a host entry have the four fields that were written
 host : (code view width value : ℕ) (rest : List ℕ) → code < 256 → view < 256 ^ 4 → value < 256 ^ width
     → Host (spell (hostFields code view width value) ++ rest) code view width value
 host code view width value rest c v x =
@@ -60,10 +63,12 @@ host code view width value rest c v x =
       value-here = cc;
     }
 
+-- bytes with the fields of a timer entry say that timer, and take 10 bytes
 timer-here : (s : List ℕ) (view millis : ℕ) → Host s 11 view 4 millis → (entryAt s ≡ Timer view millis) × (sizeAt s ≡ 10)
 unfolding entryAt sizeAt
 timer-here s view millis h = (simp (h .to-host, h .told, h .view-here, h .value-here) refl, simp (h .to-host, h .told) refl)
 
+-- bytes with the fields of a decision entry say that decision, and take 14 bytes
 decision-here : (s : List ℕ) (view plan : ℕ) → Host s 10 view 8 plan → (entryAt s ≡ Decision view plan) × (sizeAt s ≡ 14)
 unfolding entryAt sizeAt
 decision-here s view plan h = (simp (h .to-host, h .told, h .view-here, h .value-here) refl, simp (h .to-host, h .told) refl)
@@ -104,9 +109,11 @@ entry-length (Decision view plan) = let l = length-spell (hostFields 10 view 8 p
 pub entry-fits : (e : Entry) (at size : ℕ) → at + 46 ≤ size → at + length (entryBytes e) ≤ size
 entry-fits e at size h = omega (arith, entry-length e .1)
 
+-- The next place after an entry is at most 46 bytes on.
 pub entry-ends : (e : Entry) (at next : ℕ) → next ≡ at + length (entryBytes e) → next ≤ at + 46
 entry-ends e at next h = omega (arith, entry-length e .1)
 
+-- Entries end to end read back one by one, for any bound on their number that the bytes do not pass.
 read-within : (es : List Entry) (bound : ℕ) → AllValid es → length (layout es) ≤ bound → entriesWithin bound (layout es) ≡ es
 unfolding entriesWithin
 read-within [] zero v h = refl
@@ -129,6 +136,7 @@ entriesReadBack es v = read-within es (length (layout es)) v (omega arith)
 pub entriesUnique : EntriesUnique
 entriesUnique es fs v w e = sym (entriesReadBack es v) ∙ (ap entriesOf e ∙ entriesReadBack fs w)
 
+-- Two lists of entries lie end to end as one list does.
 layout-append : (es fs : List Entry) → layout (es ++ fs) ≡ layout es ++ layout fs
 layout-append [] fs = refl
 layout-append (e ∷ es) fs = rw (append-assoc, layout-append es fs)

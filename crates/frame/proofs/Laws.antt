@@ -24,27 +24,33 @@ pub ruleset tests = (eq-eqb, ne-eqb, lt-ltb, le-ltb, le-leb, lt-leb, or-false)
 pub told {ℓ} : {A : Type ℓ} {a b c : A} → a ≡ b → a ≡ c → b ≡ c
 told p q = sym p ∙ q
 
+-- both tests hold where their conjunction does
 pub both : (a b : Bool) → (a && b) ≡ true → (a ≡ true) × (b ≡ true)
 both true b e = (refl, e)
 both false b e = let z : _≡_ {A = ℕ} 0 1 = cc in absurd (omega arith)
 
+-- neither test holds where their disjunction fails
 pub neither : (a b : Bool) → (a || b) ≡ false → (a ≡ false) × (b ≡ false)
 neither true b e = let z : _≡_ {A = ℕ} 0 1 = cc in absurd (omega arith)
 neither false b e = (refl, e)
 
 module _ (low high k : ℕ) where
+  -- a number between both bounds is in the range
   pub inside : low ≤ k → k ≤ high → within low high k ≡ true
   unfolding within
   inside a b = simp (le-leb low k a, le-leb k high b)
 
+  -- a number under the lower bound is out of the range
   pub under : k < low → within low high k ≡ false
   unfolding within
   under a = simp (lt-leb low k a)
 
+  -- a number over the upper bound is out of the range
   pub over : low ≤ k → high < k → within low high k ≡ false
   unfolding within
   over a b = simp (le-leb low k a, lt-leb k high b)
 
+  -- a number in the range is between both bounds
   pub bounds : within low high k ≡ true → (low ≤ k) × (k ≤ high)
   unfolding within
   bounds e = let h = both (leb low k) (leb k high) e in (leb-true low k (h .0), leb-true k high (h .1))
@@ -55,6 +61,7 @@ pub data Form (k : ℕ) : Type 0 where
   bare : k ≡ 6 → Form k
   reports : 7 ≤ k → k ≤ 8 → Form k
 
+-- a kind of 1 to 8 has one of the three forms, so that proofs go by the form
 pub form : (k : ℕ) → 1 ≤ k → k ≤ 8 → Form k
 form k a b =
     elim (decLe k 5) [
@@ -62,22 +69,27 @@ form k a b =
       | no g ↦ elim (decLe k 6) [ yes h ↦ bare (omega arith) | no h ↦ reports (omega arith) b ]
     ]
 
+-- the table's column "Length", kinds 1 to 5: 14
 pub length-plan : (k : ℕ) → 1 ≤ k → k ≤ 5 → lengthOf k ≡ 14
 unfolding lengthOf
 length-plan k a b = simp (inside 1 5 k a b)
 
+-- the table's column "Length", kind 6: 6
 pub length-bare : (k : ℕ) → k ≡ 6 → lengthOf k ≡ 6
 unfolding lengthOf within
 length-bare k e = rw e
 
+-- the table's column "Length", kinds 7 and 8: 45
 pub length-reports : (k : ℕ) → 7 ≤ k → k ≤ 8 → lengthOf k ≡ 45
 unfolding lengthOf
 length-reports k a b = simp (over 1 5 k (omega arith) (omega arith), ne-eqb k 6 (omega arith), inside 7 8 k a b)
 
+-- kind 0 is in no row of the table, so it has no length
 pub length-low : (k : ℕ) → k < 1 → lengthOf k ≡ 0
 unfolding lengthOf
 length-low k h = simp (under 1 5 k h, ne-eqb k 6 (omega arith), under 7 8 k (omega arith))
 
+-- a kind above 8 is in no row of the table, so it has no length
 pub length-high : (k : ℕ) → 8 < k → lengthOf k ≡ 0
 unfolding lengthOf
 length-high k h = simp (over 1 5 k (omega arith) (omega arith), ne-eqb k 6 (omega arith), over 7 8 k (omega arith) h)
@@ -87,10 +99,12 @@ pub body-plan : (k : ℕ) (s : List ℕ) → 1 ≤ k → k ≤ 5 → bodyAs k s 
 unfolding bodyAs
 body-plan k s a b = simp (inside 1 5 k a b)
 
+-- nothing after the head of a view-change
 pub body-bare : (k : ℕ) (s : List ℕ) → k ≡ 6 → bodyAs k s ≡ Empty
 unfolding bodyAs within
 body-bare k s e = rw e
 
+-- three reports after the head of a suggest or a proof
 pub body-reports : (k : ℕ) (s : List ℕ) → 7 ≤ k → bodyAs k s ≡ Told (reportsAt s 6)
 unfolding bodyAs
 body-reports k s a = simp (over 1 5 k (omega arith) (omega arith), ne-eqb k 6 (omega arith))
@@ -109,6 +123,7 @@ unknown k e =
       | yes a ↦ elim (decLe k 8) [ no g ↦ over 1 8 k a (omega arith) | yes b ↦ absurd (omega (arith, length-least k (form k a b))) ]
     ]
 
+-- a kind with a length is one of 1 to 8: `form_refusal` tests the length where row 9 tests the kind
 pub known : (k : ℕ) → (lengthOf k ≡ 0 → ⊥) → within 1 8 k ≡ true
 known k e =
     elim (decLe 1 k) [
@@ -127,11 +142,13 @@ first-some [] more z = absurd (z refl)
 first-some (row k true ∷ rows) more z = refl
 first-some (row k false ∷ rows) more z = first-some rows more z
 
+-- where the first part gives nothing, the second part decides
 pub first-none : (rows more : List Row) → Positive rows → first rows ≡ 0 → first (rows ++ more) ≡ first more
 first-none [] more p e = refl
 first-none (row k true ∷ rows) more p e = absurd (omega arith)
 first-none (row k false ∷ rows) more p e = first-none rows more (p .1) e
 
+-- where the whole table gives nothing, neither part does
 pub first-both : (rows more : List Row) → Positive rows → first (rows ++ more) ≡ 0 → (first rows ≡ 0) × (first more ≡ 0)
 first-both [] more p e = (refl, e)
 first-both (row k true ∷ rows) more p e = absurd (omega arith)
@@ -153,9 +170,11 @@ formed s e =
     }
 
 module _ (s : List ℕ) (f : Formed s) where
+  -- bytes that pass 9 and 10 have a kind of a known form
   pub form-of : Form (getD s 0 0)
   form-of = let h = bounds 1 8 (getD s 0 0) (f .kind) in form (getD s 0 0) (h .0) (h .1)
 
+  -- bytes that pass 9 and 10 have at least a head, so its six bytes can be read
   pub head-there : 6 ≤ length s
   head-there = rw (f .size) (length-least (getD s 0 0) form-of)
 

@@ -32,6 +32,7 @@ pub record Passed (s : List ℕ) (link n own : ℕ) (f : Frame) : Type 0 where
   pub content : first (contentRows f) ≡ 0
   pub leader : first (leaderRows f n own) ≡ 0
 
+-- An answer that accepts comes from a table that gives 0, and is the frame that was read.
 accepted : (b : Bool) (k : ℕ) (g f : Frame) → eqb k 0 ≡ b → cond b (Accepted g) (Refused k) ≡ Accepted f → (k ≡ 0) × (g ≡ f)
 accepted true k g f t h = (eqb-true k 0 t, cc)
 accepted false k g f t h = let z : _≡_ {A = ℕ} 0 1 = cc in absurd (omega arith)

@@ -20,22 +20,27 @@ use Rattle.keeping.specs.Kept.{reportsIn, bodyIn, frameIn, keptIn, planO
 use Rattle.keeping.specs.inside.Kept.{withReports, withBody, told, keepFrame}
 
 module _ (slots : ℕ → Report) (kind sender : ℕ) where
+  -- a kept proposal or vote holds the plan of its slot
   pub bodyPlan : 1 ≤ kind → kind ≤ 5 → bodyIn slots kind sender ≡ Plan (slots (frameSlot kind sender) .plan)
   unfolding bodyIn
   bodyPlan a b = simp (inside 1 5 kind a b)
 
+  -- a kept view-change holds nothing
   pub bodyBare : kind ≡ 6 → bodyIn slots kind sender ≡ Empty
   unfolding bodyIn
   bodyBare e = simp (over 1 5 kind (omega arith) (omega arith), eq-eqb kind 6 e)
 
+  -- a kept suggest or proof holds its three reports
   pub bodyReports : 7 ≤ kind → bodyIn slots kind sender ≡ Told (reportsIn slots kind sender)
   unfolding bodyIn
   bodyReports a = simp (over 1 5 kind (omega arith) (omega arith), ne-eqb kind 6 (omega arith))
 
+  -- a marked slot is a kept frame
   pub keptThere : slots (frameSlot kind sender) .mark ≡ 1 → keptIn slots kind sender ≡ some (frameIn slots kind sender)
   unfolding keptIn
   keptThere e = simp (eq-eqb _ _ e)
 
+  -- where the slot is not marked, none is kept
   pub keptNothing : (slots (frameSlot kind sender) .mark ≡ 1 → ⊥) → keptIn slots kind sender ≡ none
   unfolding keptIn
   keptNothing e = simp (ne-eqb _ _ e)
@@ -46,6 +51,7 @@ fitsKind kind (Plan p) e = let h = bounds 1 5 kind e in (h .0, omega arith)
 fitsKind kind Empty e = let h : kind ≡ 6 = eqb-true kind 6 e in (omega arith, omega arith)
 fitsKind kind (Told t) e = let h = bounds 7 8 kind e in (omega arith, h .1)
 
+-- a frame with reports is of kind 7 or 8
 pub toldKind : (kind : ℕ) {body : Body} {t : Reports} → body ≡ Told t → fits kind body ≡ true → 7 ≤ kind
 toldKind kind {body} {t} e h = let k : fits kind (Told t) ≡ true = ap (fits kind) (sym e) ∙ h in bounds 7 8 kind k .0
 
@@ -55,6 +61,7 @@ planKind kind {body} {p} e h =
     let k : fits kind (Plan p) ≡ true = ap (fits kind) (sym e) ∙ h in
     let b = bounds 1 5 kind k in omega arith
 
+-- the same of a frame without a plan
 pub bareKind : (kind : ℕ) {body : Body} → body ≡ Empty → fits kind body ≡ true → kind ≤ 6
 bareKind kind e h = let k : kind ≡ 6 = eqb-true kind 6 (ap (fits kind) (sym e) ∙ h) in omega arith
 
@@ -66,6 +73,7 @@ module _ (r : Record) (sender : ℕ) (f : Frame) where
   unfolding keepFrame
   keepBody e = λ i. withBody (withSlot r (frameSlot (f .kind) sender) (record { mark = 1; view = f .view; plan = planOf (e i) })) (f .kind) sender (e i)
 
+  -- keeping a suggest or a proof fills one slot with its view, and three with its reports
   pub keepTold : {t : Reports} → f .body ≡ Told t
       → keepFrame r sender f
       ≡ withReports (withSlot r (frameSlot (f .kind) sender) (record { mark = 1; view = f .view; plan = 0 })) (f .kind) sender t

@@ -14,22 +14,27 @@ use Rattle.record.specs.inside.Slots.{withSlot}
 use Rattle.keeping.specs.inside.Keeping.{stale, outdone, keepRows, moves, ownSlot, shifted}
 
 module _ (slots : ℕ → Report) (current sender kind view : ℕ) where
+  -- a view below current (kind 6: at or below) gives 16
   pub refused-stale : stale current kind view ≡ true → first (keepRows slots current sender kind view) ≡ 16
   refused-stale e = rw e
 
+  -- else a frame kept at this view or a higher one gives 17
   pub refused-outdone : stale current kind view ≡ false → outdone (slots (frameSlot kind sender)) view ≡ true
       → first (keepRows slots current sender kind view) ≡ 17
   refused-outdone e g = rw (e, g)
 
+  -- else nothing is given, and the frame can be kept
   pub taken : stale current kind view ≡ false → outdone (slots (frameSlot kind sender)) view ≡ false
       → first (keepRows slots current sender kind view) ≡ 0
   taken e g = rw (e, g)
 
 module _ (r : Record) (kind plan : ℕ) where
+  -- the own kept vote for another plan becomes the previous one
   pub shifted-moves : moves (ownSlot r kind) kind plan ≡ true → shifted r kind plan ≡ withSlot r (previousSlot kind) (ownSlot r kind)
   unfolding shifted
   shifted-moves e = rw e
 
+  -- else the record stays as it is
   pub shifted-stays : moves (ownSlot r kind) kind plan ≡ false → shifted r kind plan ≡ r
   unfolding shifted
   shifted-stays e = rw e

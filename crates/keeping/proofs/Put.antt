@@ -42,19 +42,24 @@ heldReports o o₁ o₂ o₃ {a} {b} {c} kind sender t ea eb ec x y z =
 -- a frame's head, and the reports that follow it where there are some
 module _ (o o₁ : List ℕ) (sender : ℕ) (f : Frame) {at plan : ℕ} (e : at ≡ frameSlot (f .kind) sender) (p : plan ≡ planOf (f .body))
     (h : Holds o₁ (withSlot (decodeRecord o) at (record { mark = 1; view = f .view; plan = plan }))) where
+  -- the bytes hold the record with the frame's own slot
   head : decodeRecord o₁ ≡ withSlot (decodeRecord o) (frameSlot (f .kind) sender) (headSlot f)
   head = h .is ∙ (λ i. withSlot (decodeRecord o) (e i) (record { mark = 1; view = f .view; plan = p i }))
 
+  -- with what follows the head put too, that is the record with the frame kept
   kept : {b : Body} → f .body ≡ b → withBody (decodeRecord o₁) (f .kind) sender b ≡ keepFrame (decodeRecord o) sender f
   unfolding keepFrame
   kept g = let d = sym g in λ i. withBody (head i) (f .kind) sender (d i)
 
+  -- nothing follows the head of a frame with a plan
   heldPlan : {q : ℕ} → f .body ≡ Plan q → Holds o₁ (keepFrame (decodeRecord o) sender f)
   heldPlan g = record { size = h .size; is = kept g }
 
+  -- nor that of a view-change
   heldBare : f .body ≡ Empty → Holds o₁ (keepFrame (decodeRecord o) sender f)
   heldBare g = record { size = h .size; is = kept g }
 
+  -- reports follow the head of a suggest or a proof: once they are put, the frame is kept
   pub heldTold : {o₂ : List ℕ} {t : Reports} → f .body ≡ Told t → Holds o₂ (withReports (decodeRecord o₁) (f .kind) sender t)
       → Holds o₂ (keepFrame (decodeRecord o) sender f)
   heldTold g x = heldAs x (kept g)
@@ -68,6 +73,7 @@ module _ (o o₁ : List ℕ) (sender : ℕ) (f : Frame) {at plan : ℕ} (e : at 
       go Empty g = heldBare g
       go (Told t) g = absurd (omega (arith, low, toldKind (f .kind) g fit))
 
+-- the previous vote moved where it must, then the frame kept in the own row: together the vault's own broadcast
 pub heldBroadcast : (o o₁ : List ℕ) (f : Frame) {o₂ : List ℕ} {id plan : ℕ} → id ≡ decodeRecord o .set .id → plan ≡ planOf (f .body)
     → Holds o₁ (shifted (decodeRecord o) (f .kind) plan) → Holds o₂ (keepFrame (decodeRecord o₁) id f)
     → Holds o₂ (ownBroadcast (decodeRecord o) f)

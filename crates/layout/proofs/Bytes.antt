@@ -31,6 +31,7 @@ use Rattle.wire.proofs.Output.{placed-sets}
 
 -- ---- bytes that stay
 
+-- a byte before or behind those that are stored one by one
 pub setsOther : (vs l : List ℕ) (i k : ℕ) → (i ≤ k → i + length vs ≤ k) → getD (sets l i vs) k 0 ≡ getD l k 0
 setsOther [] l i k h = refl
 setsOther (v ∷ vs) l i k h =
@@ -72,9 +73,11 @@ numberZero (suc w) s at h =
 
 -- ---- a lent part, `&s[a..a + k]`
 
+-- a byte of the part is the byte of the whole, a further on
 pub bytePart : (a k : ℕ) (s : List ℕ) (j : ℕ) → j < k → getD (take k (drop a s)) j 0 ≡ getD s (a + j) 0
 bytePart a k s j h = getD-take k (drop a s) j 0 h ∙ getD-drop a s j 0
 
+-- the same of a number that lies in the part
 pub numberPart : (w a k : ℕ) (s : List ℕ) (j : ℕ) → j + w ≤ k → numberAt w (take k (drop a s)) j ≡ numberAt w s (a + j)
 unfolding numberAt
 numberPart zero a k s j h = refl
@@ -86,9 +89,11 @@ numberPart (suc w) a k s j h =
 
 -- ---- bytes set to 0 one after the other
 
+-- the bytes with the first i set to 0: what the loop that clears them has done so far
 abbrev pub cleared : List ℕ → ℕ → List ℕ
 cleared s i = replicate i 0 ++ drop i s
 
+-- one byte more, one turn of that loop
 pub clearStep : (s : List ℕ) (i : ℕ) → i < length s → set (cleared s i) i 0 ≡ cleared s (i + 1)
 clearStep s i h =
     rw (drop-cons s i 0 h, set-at (replicate i 0) (getD s i 0) (drop (suc i) s) 0 i (length-replicate i 0), add-one)
@@ -97,6 +102,7 @@ clearStep s i h =
     more : _≡_ {A = List ℕ} (replicate i 0 ++ (0 ∷ [])) (replicate (suc i) 0)
     more = replicate-append-replicate i 1 0 ∙ ap (λ (k : ℕ). replicate k 0) (add-one i)
 
+-- at the end all are 0
 pub clearDone : (s : List ℕ) (i : ℕ) → i ≡ length s → cleared s i ≡ replicate (length s) 0
 clearDone s i e = rw (e, drop-of-length-le s {i = length s} (omega arith), append-nil)
 

@@ -29,10 +29,12 @@ use Rattle.layout.proofs.Bytes.{setsOther, placedOther, numberSame, num
 
 -- ---- places
 
+-- a slot of a view-change stands in the shared part
 pub placeShared : (i : ℕ) → i < rows → place i ≡ partPlace i
 unfolding place
 placeShared i h = rw (lt-ltb i rows h)
 
+-- every other slot stands in the block
 pub placeBlock : (i : ℕ) → rows ≤ i → place i ≡ sharedSize + partPlace (i - rows)
 unfolding place
 placeBlock i h = rw (le-ltb i rows h)
@@ -48,6 +50,7 @@ placeCases i P low high = go (ltb i rows) refl
         let q : place i ≡ headSize + partPlace i = placeBlock i h ∙ omega arith in
         rw q (high h)
 
+-- each slot ends within the record, so its bytes can be read and put
 pub placeFits : (i : ℕ) → i < slotCount → place i + slotSize ≤ recordSize
 placeFits i h = placeCases i (λ p. p + slotSize ≤ recordSize) (λ (g : i < rows). omega arith) (λ (g : rows ≤ i). omega arith)
 
@@ -68,6 +71,7 @@ headApart i k b =
     placeCases i (λ p. p ≤ k → p + slotSize ≤ k)
     (λ (g : i < rows) (a : partPlace i ≤ k). omega arith) (λ (g : rows ≤ i) (a : headSize + partPlace i ≤ k). omega arith)
 
+-- the same of a byte of the block's head, so a slot that is put leaves the starting plan
 pub blockApart : (i k : ℕ) → sharedSize ≤ k → k < sharedSize + headSize → place i ≤ k → place i + slotSize ≤ k
 blockApart i k b c =
     placeCases i (λ p. p ≤ k → p + slotSize ≤ k)
@@ -126,6 +130,7 @@ slotSpelt x p t z =
     (λ i. numberAt 8 (sym e₂ i) (sym l₂ i)) ∙ number-digits 8 (x .plan) (p ++ (x .mark ∷ a)) t (z .plan) in
     λ i. record { mark = m i; view = v i; plan = q i }
 
+-- a slot has thirteen bytes
 pub lengthSlot : (x : Report) → length (slotBytes x) ≡ slotSize
 lengthSlot x = ap suc (length-append (digits 4 (x .view)) (digits 8 (x .plan)) ∙ (λ i. length-digits 4 (x .view) i + length-digits 8 (x .plan) i))
 
@@ -148,6 +153,7 @@ slotStores s at x h =
     ∙ ap (λ (n : ℕ). placed (placed s at a) (at + suc n) b) (sym (length-digits 4 (x .view)))
     ∙ placed-more s at a b (omega arith)
 
+-- a slot that is put leaves the length
 pub putSize : (s : List ℕ) (at : ℕ) (x : Report) → at + slotSize ≤ length s → length (placed s at (slotBytes x)) ≡ length s
 putSize s at x room = length-placed s at (slotBytes x) (rw (lengthSlot x) room)
 
@@ -157,15 +163,19 @@ pub putByte : (s : List ℕ) (at : ℕ) (x : Report) (k : ℕ) → at + slotSize
 putByte s at x k room h = placedOther s at (slotBytes x) k (rw (lengthSlot x) room) (rw (lengthSlot x) h)
 
 module _ (s : List ℕ) (i : ℕ) (x : Report) (l : length s ≡ recordSize) (h : i < slotCount) where
+  -- the slot's bytes lie within the record
   room : place i + slotSize ≤ length s
   room = rw l (placeFits i h)
 
+  -- with them put, it has still a record's length
   pub sizeThere : length (placed s (place i) (slotBytes x)) ≡ recordSize
   sizeThere = putSize s (place i) x room ∙ l
 
+  -- a byte outside the slot stays
   byte : (k : ℕ) → (place i ≤ k → place i + slotSize ≤ k) → getD (placed s (place i) (slotBytes x)) k 0 ≡ getD s k 0
   byte k g = putByte s (place i) x k room g
 
+  -- each slot reads as before, and slot i as x
   slots : Small x → (j : ℕ)
       → decodeRecord (placed s (place i) (slotBytes x)) .slots j ≡ slotPut (decodeRecord s .slots) i x j
   unfolding slotPut
@@ -190,6 +200,7 @@ module _ (s : List ℕ) (i : ℕ) (x : Report) (l : length s ≡ recordSize) (h 
           ∙ slotThere (placed s (place i) (slotBytes x)) i h ∙ slotPutAt s (place i) x room z
       go false e = other (ltb j slotCount) refl (eqb-false i j e)
 
+  -- settings and current view stay, as the head is outside every slot
   head : (k : ℕ) → k < headSize → getD (placed s (place i) (slotBytes x)) k 0 ≡ getD s k 0
   head k b = byte k (headApart i k b)
 
@@ -213,6 +224,7 @@ module _ (s : List ℕ) (i : ℕ) (x : Report) (l : length s ≡ recordSize) (h 
         slots = λ j. all j k;
       }
 
+  -- the bytes then hold the record with that slot
   pub holdsThere : Small x → Holds (placed s (place i) (slotBytes x)) (withSlot (decodeRecord s) i x)
   holdsThere z = record { size = sizeThere; is = putThere z }
 
@@ -223,12 +235,15 @@ pub placeLow : (i : ℕ) → headSize ≤ place i
 placeLow i = placeCases i (λ p. headSize ≤ p) (λ (g : i < rows). omega arith) (λ (g : rows ≤ i). omega arith)
 
 module _ (s : List ℕ) (v : ℕ) (l : length s ≡ recordSize) where
+  -- the view's four bytes lie within the record
   viewRoom : viewPlace + length (digits 4 v) ≤ length s
   viewRoom = rw (length-digits, l) (omega arith)
 
+  -- a byte outside them stays
   viewByte : (k : ℕ) → (viewPlace ≤ k → headSize ≤ k) → getD (placed s viewPlace (digits 4 v)) k 0 ≡ getD s k 0
   viewByte k h = placedOther s viewPlace (digits 4 v) k viewRoom (rw length-digits h)
 
+  -- every slot stays, as it stands behind the head
   viewSlot : (i : ℕ) → slotIn (placed s viewPlace (digits 4 v)) (place i) ≡ slotIn s (place i)
   viewSlot i =
       slotBytesSame (placed s viewPlace (digits 4 v)) s (place i)
@@ -252,6 +267,7 @@ module _ (s : List ℕ) (v : ℕ) (l : length s ≡ recordSize) where
         slots = λ i. cond (ltb i slotCount) (viewSlot i k) emptySlot;
       }
 
+  -- the bytes then hold the record at that view
   pub holdsView : v < 256 ^ 4 → Holds (placed s viewPlace (digits 4 v)) (withView (decodeRecord s) v)
   holdsView z = record { size = length-placed s viewPlace (digits 4 v) viewRoom ∙ l; is = putView z }
 
@@ -263,9 +279,11 @@ settingBytes z set = sets z 0 (set .n ∷ set .f ∷ set .id ∷ set .class ∷ 
 
 -- settings and a starting plan in bytes that are all 0
 module _ (z : List ℕ) (set : Settings) (plan : ℕ) (l : length z ≡ recordSize) (zeros : (k : ℕ) → getD z k 0 ≡ 0) where
+  -- the starting plan's eight bytes lie within the record
   planRoom : sharedSize + length (digits 8 plan) ≤ length (settingBytes z set)
   planRoom = rw (length-digits, length-sets z 0 (set .n ∷ set .f ∷ set .id ∷ set .class ∷ []), l) (omega arith)
 
+  -- a byte outside them is as it was before the plan was put
   freshByte : (k : ℕ) → (sharedSize ≤ k → sharedSize + headSize ≤ k)
       → getD (placed (settingBytes z set) sharedSize (digits 8 plan)) k 0 ≡ getD (settingBytes z set) k 0
   freshByte k h = placedOther (settingBytes z set) sharedSize (digits 8 plan) k planRoom (rw length-digits h)
@@ -276,6 +294,7 @@ module _ (z : List ℕ) (set : Settings) (plan : ℕ) (l : length z ≡ recordSi
   freshZero k a h =
       freshByte k h ∙ setsOther (set .n ∷ set .f ∷ set .id ∷ set .class ∷ []) z 0 k (λ (g : 0 ≤ k). omega arith) ∙ zeros k
 
+  -- the first four bytes are the settings
   freshSet : (k : ℕ) → k < 4
       → getD (placed (settingBytes z set) sharedSize (digits 8 plan)) k 0 ≡ getD (set .n ∷ set .f ∷ set .id ∷ set .class ∷ drop 4 z) k 0
   unfolding placed
@@ -283,6 +302,7 @@ module _ (z : List ℕ) (set : Settings) (plan : ℕ) (l : length z ≡ recordSi
       freshByte k (λ (g : sharedSize ≤ k). omega arith)
       ∙ ap (λ (x : List ℕ). getD x k 0) (placed-sets z 0 (set .n ∷ set .f ∷ set .id ∷ set .class ∷ []) (omega arith))
 
+  -- every slot is empty
   freshSlot : (i : ℕ) → cond (ltb i slotCount) (slotIn (placed (settingBytes z set) sharedSize (digits 8 plan)) (place i)) emptySlot ≡ emptySlot
   freshSlot i = go (ltb i slotCount)
     where
@@ -298,6 +318,7 @@ module _ (z : List ℕ) (set : Settings) (plan : ℕ) (l : length z ≡ recordSi
           λ k. record { mark = m k; view = v k; plan = p k }
       go false = refl
 
+  -- settings and plan put into zeros are the record that start begins with
   pub putFresh : plan < 256 ^ 8 → decodeRecord (placed (settingBytes z set) sharedSize (digits 8 plan)) ≡ fresh set plan
   unfolding decodeRecord fresh
   putFresh small =
@@ -317,6 +338,7 @@ module _ (z : List ℕ) (set : Settings) (plan : ℕ) (l : length z ≡ recordSi
         slots = λ i. freshSlot i k;
       }
 
+  -- the bytes then hold that record
   pub holdsFresh : plan < 256 ^ 8 → Holds (placed (settingBytes z set) sharedSize (digits 8 plan)) (fresh set plan)
   holdsFresh small = record {
     size = length-placed (settingBytes z set) sharedSize (digits 8 plan) planRoom
@@ -326,6 +348,7 @@ module _ (z : List ℕ) (set : Settings) (plan : ℕ) (l : length z ≡ recordSi
 
 -- ---- widths
 
+-- a slot that is read from bytes has its widths
 pub smallIn : (s : List ℕ) (at : ℕ) → Bytes s → Small (slotIn s at)
 smallIn s at b = record { mark = b at; view = number-below 4 s (at + 1) b; plan = number-below 8 s (at + 5) b }
 
@@ -338,6 +361,7 @@ smallSlots s b i = go (ltb i slotCount)
     go true = smallIn s (place i) b
     go false = record { mark = omega arith; view = omega arith; plan = omega arith }
 
+-- a record that is read from bytes has its widths, and nothing beyond the last slot
 pub fitsDecoded : (s : List ℕ) → Bytes s → Fits (decodeRecord s)
 unfolding decodeRecord
 fitsDecoded s b = record {

@@ -27,35 +27,42 @@ use Rattle.layout.proofs.Laws.{placeShared, placeBlock, slotThere, slot
 
 -- ---- lengths
 
+-- k slots end to end have 13 k bytes
 pub lengthSlots : (slots : ℕ → Report) (from k : ℕ) → length (spelledSlots slots from k) ≡ slotSize * k
 unfolding spelledSlots
 lengthSlots slots from zero = refl
 lengthSlots slots from (suc k) = rw (length-append, lengthSlots slots from k, lengthSlot (slots (from + k)), mul-suc)
 
+-- the shared part has its size
 pub lengthShared : (r : Record) → length (sharedOf r) ≡ sharedSize
 unfolding sharedOf
 lengthShared r = simp (length-append, length-digits, lengthSlots (r .slots) 0 rows)
 
+-- the block has its size
 pub lengthBlock : (r : Record) → length (blockOf r) ≡ blockSize
 unfolding blockOf
 lengthBlock r = simp (length-append, length-digits, lengthSlots (r .slots) rows (slotCount - rows))
 
+-- what is written has a record's length
 pub encodeSize : (r : Record) → length (encodeRecord r) ≡ recordSize
 unfolding encodeRecord
 encodeSize r = length-append (sharedOf r) (blockOf r) ∙ (λ i. lengthShared r i + lengthBlock r i)
 
 -- ---- what is written is bytes
 
+-- a slot's bytes, where its numbers have their widths
 bytesSlot : (x : Report) → Small x → Bytes (slotBytes x)
 bytesSlot x z zero = z .mark
 bytesSlot x z (suc i) = bytes-append (digits 4 (x .view)) (digits 8 (x .plan)) (bytes-digits 4 (x .view)) (bytes-digits 8 (x .plan)) i
 
+-- those of slots end to end
 bytesSlots : (slots : ℕ → Report) (from k : ℕ) → ((i : ℕ) → Small (slots i)) → Bytes (spelledSlots slots from k)
 unfolding spelledSlots
 bytesSlots slots from zero z i = omega arith
 bytesSlots slots from (suc k) z i =
     bytes-append (spelledSlots slots from k) (slotBytes (slots (from + k))) (bytesSlots slots from k z) (bytesSlot (slots (from + k)) (z (from + k))) i
 
+-- and those of the whole record: each element that is written is below 256
 pub encodeBytes : (r : Record) → Fits r → Bytes (encodeRecord r)
 unfolding encodeRecord sharedOf blockOf
 encodeBytes r z = bytes-append (sharedOf r) (blockOf r) shared block
@@ -100,6 +107,7 @@ readSlots slots from (suc k) j p t z h =
         ∙ ap (λ (n : ℕ). slots (from + n)) (sym e)
 
 module _ (r : Record) (z : Fits r) where
+  -- the current view is read back
   viewRead : numberAt 4 (encodeRecord r) viewPlace ≡ r .view
   unfolding encodeRecord sharedOf
   viewRead =
@@ -107,12 +115,14 @@ module _ (r : Record) (z : Fits r) where
       rw (append-assoc (digits 4 (r .view)))
       (number-digits 4 (r .view) four (spelledSlots (r .slots) 0 rows ++ blockOf r) (z .view))
 
+  -- the starting plan is read back
   planRead : numberAt 8 (encodeRecord r) sharedSize ≡ r .plan
   unfolding encodeRecord blockOf
   planRead =
       ap (numberAt 8 (sharedOf r ++ blockOf r)) (sym (lengthShared r))
       ∙ number-digits 8 (r .plan) (sharedOf r) (spelledSlots (r .slots) rows (slotCount - rows)) (z .plan)
 
+  -- a slot of the shared part is read back
   sharedRead : (i : ℕ) → i < rows → slotIn (encodeRecord r) (place i) ≡ r .slots i
   unfolding encodeRecord sharedOf digits
   sharedRead i h =
@@ -120,6 +130,7 @@ module _ (r : Record) (z : Fits r) where
       let a = append-assoc head (spelledSlots (r .slots) 0 rows) (blockOf r) in
       (λ k. slotIn (a k) (placeShared i h k)) ∙ readSlots (r .slots) 0 rows i head (blockOf r) (z .slots) h ∙ ap (r .slots) (omega arith)
 
+  -- a slot of the block is read back
   blockRead : (i : ℕ) → rows ≤ i → i < slotCount → slotIn (encodeRecord r) (place i) ≡ r .slots i
   unfolding encodeRecord blockOf
   blockRead i low high =
@@ -133,6 +144,7 @@ module _ (r : Record) (z : Fits r) where
       let from : rows + j ≡ i = omega arith in
       (λ k. slotIn (a k) (at k)) ∙ readSlots (r .slots) rows (slotCount - rows) j head [] (z .slots) (omega arith) ∙ ap (r .slots) from
 
+  -- so every slot is, and beyond the last both are empty
   slotRead : (i : ℕ) → decodeRecord (encodeRecord r) .slots i ≡ r .slots i
   slotRead i = go (ltb i slotCount) refl (ltb i rows) refl
     where
@@ -144,10 +156,12 @@ module _ (r : Record) (z : Fits r) where
           let h : slotCount ≤ i = ltb-false i slotCount e in
           slotBeyond (encodeRecord r) i h ∙ sym (z .beyond i h)
 
+  -- the settings are read back
   setRead : decodeRecord (encodeRecord r) .set ≡ r .set
   unfolding decodeRecord encodeRecord sharedOf
   setRead = refl
 
+  -- a record that is written is read back
   pub decodeEncode : decodeRecord (encodeRecord r) ≡ r
   unfolding decodeRecord
   decodeEncode =
@@ -159,6 +173,7 @@ module _ (r : Record) (z : Fits r) where
 
 -- ---- read, then written
 
+-- a slot that is read is written as its thirteen bytes stood
 slotWritten : (s : List ℕ) (at : ℕ) → Bytes s → at + slotSize ≤ length s → slotBytes (slotIn s at) ≡ take slotSize (drop at s)
 slotWritten s at b h =
     let v : digits 4 (numberAt 4 s (at + 1)) ≡ take 4 (drop (at + 1) s) = digits-number 4 s (at + 1) b (omega arith) in
@@ -185,6 +200,7 @@ slotsWritten s slots from base (suc k) b h es =
     ∙ ap (λ (l : List ℕ). take (slotSize * k) (drop base s) ++ take slotSize l) (drop-drop (slotSize * k) base s))
 
 module _ (s : List ℕ) (b : Bytes s) (l : length s ≡ recordSize) where
+  -- the shared part's head is written as it stood
   headWritten : getD s 0 0 ∷ getD s 1 0 ∷ getD s 2 0 ∷ getD s 3 0 ∷ digits 4 (numberAt 4 s viewPlace) ≡ take headSize s
   headWritten =
       let four : s ≡ getD s 0 0 ∷ getD s 1 0 ∷ getD s 2 0 ∷ getD s 3 0 ∷ drop 4 s =
@@ -195,6 +211,7 @@ module _ (s : List ℕ) (b : Bytes s) (l : length s ≡ recordSize) where
       ap (λ (x : List ℕ). getD s 0 0 ∷ getD s 1 0 ∷ getD s 2 0 ∷ getD s 3 0 ∷ x) (digits-number 4 s viewPlace b (omega arith))
       ∙ sym (ap (take headSize) four)
 
+  -- so is the shared part
   sharedWritten : sharedOf (decodeRecord s) ≡ take sharedSize s
   unfolding sharedOf decodeRecord
   sharedWritten =
@@ -207,6 +224,7 @@ module _ (s : List ℕ) (b : Bytes s) (l : length s ≡ recordSize) where
           let e : 0 + j ≡ j = omega arith in
           ap (decodeRecord s .slots) e ∙ slotThere s j (omega arith) ∙ ap (slotIn s) (placeShared j h)
 
+  -- and the block
   blockWritten : blockOf (decodeRecord s) ≡ drop sharedSize s
   unfolding blockOf decodeRecord
   blockWritten =
@@ -223,6 +241,7 @@ module _ (s : List ℕ) (b : Bytes s) (l : length s ≡ recordSize) where
           let e : sharedSize + (headSize + slotSize * (rows + j - rows)) ≡ sharedSize + headSize + slotSize * j = omega arith in
           slotThere s (rows + j) (omega arith) ∙ ap (slotIn s) (placeBlock (rows + j) (omega arith) ∙ e)
 
+  -- bytes of a record's length that are read are written as they stood
   pub encodeDecode : encodeRecord (decodeRecord s) ≡ s
   unfolding encodeRecord
   encodeDecode =
@@ -236,5 +255,6 @@ module _ (s : List ℕ) (b : Bytes s) (l : length s ≡ recordSize) where
 pub oneSpelling : (s t : List ℕ) → Bytes s → Bytes t → length s ≡ recordSize → length t ≡ recordSize → decodeRecord s ≡ decodeRecord t → s ≡ t
 oneSpelling s t b c l m e = sym (encodeDecode s b l) ∙ ap encodeRecord e ∙ encodeDecode t c m
 
+-- bytes that hold the same record are the same bytes, so a contract that says `Holds` fixes every byte
 pub holdsSame : {s t : List ℕ} {r : Record} → Bytes s → Bytes t → Holds s r → Holds t r → s ≡ t
 holdsSame {s} {t} b c g h = oneSpelling s t b c (g .size) (h .size) (g .is ∙ sym (h .is))

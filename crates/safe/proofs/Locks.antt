@@ -31,6 +31,7 @@ use Rattle.claims.proofs.Spans.{spansReach}
 
 -- ---- spans
 
+-- A span counts views below v, so it is at most v.
 pub lockMost : (v : ℕ) (o : Option Report) → lockSpan v o ≤ v
 lockMost v none = omega arith
 lockMost v (some r) = omega arith
@@ -46,9 +47,11 @@ spansLock n f v rs spans are =
 -- ---- the lock of one report
 
 module _ (t : List ℕ) (r : ℕ) (reports : reporter t r ≡ true) where
+  -- The view + 1 of vault r's lock, 0 where it has none.
   abbrev above : ℕ
   above = getD t (column * 5 + r) 0
 
+  -- The plan of its lock.
   abbrev plan : ℕ
   plan = getD t (column * 6 + r) 0
 
@@ -59,10 +62,12 @@ module _ (t : List ℕ) (r : ℕ) (reports : reporter t r ≡ true) where
 
   -- It allows p at view u where it is absent or does not stand against p.
   module _ (u p : ℕ) where
+    -- Whether the report allows p, by its two columns of the table.
     allowsIn : reporting (reportsIn t) (allows p u) r ≡ (isNone (voteOf above plan) || holds (fits p u) (voteOf above plan))
     unfolding reportsIn allows
     allowsIn = rw reports
 
+    -- Where it has a lock, that lock alone decides.
     there : above ≢ 0 → reporting (reportsIn t) (allows p u) r ≡ fits p u (record { view = above - 1; plan = plan })
     unfolding voteOf
     there is = allowsIn ∙ rw (ne-eqb above 0 is)
@@ -98,6 +103,7 @@ unfoldable freshPlan : Reports → ℕ → ℕ
 freshPlan rs zero = 0
 freshPlan rs (suc k) = max (freshPlan rs k) (planBy (λ r. r .lock) 0 (rs k) + 1)
 
+-- It is above the plan of each of those locks, so it is none of them.
 freshAbove : (rs : Reports) (k i : ℕ) → i < k → planBy (λ r. r .lock) 0 (rs i) < freshPlan rs k
 unfolding freshPlan
 freshAbove rs zero i low = absurd (omega arith)
@@ -127,25 +133,30 @@ otherLock (some x) p u less h =
     go le (inr same) = let e : x .plan ≡ p = eqb-true (x .plan) p same in absurd (omega arith)
 
 module _ (vs : Vaults) (rs : Reports) (v u : ℕ) (l : Lowest vs rs v u) where
+  -- A plan that no lock is for.
   abbrev fresh : ℕ
   fresh = freshPlan rs (vs .n)
 
+  -- With no quorum cleared at a view, none is at an earlier one, so `lowestView` may count them.
   lockedFalls : Falls (λ w. not (cleared vs rs w))
   unfolding cleared
   lockedFalls a b le h =
       ap not (notTrue (cleared vs rs b) (λ at. clash
       (enoughReports vs (isQuorum vs) (quorumByWeight vs) rs (under b) (under a) (λ i low r is. underRises r b a le) at) (not-true _ h)))
 
+  -- A report that allows the fresh plan at u has no lock, or one below u.
   lockBelow : (i : ℕ) → i < vs .n → (r : Report) → rs i ≡ some r → allows fresh u r ≡ true → (unlocked r ≡ true) ⊎ (viewOf (r .lock) < u)
   unfolding allows unlocked
   lockBelow i low r is h = otherLock (r .lock) fresh u (rw is at (freshAbove rs (vs .n) i low)) h
 
+  -- If a quorum allowed the fresh plan at view 0, that quorum would have no lock at all.
   atStart : u ≡ 0 → allowed vs rs fresh u ≡ true → free vs rs ≡ true
   unfolding allowed free
   atStart first h =
       enoughReports vs (isQuorum vs) (quorumByWeight vs) rs (allows fresh u) unlocked
       (λ i low r is a. ⊎-elim (λ none. none) (λ (less : viewOf (r .lock) < u). absurd (omega arith)) (lockBelow i low r is a)) h
 
+  -- If a quorum allowed it at a later u, that quorum would be cleared one view earlier.
   before : u ≢ 0 → allowed vs rs fresh u ≡ true → cleared vs rs (u - 1) ≡ true
   unfolding allowed cleared under unlocked
   before later h =

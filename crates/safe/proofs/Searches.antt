@@ -39,9 +39,11 @@ use Rattle.safe.proofs.Locks.{someBlocked}
 -- ---- the views that serve a plan
 
 module _ (plans : List ℕ) (c : Search) (p : ℕ) (below : c .u < c .v) where
+  -- Plan p is claimed at view w, by the rows.
   abbrev test : ℕ → Bool
   test w = claimedIn plans c p w
 
+  -- The view that the search for p finds between `low` and `end`, v where it finds none.
   abbrev serving : ℕ → ℕ → ℕ
   serving low end = servingView test low (c .v) end
 
@@ -49,6 +51,7 @@ module _ (plans : List ℕ) (c : Search) (p : ℕ) (below : c .u < c .v) where
   last : (w : ℕ) → serving w (suc w) ≡ cond (test w) w (c .v)
   last w = servingNext test w (c .v) (suc w) w refl (omega arith) ∙ ap (λ (x : ℕ). cond (test w) w x) (servingNone test w (c .v) w (omega arith))
 
+  -- The search has found w just where the test at w passed, as v itself is never found.
   passed : (w : ℕ) → w < c .v → (b : Bool) → ltb (cond b w (c .v)) (c .v) ≡ b
   passed w low true = lt-ltb w (c .v) low
   passed w low false = le-ltb (c .v) (c .v) (omega arith)
@@ -116,9 +119,11 @@ module _ (plans : List ℕ) (c : Search) (w : ℕ) (spare : Option ℕ) where
   abbrev pub NonePass : ℕ → Type 0
   NonePass k = (j : ℕ) → j < k → tried (getD plans (placeAt c w + j) 0) ≡ false
 
+  -- A first plan that is not served does not pass.
   pub untriedFirst : (first : ℕ) → servedFrom plans c w first ≡ false → tried first ≡ false
   untriedFirst first never = notTrue _ (λ h. clash (bothSplit (apart first spare) _ h .1) never)
 
+  -- One more plan of the row does not pass: the loop goes on.
   pub nonePassMore : (k x : ℕ) → x ≡ getD plans (placeAt c w + k) 0 → tried x ≡ false → NonePass k → NonePass (k + 1)
   nonePassMore k x is fails before j low = go (ℕ-discrete j k)
     where
@@ -128,12 +133,15 @@ module _ (plans : List ℕ) (c : Search) (w : ℕ) (spare : Option ℕ) where
 
   -- Neither the first plan nor one of the row passes: none is claimed but that left out.
   module _ (served : (x : ℕ) → servedFrom plans c w x ≡ claimedIn plans c x w) (first : ℕ) (off : apart first spare ≡ true) where
+    -- The first plan is served: it is claimed at w and not left out.
     pub foundFirst : servedFrom plans c w first ≡ true → (apart first spare && claimedIn plans c first w) ≡ true
     foundFirst h = bothJoin (apart first spare) _ off (sym (served first) ∙ h)
 
+    -- The same of a plan of the row that passes.
     pub foundOther : (x : ℕ) → tried x ≡ true → (apart x spare && claimedIn plans c x w) ≡ true
     foundOther x h = sym (ap (λ (b : Bool). apart x spare && b) (served x)) ∙ h
 
+    -- Where all plans of the row were tried, no plan at all is claimed but the one left out.
     pub noneFound : (k : ℕ) → tallyAt c w .some ≤ k → servedFrom plans c w first ≡ false → NonePass k
         → (x : ℕ) → (apart x spare && claimedIn plans c x w) ≡ false
     unfolding claimedIn
@@ -152,6 +160,7 @@ module _ (plans : List ℕ) (c : Search) (w : ℕ) (spare : Option ℕ) where
 pub endNext : (c : Search) → c .u + 1 < c .v → c .u + 1 < endOf c
 endNext c low = rw (lt-ltb (c .u + 1) (c .v) low) (omega arith)
 
+-- View u is a candidate.
 pub endHere : (c : Search) → c .u < c .v → c .u < endOf c
 endHere c below = go (ltb (c .u + 1) (c .v))
   where
@@ -199,17 +208,21 @@ prepares rs c first second third most few below size here same next again locks 
     fits low = (omega arith, omega arith)
 
 module _ (rs : Reports) (c : Search) (plans : List ℕ) (ready : Prepared rs c plans) where
+  -- The vaults of the search, each of weight 1.
   abbrev vs : Vaults
   vs = equals (c .n) (c .f)
 
+  -- Claimed at u by the rows is claimed at u by the rules.
   claimedHere : (p : ℕ) → claimedIn plans c p (c .u) ≡ claimed vs rs p (c .u)
   unfolding claimedIn claimed isBlocking
   claimedHere p = rw (eq-eqb (c .u) (c .u) refl) (ap (leb (c .f + 1)) (ready .here .tells p))
 
+  -- The same at the next view.
   claimedNext : (p : ℕ) → claimedIn plans c p (c .u + 1) ≡ claimed vs rs p (c .u + 1)
   unfolding claimedIn claimed isBlocking
   claimedNext p = rw (ne-eqb (c .u + 1) (c .u) (λ (e : c .u + 1 ≡ c .u). omega arith)) (ap (leb (c .f + 1)) (ready .next .tells p))
 
+  -- Allowed at u by the rows is allowed at u by the rules.
   pub allowedSame : (p : ℕ) → allowedIn plans c p ≡ allowed vs rs p (c .u)
   unfolding allowedIn allowed
   allowedSame p = quorumCount (c .n) (c .f) (reporting rs (allows p (c .u))) (forPlan plans lockRow (c .locks) p) (ready .locks .tells p)
@@ -247,9 +260,11 @@ module _ (rs : Reports) (c : Search) (plans : List ℕ) (ready : Prepared rs c p
 
     -- By Rule 3 the two-set clause backs a plan where the claims do not.
     module _ (p : ℕ) (never : safeIn plans c p ≡ false) where
+      -- The plan is not safe by Rule 1, so neither view's claims back it.
       unsafe : safe rule1 vs rs (c .v) p ≡ false
       unsafe = sym (safeSame p) ∙ never
 
+      -- Where the locks at u allow the plan, the two-set clause at u decides.
       pub threeFirst : (b : Bool) → allowedIn plans c p ≡ true → b ≡ twoSets vs rs (c .v) (c .u) → b ≡ safe rule3 vs rs (c .v) p
       unfolding backed
       threeFirst b allow is =
@@ -257,6 +272,7 @@ module _ (rs : Reports) (c : Search) (plans : List ℕ) (ready : Prepared rs c p
           is ∙ sym (ap (λ (t : Bool). t || twoSets vs rs (c .v) (c .u)) (sym (firstServes vs rs (c .v) rule1 p (c .u) l at) ∙ unsafe))
           ∙ sym (firstServes vs rs (c .v) rule3 p (c .u) l at)
 
+      -- Where they do not, the two-set clause at the next view decides.
       pub threeNext : (b : Bool) → allowedIn plans c p ≡ false → c .u + 1 < c .v → b ≡ twoSets vs rs (c .v) (c .u + 1) → b ≡ safe rule3 vs rs (c .v) p
       unfolding backed
       threeNext b block low is =
@@ -293,6 +309,7 @@ module _ (rs : Reports) (c : Search) (plans : List ℕ) (ready : Prepared rs c p
     abbrev by : Bool → ℕ → Bool
     by allow p = cond allow (servedFrom plans c (c .u) p) (servedFrom plans c (c .u + 1) p)
 
+    -- With the locks' answer known, being served is being safe by Rule 1.
     bySafe : (b : Bool) (p : ℕ) → allowedIn plans c p ≡ b → by b p ≡ safe rule1 vs rs (c .v) p
     bySafe b p is = sym (ap (λ (t : Bool). by t p) is) ∙ safeSame p
 
@@ -300,6 +317,7 @@ module _ (rs : Reports) (c : Search) (plans : List ℕ) (ready : Prepared rs c p
     lockSafe : (p : ℕ) → passesIn plans c true p ≡ true → safe rule1 vs rs (c .v) p ≡ true
     lockSafe p h = let (allow, at) = bothSplit (allowedIn plans c p) _ h in sym (bySafe true p allow) ∙ at
 
+    -- The same of a plan of a vote: what the next view serves, view u serves where its locks allow it.
     voteSafe : (p : ℕ) → passesIn plans c false p ≡ true → safe rule1 vs rs (c .v) p ≡ true
     voteSafe p h = go (which (allowedIn plans c p))
       where
@@ -310,10 +328,12 @@ module _ (rs : Reports) (c : Search) (plans : List ℕ) (ready : Prepared rs c p
         go (inl allow) = lockSafe p (bothJoin (allowedIn plans c p) _ allow (servedHere plans c p (l .below) falling ∙ claims))
         go (inr off) = sym (bySafe false p off) ∙ h
 
+    -- Both together: whichever row a passing plan is from, it is safe.
     passesSafe : (locked : Bool) (p : ℕ) → passesIn plans c locked p ≡ true → safe rule1 vs rs (c .v) p ≡ true
     passesSafe true p = lockSafe p
     passesSafe false p = voteSafe p
 
+    -- And a safe plan passes as one of a lock or as one of a vote.
     safePasses : (p : ℕ) → safe rule1 vs rs (c .v) p ≡ true → (passesIn plans c true p ≡ true) ⊎ (passesIn plans c false p ≡ true)
     safePasses p h = go (which (allowedIn plans c p))
       where
@@ -354,6 +374,7 @@ pub smallerTaken : (x : ℕ) (o : Option ℕ) → better x o ≡ true → some x
 smallerTaken x none h = refl
 smallerTaken x (some y) h = let e : x ≡ min x y = omega (arith, ltb-true x y h) in ap some e
 
+-- The best so far stays where x is not smaller, so x need not be tested.
 pub smallerKept : (x : ℕ) (b : Bool) (o : Option ℕ) → better x o ≡ false → o ≡ smaller b x o
 smallerKept x b none h = absurd (false≢true (sym h))
 smallerKept x true (some y) h = let e : y ≡ min x y = omega (arith, ltb-false x y h) in ap some e
@@ -372,6 +393,7 @@ smallerTwice x b o next is = ap (smaller b x) is ∙ go b o ∙ sym is
 noneSome : {y : ℕ} → Path (Option ℕ) none (some y) → ⊥
 noneSome e = false≢true (sym (ap isNone e))
 
+-- Two plans that are there are the same where their options are.
 someSame : {x y : ℕ} → Path (Option ℕ) (some x) (some y) → x ≡ y
 someSame e = ap planIn e
   where
@@ -383,15 +405,18 @@ someSame e = ap planIn e
 abbrev Under : Option ℕ → ℕ → Type 0
 Under o x = (y : ℕ) × (o ≡ some y) × (y ≤ x)
 
+-- Trying one more plan leaves what is found at z or below.
 smallerUnder : (b : Bool) (x z : ℕ) (o : Option ℕ) → Under o z → Under (smaller b x o) z
 smallerUnder false x z o u = u
 smallerUnder true x z none u = absurd (noneSome (u .1))
 smallerUnder true x z (some w) u = (min x w, refl, omega (arith, someSame (u .1), u .2))
 
+-- A plan that passes leaves what is found at it or below.
 smallerAt : (x : ℕ) (o : Option ℕ) → Under (smaller true x o) x
 smallerAt x none = (x, refl, omega arith)
 smallerAt x (some y) = (min x y, refl, omega arith)
 
+-- What is found is what was found before, or the plan just tried.
 smallerIs : (b : Bool) (x y : ℕ) (o : Option ℕ) → smaller b x o ≡ some y → (o ≡ some y) ⊎ ((b ≡ true) × (x ≡ y))
 smallerIs false x y o is = inl is
 smallerIs true x y none is = inr (refl, someSame is)
@@ -402,10 +427,12 @@ smallerIs true x y (some z) is = go (ℕ-discrete (min x z) z) (someSame is)
     go (no high) e = let same : min x z ≡ x = omega arith in inr (refl, sym same ∙ e)
 
 module _ (best : Option ℕ) (test : ℕ → Bool) (plan : ℕ → ℕ) where
+  -- One plan more, as the definition has it.
   pub smallestMore : (k : ℕ) → smallestFrom best test plan (k + 1) ≡ smaller (test (plan k)) (plan k) (smallestFrom best test plan k)
   unfolding smallestFrom
   smallestMore k = rw add-one
 
+  -- Before the first plan the best is what was given.
   pub smallestStart : best ≡ smallestFrom best test plan 0
   unfolding smallestFrom
   smallestStart = refl
@@ -416,6 +443,7 @@ module _ (best : Option ℕ) (test : ℕ → Bool) (plan : ℕ → ℕ) where
   fromBest z zero u = u
   fromBest z (suc k) u = smallerUnder (test (plan k)) (plan k) z (smallestFrom best test plan k) (fromBest z k u)
 
+  -- The second part: not above a plan tried that passes.
   fromTried : (k j : ℕ) → j < k → test (plan j) ≡ true → Under (smallestFrom best test plan k) (plan j)
   unfolding smallestFrom
   fromTried zero j low h = absurd (omega arith)
@@ -428,6 +456,7 @@ module _ (best : Option ℕ) (test : ℕ → Bool) (plan : ℕ → ℕ) where
           rw (same, at) (smallerAt (plan k) (smallestFrom best test plan k))
       go (no differ) rest = smallerUnder (test (plan k)) (plan k) (plan j) (smallestFrom best test plan k) (rest (omega arith) h)
 
+  -- The third: it is the best before, or it passes.
   fromWhere : (k y : ℕ) → smallestFrom best test plan k ≡ some y → (best ≡ some y) ⊎ (test y ≡ true)
   unfolding smallestFrom
   fromWhere zero y is = inl is
@@ -451,6 +480,7 @@ triedFits c plans false at count l is all = (omega arith, omega (arith, l .next)
 
 module _ (rs : Reports) (c : Search) (plans : List ℕ) (ready : Prepared rs c plans) (l : Lowest (equals (c .n) (c .f)) rs (c .v) (c .u)) (start : ℕ)
     (never : safeIn plans c start ≡ false) where
+  -- The smallest of the locks' plans that pass, with which the votes' plans begin.
   abbrev locked : Option ℕ
   locked = smallestFrom none (passesIn plans c true) (λ i. getD plans (lockRow + i) 0) (c .locks .some)
 
@@ -471,6 +501,7 @@ module _ (rs : Reports) (c : Search) (plans : List ℕ) (ready : Prepared rs c p
           subst (λ (y : ℕ). Under (smallestOf plans c) y) is (fromTried locked (passesIn plans c false) (λ i. getD plans (column + i) 0) (c .next .some) j low
           (subst (λ (y : ℕ). passesIn plans c false y ≡ true) (sym is) h))
 
+  -- What is found is safe by Rule 1.
   foundSafe : (y : ℕ) → smallestOf plans c ≡ some y → Safe rule1 (equals (c .n) (c .f)) rs (c .v) y
   foundSafe y is =
       safeIff (equals (c .n) (c .f)) rs rule1 (c .v) y .1
@@ -481,6 +512,7 @@ module _ (rs : Reports) (c : Search) (plans : List ℕ) (ready : Prepared rs c p
           ⊎-elim (λ no. absurd (noneSome no)) (passesSafe rs c plans ready l true y)
           (fromWhere none (passesIn plans c true) (λ i. getD plans (lockRow + i) 0) (c .locks .some) y e)
 
+  -- So it is 'the smallest safe plan', and where nothing is found no plan is safe.
   isSmallest : (o : Option ℕ) → smallestOf plans c ≡ o → IsSmallest (equals (c .n) (c .f)) rs (c .v) o
   isSmallest none e = λ x s. let (y, is, le) = allUnder x s in noneSome (sym e ∙ is)
   isSmallest (some p) e = (foundSafe p e, λ x s. least (allUnder x s))
@@ -488,6 +520,7 @@ module _ (rs : Reports) (c : Search) (plans : List ℕ) (ready : Prepared rs c p
       least : {x : ℕ} → Under (smallestOf plans c) x → p ≤ x
       least u = omega (arith, someSame (sym e ∙ u .1), u .2)
 
+  -- The starting plan is not safe: the choice is what is found.
   pub choiceOther : smallestOf plans c ≡ choice (equals (c .n) (c .f)) rs (c .v) start
   choiceOther =
       chosenOne (equals (c .n) (c .f)) rs (c .v) start (other unsafe (isSmallest (smallestOf plans c) refl)) (choiceIs (equals (c .n) (c .f)) rs (c .v) start)
@@ -503,6 +536,7 @@ module _ (vs : Vaults) (rs : Reports) (v : ℕ) where
   unfolding safe
   safeStart rule p e = rw (eq-eqb v 0 e)
 
+  -- The second half: a quorum without a lock makes every plan safe.
   pub safeFree : (rule : Rule) (p : ℕ) → free vs rs ≡ true → true ≡ safe rule vs rs v p
   unfolding safe
   safeFree rule p e = go (eqb v 0)
@@ -515,6 +549,7 @@ module _ (vs : Vaults) (rs : Reports) (v : ℕ) where
   pub byRule : (p : ℕ) (three set b : Bool) → three ≡ set → b ≡ safe (ruleOf set) vs rs v p → b ≡ safe (ruleOf three) vs rs v p
   byRule p three set b same is = is ∙ ap (λ (t : Bool). safe (ruleOf t) vs rs v p) (sym same)
 
+  -- A safe starting plan is the choice.
   pub choiceStart : (start : ℕ) → true ≡ safe rule1 vs rs v start → some start ≡ choice vs rs v start
   unfolding choice
   choiceStart start e = rw (sym e)
@@ -530,14 +565,18 @@ module _ (vs : Vaults) (rs : Reports) (v : ℕ) where
 -- The search's numbers are those of the call.
 module _ (rs : Reports) (c : Search) (plans : List ℕ) (ready : Prepared rs c plans) (n f u v : ℕ)
     (en : c .n ≡ n) (ef : c .f ≡ f) (eu : c .u ≡ u) (ev : c .v ≡ v) (l : Lowest (equals n f) rs v u) where
+  -- The lowest view of the call is the search's.
   pub lowestIn : Lowest (equals (c .n) (c .f)) rs (c .v) (c .u)
   lowestIn = rw (en, ef, eu, ev) l
 
+  -- The search's answer by Rule 1 is the call's.
   pub oneSame : (p : ℕ) (b : Bool) → b ≡ safeIn plans c p → b ≡ safe rule1 (equals n f) rs v p
   oneSame p b is = is ∙ safeSame rs c plans ready lowestIn p ∙ rw (en, ef, ev)
 
+  -- The search's answer by Rule 3 is the call's.
   pub threeSame : (p : ℕ) (b : Bool) → b ≡ safe rule3 (equals (c .n) (c .f)) rs (c .v) p → b ≡ safe rule3 (equals n f) rs v p
   threeSame p b is = is ∙ rw (en, ef, ev)
 
+  -- The plan that the search finds, where the starting plan is not safe, is the call's choice.
   pub choiceSame : (start : ℕ) (o : Option ℕ) → safeIn plans c start ≡ false → o ≡ smallestOf plans c → o ≡ choice (equals n f) rs v start
   choiceSame start o never is = is ∙ choiceOther rs c plans ready lowestIn start never ∙ rw (en, ef, ev)

@@ -14,6 +14,7 @@ use Rattle.settings.specs.declared.Settings.{Settings}
 use Rattle.settings.specs.Settings.{settingRows}
 use Rattle.settings.specs.inside.Allowed.{Allowed}
 
+-- Settings for which rows 5 to 8 give nothing are in range.
 pub allowed : (s : Settings) → first (settingRows s) ≡ 0 → Allowed s
 allowed s e =
     let n : ℕ = s .n in

@@ -5,6 +5,7 @@ use Prim.Native.Nat.{ℕ, zero, suc, _≤_}
 use native.Mathlib.Omega.{arith}
 use Rattle.settings.specs.Settings.{delayOf}
 
+-- At most 5000, so `timer_millis` can multiply by 9 without overflow.
 pub delay-below : (class : ℕ) → delayOf class ≤ 5000
 unfolding delayOf
 delay-below zero = omega arith

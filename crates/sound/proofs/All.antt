@@ -16,28 +16,34 @@ use Rattle.wire.specs.Digits.{numberAt}
 use Rattle.frame.proofs.Laws.{both}
 use Rattle.sound.specs.inside.Sound.{all}
 
+-- three tests, bracketed the other way
 andAssoc : (a b c : Bool) → ((a && b) && c) ≡ (a && (b && c))
 andAssoc true b c = refl
 andAssoc false b c = refl
 
+-- two pairs of tests, paired the other way
 andSwap : (a b c d : Bool) → ((a && b) && (c && d)) ≡ ((a && c) && (b && d))
 andSwap true true c d = refl
 andSwap true false true d = refl
 andSwap true false false d = refl
 andSwap false b c d = refl
 
+-- a test that holds may be left out
 pub andTrue : (b : Bool) → (b && true) ≡ b
 andTrue true = refl
 andTrue false = refl
 
+-- a test that fails decides
 pub andFalse : (b : Bool) → (b && false) ≡ false
 andFalse true = refl
 andFalse false = refl
 
+-- one number more
 pub allOne : (f : ℕ → Bool) (n : ℕ) → all f (n + 1) ≡ (all f n && f n)
 unfolding all
 allOne f n = rw add-one
 
+-- tests that agree below n give the same
 pub allSame : (f g : ℕ → Bool) (n : ℕ) → ((i : ℕ) → i < n → f i ≡ g i) → all f n ≡ all g n
 unfolding all
 allSame f g zero h = refl
@@ -46,16 +52,19 @@ allSame f g (suc n) h =
     let e₁ = h n (omega arith) in
     λ i. e i && e₁ i
 
+-- all of m + k are the first m and the k behind them
 pub allSplit : (f : ℕ → Bool) (m k : ℕ) → all f (m + k) ≡ (all f m && all (λ i. f (m + i)) k)
 unfolding all
 allSplit f m zero = rw add-zero (sym (andTrue (all f m)))
 allSplit f m (suc k) = rw (add-suc, allSplit f m k) (andAssoc (all f m) (all (λ i. f (m + i)) k) (f (m + k)))
 
+-- two tests of each number, one after the other
 pub allBoth : (f g : ℕ → Bool) (n : ℕ) → all (λ i. f i && g i) n ≡ (all f n && all g n)
 unfolding all
 allBoth f g zero = refl
 allBoth f g (suc n) = rw (allBoth f g n) (andSwap (all f n) (all g n) (f n) (g n))
 
+-- what holds of all holds of each
 pub allAt : (f : ℕ → Bool) (n i : ℕ) → all f n ≡ true → i < n → f i ≡ true
 unfolding all
 allAt f zero i e h = absurd (not-suc-le-zero h)
@@ -78,11 +87,13 @@ step m d = go (eqb m 0) refl (eqb d 0) refl
     go true p false q = ne-eqb (m * 256 + d) 0 (λ (e : m * 256 + d ≡ 0). let y : d ≡ 0 = omega arith in eqb-false d 0 q y)
     go false p b q = ne-eqb (m * 256 + d) 0 (λ (e : m * 256 + d ≡ 0). let y : m ≡ 0 = omega arith in eqb-false m 0 p y)
 
+-- a number is 0 just where each of its bytes is, so an absent slot is zero bytes
 pub numberZero : (w : ℕ) (s : List ℕ) (at : ℕ) → eqb (numberAt w s at) 0 ≡ all (λ j. eqb (getD s (at + j) 0) 0) w
 unfolding numberAt all
 numberZero zero s at = refl
 numberZero (suc w) s at = step (numberAt w s at) (getD s (at + w) 0) ∙ ap (λ (b : Bool). b && eqb (getD s (at + w) 0) 0) (numberZero w s at)
 
+-- the larger of two is 0 just where both are: the first is the larger
 pub largerLeft : (a b : ℕ) → b ≤ a → eqb a 0 ≡ (eqb a 0 && eqb b 0)
 largerLeft a b h = go (eqb a 0) refl
   where
@@ -90,6 +101,7 @@ largerLeft a b h = go (eqb a 0) refl
     go true e = sym (eq-eqb b 0 (let x = eqb-true a 0 e in omega arith))
     go false e = refl
 
+-- and where the second is
 pub largerRight : (a b : ℕ) → a < b → eqb b 0 ≡ (eqb a 0 && eqb b 0)
 largerRight a b h =
     let e : eqb b 0 ≡ false = ne-eqb b 0 (λ (z : b ≡ 0). omega arith) in

@@ -40,6 +40,7 @@ placeFrame kind sender h =
     let e : frameSlot kind 0 + sender ≡ frameSlot kind sender = omega arith in
     sym (placeOn (frameSlot kind 0) sender (λ (g : frameSlot kind 0 < rows). omega arith)) ∙ ap place e
 
+-- report `which` of a sender stands `which` groups and `sender` slots behind the kind's first
 pub placeReport : (kind which sender : ℕ) → place (reportSlot kind 0 0) + slotSize * (which * rows + sender) ≡ place (reportSlot kind which sender)
 placeReport kind which sender =
     let e : reportSlot kind 0 0 + (which * rows + sender) ≡ reportSlot kind which sender = omega arith in
@@ -52,6 +53,7 @@ frameThere s kind sender h e =
     let row = h .row in
     ap (slotIn s) e ∙ sym (slotThere s (frameSlot kind sender) (omega arith))
 
+-- the same of report `which`, as `reports_absent` and `reports_fit` compute its place
 pub reportThere : (s : List ℕ) (kind which sender : ℕ) {at : ℕ} → Place kind sender → which < 3
     → at ≡ place (reportSlot kind 0 sender) + which * groupSize → slotIn s at ≡ slotOf (decodeRecord s) (reportSlot kind which sender)
 reportThere s kind which sender h w e =

@@ -20,6 +20,7 @@ use Rattle.sound.proofs.All.{allSame, allBoth, allSplit, allAt, andTrue
 -- ---- rows where nothing may be kept
 
 module _ (slots : ℕ → Report) (set : Settings) (view kind sender : ℕ) where
+  -- the frame of a place has the place's sender, so it too is at n or above
   own : set .n ≤ sender → set .n ≤ frameIn slots kind sender .sender
   unfolding frameIn
   own h = h
@@ -59,12 +60,14 @@ module _ (slots : ℕ → Report) (set : Settings) (view kind sender : ℕ) wher
 abbrev pub noReport : (ℕ → Report) → ℕ → ℕ → Bool
 noReport slots kind sender = ltb kind 7 || reportsAbsent slots kind sender
 
+-- a test that always holds
 every : (k : ℕ) → all (λ i. true) k ≡ true
 unfolding all
 every zero = refl
 every (suc k) = rw (every k)
 
 module _ (slots : ℕ → Report) (kind : ℕ) where
+  -- with no frame kept for a kind, only the reports are left to ask
   pub kindAbsent : (set : Settings) (view : ℕ) → all (absentFrom slots (frameSlot kind 0)) rows ≡ true
       → kindSound slots set view kind ≡ all (noReport slots kind) rows
   unfolding kindSound
@@ -76,15 +79,18 @@ module _ (slots : ℕ → Report) (kind : ℕ) where
       at : (i : ℕ) → frameSlot kind i ≡ frameSlot kind 0 + i
       at i = omega arith
 
+  -- kinds 1 to 6 have no reports to ask
   pub reportsShort : kind < 7 → (count : ℕ) → all (noReport slots kind) count ≡ true
   reportsShort h count = allSame (noReport slots kind) (λ i. true) count (λ i k. rw (lt-ltb kind 7 h)) ∙ every count
 
 -- ---- a rest that is empty
 
 module _ (slots : ℕ → Report) (kind n count : ℕ) where
+  -- whether row n + i has no report
   others : ℕ → Bool
   others i = noReport slots kind (n + i)
 
+  -- an empty rest is absent frames and absent reports, each tested as one run
   restParts : all (emptyFrom slots kind n) count ≡ (all (absentFrom slots (frameSlot kind 0 + n)) count && all others count)
   unfolding emptyAt others
   restParts =
@@ -96,9 +102,11 @@ module _ (slots : ℕ → Report) (kind n count : ℕ) where
       at : (i : ℕ) → frameSlot kind (n + i) ≡ frameSlot kind 0 + n + i
       at i = omega arith
 
+  -- a frame there: the rest is not empty
   pub restFrames : all (absentFrom slots (frameSlot kind 0 + n)) count ≡ false → all (emptyFrom slots kind n) count ≡ false
   restFrames e = restParts ∙ rw e
 
+  -- no frame there, kinds 1 to 6: the rest is empty
   pub restShort : all (absentFrom slots (frameSlot kind 0 + n)) count ≡ true → kind < 7 → all (emptyFrom slots kind n) count ≡ true
   unfolding others
   restShort e h = restParts ∙ rw e (allSame others (λ i. true) count (λ i k. rw (lt-ltb kind 7 h)) ∙ every count)
@@ -120,6 +128,7 @@ module _ (slots : ℕ → Report) (kind n count : ℕ) where
       group which base p = allSame (λ i. absent (slots (reportSlot kind which (n + i)))) (absentFrom slots base) count
           (λ i k. ap (λ (x : ℕ). absent (slots x)) (p i))
 
+  -- no frame there, kinds 7 and 8: the reports decide, in their three groups
   pub restTold : all (absentFrom slots (frameSlot kind 0 + n)) count ≡ true → 7 ≤ kind
       → all (emptyFrom slots kind n) count ≡ toldAbsent slots (reportSlot kind 0 0 + n) count
   restTold e h = restParts ∙ rw e (groups h)
@@ -127,15 +136,18 @@ module _ (slots : ℕ → Report) (kind n count : ℕ) where
 -- ---- three groups of reports
 
 module _ (slots : ℕ → Report) (from count : ℕ) where
+  -- a highest report there: not all are absent
   pub toldFirst : all (absentFrom slots from) count ≡ false → toldAbsent slots from count ≡ false
   unfolding toldAbsent
   toldFirst a = rw a
 
+  -- no highest, but a previous report there: not all are absent
   pub toldSecond : all (absentFrom slots from) count ≡ true → all (absentFrom slots (from + rows)) count ≡ false
       → toldAbsent slots from count ≡ false
   unfolding toldAbsent
   toldSecond a b = rw (a, b)
 
+  -- neither: the locks decide
   pub toldThird : all (absentFrom slots from) count ≡ true → all (absentFrom slots (from + rows)) count ≡ true
       → toldAbsent slots from count ≡ all (absentFrom slots (from + 2 * rows)) count
   unfolding toldAbsent
@@ -171,6 +183,7 @@ toldWhole slots kind h =
 -- ---- the 64 places
 
 module _ (slots : ℕ → Report) (set : Settings) (view kind : ℕ) (small : set .n ≤ rows) where
+  -- the 64 places of a kind are the n rows, and the rest where nothing may be kept
   kindParts : kindSound slots set view kind
       ≡ (all (placeSound slots set view kind) (set .n) && all (emptyFrom slots kind (set .n)) (rows - set .n))
   unfolding kindSound
@@ -181,9 +194,11 @@ module _ (slots : ℕ → Report) (set : Settings) (view kind : ℕ) (small : se
       ∙ ap (λ (b : Bool). all f (set .n) && b) (allSame (λ i. f (set .n + i)) (emptyFrom slots kind (set .n)) (rows - set .n)
       (λ i k. placeBeyond slots set view kind (set .n + i) (omega arith)))
 
+  -- something in the rest: the kind is unsound
   pub kindRest : all (emptyFrom slots kind (set .n)) (rows - set .n) ≡ false → kindSound slots set view kind ≡ false
   kindRest e = kindParts ∙ rw e (andFalse (all (placeSound slots set view kind) (set .n)))
 
+  -- an empty rest: the n rows decide
   pub kindPlaces : all (emptyFrom slots kind (set .n)) (rows - set .n) ≡ true
       → kindSound slots set view kind ≡ all (placeSound slots set view kind) (set .n)
   kindPlaces e = kindParts ∙ rw e (andTrue (all (placeSound slots set view kind) (set .n)))

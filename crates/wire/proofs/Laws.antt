@@ -17,6 +17,7 @@ use Rattle.wire.specs.inside.Reversed.{Reversed}
 use Rattle.wire.specs.Fields.{Field, field, spell, Sized, Bytes}
 use Rattle.wire.specs.inside.Widths.{widths, total, fieldsAt}
 
+-- a number is spelt in just as many bytes as its width
 pub length-digits : (w n : ℕ) → length (digits w n) ≡ w
 unfolding digits
 length-digits zero n = refl
@@ -26,9 +27,11 @@ length-digits (suc w) n = simp (length-append, length-digits w (n / 256)) (add-o
 pub room : (i n : ℕ) → i < 8 → n < 256 ^ i → n * 256 + 255 < 2 ^ 64
 room i n h b = let p : 256 ^ i ≤ 256 ^ 7 = pow-le-pow-right {n = 256} (omega arith) {i = i} {j = 7} (omega arith) in omega arith
 
+-- one more digit makes a number of one more byte, for the loop that reads a number
 pub more : (i n b : ℕ) → n < 256 ^ i → b < 256 → n * 256 + b < 256 ^ (i + 1)
 more i n b h k = rw (add-one, pow-suc) (omega arith)
 
+-- a number that has been read fits its width
 pub number-below : (w : ℕ) (s : List ℕ) (at : ℕ) → Bytes s → numberAt w s at < 256 ^ w
 unfolding numberAt
 number-below zero s at h = rw pow-zero (omega arith)
@@ -57,10 +60,12 @@ digits-number (suc w) s at b h =
     let inside : w < length (drop at s) = rw length-drop (omega arith) in
     rw (digits-div m (b (at + w)), digits-mod m (b (at + w)), digits-number w s at b (omega arith), take-suc (drop at s) w 0 inside, getD-drop)
 
+-- fields take as many bytes as their widths add up to
 pub length-spell : (fs : List Field) → length (spell fs) ≡ total (widths fs)
 length-spell [] = refl
 length-spell (field w v ∷ fs) = rw (length-append, length-digits, length-spell fs)
 
+-- fields that have been spelt are read back wherever they stand among other bytes
 pub fields-spell : (fs : List Field) (p t : List ℕ) → Sized fs → fieldsAt (widths fs) (p ++ (spell fs ++ t)) (length p) ≡ fs
 fields-spell [] p t h = refl
 fields-spell (field w v ∷ fs) p t h =
@@ -70,6 +75,7 @@ fields-spell (field w v ∷ fs) p t h =
     rw (← l, ← append-assoc p (digits w v) (spell fs ++ t)) (fields-spell fs (p ++ digits w v) t (h .1)) in
     rw (e, number-digits w v p (spell fs ++ t) (h .0), rest)
 
+-- fields that have been read anywhere in some bytes are spelt as they stood
 pub spell-fields : (ws s : List ℕ) (at : ℕ) → Bytes s → at + total ws ≤ length s → spell (fieldsAt ws s at) ≡ take (total ws) (drop at s)
 spell-fields [] s at b h = refl
 spell-fields (w ∷ ws) s at b h =
@@ -88,6 +94,7 @@ read-fields fs h = rw append-nil at (fields-spell fs [] [] h)
 pub spell-read : (ws s : List ℕ) → Bytes s → length s ≡ total ws → spell (fieldsAt ws s 0) ≡ s
 spell-read ws s b e = spell-fields ws s 0 b (omega arith) ∙ take-all (total ws) s (omega arith)
 
+-- two lists of fields one after the other are spelt end to end
 pub spell-append : (fs gs : List Field) → spell (fs ++ gs) ≡ spell fs ++ spell gs
 spell-append [] gs = refl
 spell-append (field w v ∷ fs) gs = rw (append-assoc, spell-append fs gs)
@@ -97,6 +104,7 @@ pub sized-fields : (ws s : List ℕ) (at : ℕ) → Bytes s → Sized (fieldsAt 
 sized-fields [] s at b = tt
 sized-fields (w ∷ ws) s at b = (number-below w s at b, sized-fields ws s (at + w) b)
 
+-- bytes before bytes are bytes
 pub bytes-append : (a b : List ℕ) → Bytes a → Bytes b → Bytes (a ++ b)
 bytes-append [] b p q i = q i
 bytes-append (x ∷ a) b p q zero = p zero
@@ -112,6 +120,7 @@ bytes-digits (suc w) n i = bytes-append (digits w (n / 256)) (n % 256 ∷ []) (b
     last zero = omega arith
     last (suc i) = omega arith
 
+-- spelt fields are bytes, whether or not they fit
 pub bytes-spell : (fs : List Field) → Bytes (spell fs)
 bytes-spell [] i = omega arith
 bytes-spell (field w v ∷ fs) i = bytes-append (digits w v) (spell fs) (bytes-digits w v) (bytes-spell fs) i

@@ -27,6 +27,7 @@ pub placed-sets : (o : List ℕ) (at : ℕ) (a : List ℕ) → at + length a ≤
 unfolding placed
 placed-sets o at a h = sets-eq a o at h ∙ append-assoc (take at o) a (drop (at + length a) o)
 
+-- bytes put where there is room leave the length as it was
 pub length-placed : (o : List ℕ) (at : ℕ) (a : List ℕ) → at + length a ≤ length o → length (placed o at a) ≡ length o
 length-placed o at a h = rw (← placed-sets o at a h) (length-sets o at a)
 
@@ -69,6 +70,7 @@ abbrev pub puts : List ℕ → ℕ → List Field → List ℕ
 puts o at [] = o
 puts o at (field w v ∷ fs) = puts (placed o at (digits w v)) (at + w) fs
 
+-- fields put one after the other are their spelling put at once
 pub puts-spell : (fs : List Field) (o : List ℕ) (at : ℕ) → at + total (widths fs) ≤ length o → puts o at fs ≡ placed o at (spell fs)
 puts-spell [] o at h = sym (placed-none o at)
 puts-spell (field w v ∷ fs) o at h =
