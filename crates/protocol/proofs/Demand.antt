@@ -62,7 +62,7 @@ pastRefused l x k e = (
       ∙ ap (λ (es : List Entry). put (x .at) es (written l)) (append-nil (written l (x .at))) ∙ putOwn (x .at) (written l),
 )
 
--- An accepted call's vault has the record that it left.
+-- After an accepted call its vault has the record that it left, and the others have theirs.
 pub recordAccepted : (l : List Item) (x : Item) (o : Out) → answer (recordAt l (x .at)) (x .call) ≡ accepted o
     → recordAt (x ∷ l) ≡ put (x .at) (some (o .left)) (recordAt l)
 unfolding recordAt

@@ -143,7 +143,7 @@ module _ (r : Record) where
           keepOtherKind (voteFrame r k′ p) (r .kept) (suc k) j (λ (e : suc k′ ≡ suc k). other p (let is : k′ ≡ k = cc in ap (λ (x : ℕ). cast x p) is))
       row (decide p) other = refl
 
-  -- A vote that is cast is the vault's own highest, in the current view.
+  -- A vote that is cast stands in the own row, with the current view.
   pub voteCast : (k p : ℕ) → voteOf (does r (cast k p)) k (r .set .id) ≡ some (record { view = r .view; plan = p })
   unfolding does
   voteCast k p = ap (λ (o : Option Frame). each o (λ x. voteBy (x .view) (x .body))) (keepSame (voteFrame r k p) (r .kept))

@@ -109,7 +109,7 @@ weighShared w s t (suc k) = omega (arith, weighShared w s t k, common (s k) (t k
 
 -- ---- quorums and blocking sets, by weight
 
--- A quorum by weight: with f added it weighs what all vaults do.
+-- A quorum by weight: with f added it weighs no less than all vaults.
 pub quorumWeighs : (vs : Vaults) (s : Set) → (isQuorum vs s ≡ true) ↔ (total vs ≤ size vs s + vs .f)
 unfolding isQuorum
 quorumWeighs vs s = (
