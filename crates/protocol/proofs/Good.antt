@@ -252,7 +252,7 @@ module _ (c : Setting) (Began : ℕ → Type 0) where
     )
     ground seed (suc (suc k)) p q = quorumSent (suc k) p q
 
-    -- A vote that was not sent in this view was not sent in it.
+    -- What the own row does not show as sent in this view was never sent in it.
     notSentNow : (k p : ℕ) → k < 5 → sentNow r k ≡ false → ¬ Voted h (r .set .id) k (r .view) p
     notSentNow k p low new at =
         let (x, e, le) = g .highest k low .top (r .view) p at in

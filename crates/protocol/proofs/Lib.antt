@@ -18,5 +18,4 @@ pub mod Lasting
 pub mod Sent
 pub mod Scripts
 pub mod Shown
-pub mod Tested
 pub mod Worked

@@ -113,7 +113,7 @@ allowsUnnamed r p q u other h = go (r .lock) other h
         bothJoin (leb (x .view) u) _ low
         (⊎-elim (orLeft (not (eqb (x .view) u)) _) (λ same. absurd (clash same f)) (either (not (eqb (x .view) u)) _ at))
 
--- A report that names p has it as its lock's plan or as its highest vote's.
+-- A report that does not name p has it neither as its lock's plan nor as its highest vote's.
 pub namesSplit : (r : Report) (p : ℕ) → names p r ≡ false
     → (holds (λ x. eqb (x .plan) p) (r .lock) ≡ false) × (holds (λ x. eqb (x .plan) p) (r .highest) ≡ false)
 unfolding names
