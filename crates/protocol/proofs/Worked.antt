@@ -127,7 +127,7 @@ lockedPlan = replies (
     ≡ wrote (timed 0 ∷ []) ∷ wrote [] ∷ wrote (ForAll (change 1 1) ∷ timed 1 ∷ ForAll (silent rule3 1 1) ∷ [])
     ∷ wrote [] ∷ wrote (ForAll (vote 1 0 1 5) ∷ []) ∷ wrote [] ∷ []
 
--- A vault votes-1 only for a plan that is safe by Rule 3: 5 after the lock (0, 5), and not 6.
+-- A vault votes-1 only for a plan that is safe by Rule 3: not for 6 while a lock (0, 5) stands against it, but once a fourth proof without lock is there.
 abbrev lockedVote : Type 0
 lockedVote = replies (
     starts 3 7 ∷ hears (change 0 1) ∷ hears (change 2 1) ∷ hears (vote 1 0 1 6) ∷ hears (told rule3 0 1 (for 0 5) none (for 0 5)) ∷ hears (silent rule3 2 1)
@@ -173,7 +173,7 @@ decidesOnce = replies (
     ∷ wrote (ForAll (change 3 1) ∷ timed 1 ∷ ForAll (silent rule3 3 1) ∷ ForOne 1 (silent rule1 3 1) ∷ [])
     ∷ wrote [] ∷ wrote [] ∷ wrote [] ∷ wrote [] ∷ wrote [] ∷ wrote (ForAll (vote 3 2 1 5) ∷ []) ∷ []
 
--- 'A sender's frame for a later view replaces the kept one': the first sender's vote-1 of view 0 no longer counts.
+-- 'it keeps one frame: the one with the highest view so far': the first sender's vote-1 of view 0 no longer counts.
 abbrev laterReplaces : Type 0
 laterReplaces =
     replies (starts 3 7 ∷ hears (vote 0 1 0 5) ∷ hears (vote 0 1 1 5) ∷ hears (vote 1 1 0 5) ∷ hears (vote 2 1 0 5) ∷ hears (vote 0 1 0 5) ∷ []) none
