@@ -32,23 +32,28 @@ use Rattle.acts.proofs.Kept.{planAt}
 use Rattle.acts.proofs.Votes.{onlyLead}
 
 module _ (s : List ℕ) (r : slots.Record) (reads : Reads s r) where
+  -- How many vaults there are, by the record's settings.
   abbrev n : ℕ
   n = r .set .n
 
+  -- How many of them may break the rules.
   abbrev f : ℕ
   f = r .set .f
 
   -- ---- the votes-k of the current view, in the block from a place on
 
   module _ (k from : ℕ) (low : k ≤ 4) (at : from ≡ blockPlace (frameSlot (k + 1) 0)) where
+    -- The plans of these votes, by sender.
     abbrev ballots : ℕ → Option ℕ
     ballots = votes (blockPart s) (r .view) from
 
+    -- Below n they are the plans that the record's contents say.
     ballotAt : (j : ℕ) → j < n → planNow (contents r) k j ≡ ballots j
     ballotAt j below =
         let place : blockPlace (frameSlot (k + 1) j) ≡ from + 13 * j = omega arith in
         planAt s r reads k j low (omega (arith, reads .allows .most)) ∙ ap (λ (q : ℕ). voted (r .view) (slotIn (blockPart s) q)) place
 
+    -- So a plan has a quorum of them where it has one by contents.
     quorumSame : (q : ℕ) → hasQuorum (contents r) k q ≡ quorumFor ballots n f q
     unfolding contents isQuorum
     quorumSame q =
@@ -56,6 +61,7 @@ module _ (s : List ℕ) (r : slots.Record) (reads : Reads s r) where
         (weighSame (λ i. 1) (λ j. holds (eqb q) (planNow (contents r) k j)) (λ j. holds (eqb q) (ballots j)) n
         (λ j below. ap (λ (o : Option ℕ). holds (eqb q) o) (ballotAt j below)))
 
+    -- And the plan that leads, where a quorum is for it, is the plan that steps E to H act on.
     pub agreedSame : agreedIn ballots n f ≡ agreed (contents r) k
     unfolding contents agreedIn
     agreedSame = go (which (quorumFor ballots n f p))
@@ -76,11 +82,13 @@ module _ (s : List ℕ) (r : slots.Record) (reads : Reads s r) where
 
   -- ---- what was sent
 
+  -- The own vote-k (0: proposal) in its slot is of this view just where one was sent in it.
   pub sentSame : (k : ℕ) → k ≤ 4 → not (isNone (voteIn (blockPart s) (r .view) k (r .set .id))) ≡ sentNow (contents r) k
   unfolding contents
   sentSame k low = ap (λ (o : Option ℕ). not (isNone o)) (sym (planAt s r reads k (r .set .id) low (omega (arith, reads .allows .most, reads .allows .own))))
 
   module _ (k : ℕ) (low : k ≤ 3) (told : Bool) (sent : told ≡ not (isNone (voteIn (blockPart s) (r .view) (k + 1) (r .set .id)))) where
+    -- The same of the vote that the step would send.
     sentNext : told ≡ sentNow (contents r) (suc k)
     sentNext = let next : k + 1 ≡ suc k = omega arith in sent ∙ sentSame (k + 1) (omega arith) ∙ ap (sentNow (contents r)) next
 
@@ -101,9 +109,11 @@ module _ (s : List ℕ) (r : slots.Record) (reads : Reads s r) where
 
   -- ---- the decision
 
+  -- The slot of the decision, in the block.
   abbrev decision : Report
   decision = slotIn (blockPart s) (blockPlace decisionSlot)
 
+  -- It is the record's.
   decisionAt : slotOf r decisionSlot ≡ decision
   decisionAt = reads .block decisionSlot (omega arith) (omega arith)
 
@@ -115,6 +125,7 @@ module _ (s : List ℕ) (r : slots.Record) (reads : Reads s r) where
       sym (eachNone (agreed (contents r) 4) (λ p. when (isNone (reported (slotOf r decisionSlot))) (some (decide p)))
       (λ p is. rw (eq-eqb (slotOf r decisionSlot .mark) 1 mark)))
 
+  -- Without a mark there nothing was decided.
   undecided : decision .mark ≢ 1 → isNone (contents r .decision) ≡ true
   unfolding contents
   undecided off =

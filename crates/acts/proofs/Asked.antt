@@ -84,21 +84,26 @@ newsIs view w (some u) = go (decLt view w) (decLt u w)
 -- ---- the record
 
 module _ (s : List ℕ) (r : slots.Record) (reads : Reads s r) where
+  -- How many vaults there are, by the record's settings.
   abbrev n : ℕ
   n = r .set .n
 
+  -- The views for which the kept view-changes are, by sender.
   abbrev changes : ℕ → Option ℕ
   changes = changeIn (sharedPart s)
 
+  -- As many ask for w by the slots as by the contents.
   askersSame : (w : ℕ) → weigh (λ i. 1) (λ j. holds (eqb w) (changeOf (contents r) j)) n ≡ weigh (λ i. 1) (askers changes w) n
   askersSame w =
       weighSame (λ i. 1) (λ j. holds (eqb w) (changeOf (contents r) j)) (askers changes w) n
       (λ j low. ap (λ (o : Option ℕ). holds (eqb w) o) (changeAt s r reads j (omega (arith, reads .allows .most))))
 
+  -- So f + 1 do by the slots just where a blocking set does by the contents.
   blockingSame : (w : ℕ) → enough changes n (r .set .f + 1) w ≡ asked (contents r) isBlocking w
   unfolding contents isBlocking enough
   blockingSame w = sym (ap (leb (r .set .f + 1)) (askersSame w))
 
+  -- And n - f do just where a quorum does.
   quorumSame : (w : ℕ) → enough changes n (n - r .set .f) w ≡ asked (contents r) isQuorum w
   unfolding contents isQuorum enough
   quorumSame w = sym (λ i. leb (totalEquals n (r .set .f) i - r .set .f) (askersSame w i))
@@ -114,17 +119,20 @@ module _ (s : List ℕ) (r : slots.Record) (reads : Reads s r) where
 
   -- B. 'Take the highest w above the current view with n - f kept view-changes for w. Enter it.'
   module _ (w : ℕ) (top : Highest (enough changes n (n - r .set .f)) (r .view) w) where
+    -- w is the highest view that can be entered, by contents.
     canSame : Highest (canEnter (contents r)) (r .view) w
     unfolding contents
     canSame =
         highestBoth (enough changes n (n - r .set .f)) (canEnter (contents r)) (r .view) w
         (λ v above. quorumSame v ∙ sym (ap (λ (b : Bool). b && asked (contents r) isQuorum v) (lt-ltb (r .view) v above))) top
 
+    -- A view that can be entered is asked for by someone, as the search for the highest goes by askers.
     canAsk : (v : ℕ) → canEnter (contents r) v ≡ true → (j : ℕ) × (j < n) × (changeOf (contents r) j ≡ some v)
     canAsk v can =
         someAsks (n - r .set .f) v (omega (arith, reads .allows .third))
         (quorumSame v ∙ bothSplit (ltb (contents r .view) v) (asked (contents r) isQuorum v) can .1)
 
+    -- Step B enters w where that is above the current view, and otherwise does nothing.
     enterIs : when (ltb (r .view) w) (some (enter w)) ≡ actB (contents r)
     unfolding contents
     enterIs =
@@ -138,14 +146,17 @@ module _ (s : List ℕ) (r : slots.Record) (reads : Reads s r) where
             let can = highestHas (canEnter (contents r)) (changeOf (contents r)) n e .0 in
             rw (bothSplit (ltb (r .view) v) (asked (contents r) isQuorum v) can .0)
 
+    -- w is above the current view: B enters it.
     pub enters : r .view < w → some (enter w) ≡ actB (contents r)
     enters above = ap (λ (b : Bool). when b (some (enter w))) (sym (lt-ltb (r .view) w above)) ∙ enterIs
 
+    -- It is not: B does nothing.
     pub stays : w ≤ r .view → none ≡ actB (contents r)
     stays under = ap (λ (b : Bool). when b (some (enter w))) (sym (le-ltb (r .view) w under)) ∙ enterIs
 
   -- A. 'Take the highest view w for which f + 1 kept view-changes are for w. If w is above .., broadcast view-change w.'
   module _ (low w : ℕ) (from : low ≡ newsFrom (r .view) (changes (r .set .id))) (top : Highest (enough changes n (r .set .f + 1)) low w) where
+    -- 'above the current view and above the vault's own view-change' is: above low.
     newsSame : (v : ℕ) → isNews (contents r) v ≡ ltb low v
     unfolding contents
     newsSame v =
@@ -153,9 +164,11 @@ module _ (s : List ℕ) (r : slots.Record) (reads : Reads s r) where
         (changeAt s r reads (r .set .id) (omega (arith, reads .allows .most, reads .allows .own)))
         ∙ newsIs (r .view) v (changes (r .set .id)) ∙ ap (λ (l : ℕ). ltb l v) (sym from)
 
+    -- w is the highest view above low that a blocking set asks for, by contents.
     askSame : Highest (asked (contents r) isBlocking) low w
     askSame = highestBoth (enough changes n (r .set .f + 1)) (asked (contents r) isBlocking) low w (λ v above. blockingSame v) top
 
+    -- Step A broadcasts view-change w where that is above low, and otherwise does nothing.
     askIs : when (ltb low w) (some (ask w)) ≡ actA (contents r)
     unfolding contents
     askIs =
@@ -164,8 +177,10 @@ module _ (s : List ℕ) (r : slots.Record) (reads : Reads s r) where
         ∙ ap (λ (news : ℕ → Bool). each (highest (asked (contents r) isBlocking) (changeOf (contents r)) n) (λ v. when (news v) (some (ask v))))
         (sym (fun-ext newsSame))
 
+    -- w is above low: A broadcasts view-change w.
     pub asksFor : low < w → some (ask w) ≡ actA (contents r)
     asksFor above = ap (λ (b : Bool). when b (some (ask w))) (sym (lt-ltb low w above)) ∙ askIs
 
+    -- It is not: A does nothing.
     pub silent : w ≤ low → none ≡ actA (contents r)
     silent under = ap (λ (b : Bool). when b (some (ask w))) (sym (le-ltb low w under)) ∙ askIs

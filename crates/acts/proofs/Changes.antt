@@ -23,10 +23,12 @@ use Rattle.acts.specs.inside.Changes.{asks, newsFrom, askers, enough, ti
 -- ---- a slot
 
 module _ (low : ℕ) (slot : Report) where
+  -- Without a view-change in the slot the bound stays low.
   pub newsNone : slot .mark ≢ 1 → low ≡ newsFrom low (asks slot)
   unfolding asks
   newsNone off = rw (ne-eqb (slot .mark) 1 off)
 
+  -- With one the bound is its view, where that is higher.
   pub newsSome : slot .mark ≡ 1 → max low (slot .view) ≡ newsFrom low (asks slot)
   unfolding asks
   newsSome here = rw (eq-eqb (slot .mark) 1 here)
@@ -41,9 +43,11 @@ weighSlack set k (suc d) =
     rw next (omega (arith, weighMore (λ i. 1) set (k + d), shareMost (set (k + d)) 1 (cond (set (k + d)) 1 0) refl, weighSlack set k d))
 
 module _ (views : List ℕ) where
+  -- One place more: w is there once more where it stands at that place.
   timesMore : (k w : ℕ) → times views (k + 1) w ≡ times views k w + cond (eqb w (getD views k 0)) 1 0
   timesMore k w = weighMore (λ i. 1) (λ j. eqb w (getD views j 0)) k
 
+  -- Another view at that place does not count.
   timesOther : (k w : ℕ) → w ≢ getD views k 0 → times views (k + 1) w ≡ times views k w
   timesOther k w e =
       let more : times views (k + 1) w ≡ times views k w + 0 = timesMore k w ∙ rw (ne-eqb w (getD views k 0) e) in
@@ -69,6 +73,7 @@ pub record Passed (change : ℕ → Option ℕ) (j low : ℕ) (views : List ℕ)
   pub same : (w : ℕ) → low < w → times views count w ≡ weigh (λ i. 1) (askers change w) j
 
 module _ (change : ℕ → Option ℕ) (low : ℕ) where
+  -- Before the first sender nothing is gathered.
   pub passNone : (views : List ℕ) → Passed change 0 low views 0
   passNone views = record {
     most = omega arith;
@@ -81,6 +86,7 @@ module _ (change : ℕ → Option ℕ) (low : ℕ) where
       old : (w : ℕ) → low < w → times (set views count x) count w ≡ weigh (λ i. 1) (askers change w) j
       old w above = timesPut views count x w ∙ was .same w above
 
+      -- The next sender's view is gathered where it is above low, and each view above low counts as often as it is asked for.
       asked : (w : ℕ) → low < w → (o : Option ℕ) → x ≡ newsFrom low o → more ≡ cond (ltb low x) 1 0
           → times (set views count x) (count + more) w ≡ weigh (λ i. 1) (askers change w) j + cond (holds (eqb w) o) 1 0
       asked w above none is adds =
@@ -101,6 +107,7 @@ module _ (change : ℕ → Option ℕ) (low : ℕ) where
               let off : eqb w y ≡ false = ne-eqb w y (λ (e : w ≡ y). omega arith) in
               rw (same, off) (omega (arith, old w above))
 
+      -- One sender more, one turn of the loop.
       pub passMore : x ≡ newsFrom low (change j) → more ≡ cond (ltb low x) 1 0 → more ≤ 1 → Passed change (j + 1) low (set views count x) (count + more)
       passMore is adds little = record {
         most = omega (arith, was .most);
@@ -108,6 +115,7 @@ module _ (change : ℕ → Option ℕ) (low : ℕ) where
       }
 
     module _ (n need : ℕ) where
+      -- After all n senders the views gathered tell of each view above low whether enough ask for it.
       pub gathered : j ≡ n → Gathered change n need low views count
       unfolding enough
       gathered e = record {
@@ -138,6 +146,7 @@ pub record Searched (views : List ℕ) (need low i best : ℕ) : Type 0 where
   pub rest : (w : ℕ) → best < w → leb need (times views (length views) w) ≡ true → times views i w ≡ 0
 
 module _ (views : List ℕ) (need low : ℕ) where
+  -- Before the first place the highest is low.
   pub searchNone : Searched views need low 0 low
   searchNone = record {
     least = omega arith;
@@ -151,6 +160,7 @@ module _ (views : List ℕ) (need low : ℕ) where
     passOver b least here w above enough =
         timesOther views i w (λ (e : w ≡ getD views i 0). omega arith) ∙ was .rest w (omega arith) enough
 
+    -- One place more, by what `raised` gives there.
     pub searchMore : Searched views need low (i + 1) (raisedAt views i need best)
     unfolding raisedAt
     searchMore = go (decLt best (getD views i 0)) (decLt (times views (length views) (getD views i 0)) (times views i (getD views i 0) + need))
@@ -182,6 +192,7 @@ module _ (views : List ℕ) (need low : ℕ) where
                 absurd (omega arith)
             by w above enough (no e) = timesOther views i w e ∙ was .rest w above enough
 
+    -- With fewer places left than are needed, the highest so far is the highest.
     pub searchDone : i ≤ length views → length views < i + need → Highest (λ w. leb need (times views (length views) w)) low best
     searchDone reached few = record { least = was .least; passes = was .passes; most = λ w above enough. by w above enough (decLt best w) }
       where
@@ -198,15 +209,18 @@ module _ (views : List ℕ) (need low : ℕ) where
 -- ---- one place
 
 module _ (views : List ℕ) (i need best w : ℕ) (is : w ≡ getD views i 0) where
+  -- A view not above the highest so far changes nothing.
   pub raisedLow : w ≤ best → best ≡ raisedAt views i need best
   unfolding raisedAt
   raisedLow low = rw (← is, le-ltb best w low)
 
   module _ (c : ℕ) (from : times views i w + c ≡ times views (length views) w) (above : best < w) where
+    -- Nor does one that is not there often enough from here on.
     pub raisedFew : c < need → best ≡ raisedAt views i need best
     unfolding raisedAt
     raisedFew few = rw (← is, lt-ltb best w above, lt-leb (times views i w + need) (times views (length views) w) (omega arith))
 
+    -- One that is there often enough is the highest so far.
     pub raisedMany : need ≤ c → w ≡ raisedAt views i need best
     unfolding raisedAt
     raisedMany many = rw (← is, lt-ltb best w above, le-leb (times views i w + need) (times views (length views) w) (omega arith))
@@ -223,6 +237,7 @@ highestBoth s t low best same h = record {
 
 module _ (change : ℕ → Option ℕ) (n need low count k : ℕ) (views : List ℕ)
     (g : Gathered change n need low views count) (fits : count ≤ length views) (is : k ≡ count) where
+  -- The views gathered, lent as the first part of the array, count the same.
   front : (w : ℕ) → times (take k views) (length (take k views)) w ≡ times views count w
   front w =
       let size : length (take k views) ≡ count = length-take k views ∙ omega arith in
@@ -230,6 +245,7 @@ module _ (change : ℕ → Option ℕ) (n need low count k : ℕ) (views : List 
       ∙ weighSame (λ i. 1) (λ j. eqb w (getD (take k views) j 0)) (λ j. eqb w (getD views j 0)) count
       (λ j below. ap (eqb w) (getD-take k views j 0 (omega arith)))
 
+  -- So the highest among them is the highest that enough view-changes are for.
   pub highestOfAll : (best : ℕ) → Highest (λ w. leb need (times (take k views) (length (take k views)) w)) low best → Highest (enough change n need) low best
   highestOfAll best h =
       highestBoth (λ w. leb need (times (take k views) (length (take k views)) w)) (enough change n need) low best

@@ -63,6 +63,7 @@ module _ (r : slots.Record) where
     lock = reported (slotOf r (reportSlot kind 2 j));
   }
 
+  -- A kept suggest or proof tells its three reports.
   toldBody : (kind j : ℕ) → 7 ≤ kind → reportBy (bodyIn (slotOf r) kind j) ≡ some (three kind j)
   unfolding bodyIn within
   toldBody kind j low = rw (lt-leb kind 5 (omega arith), le-leb 1 kind (omega arith), ne-eqb kind 6 (λ (e : kind ≡ 6). omega arith))
@@ -77,12 +78,14 @@ module _ (r : slots.Record) where
       go true = refl
       go false = refl
 
+  -- The plan of a vote of this view, by contents, is the one in its slot.
   planSlot : (k j : ℕ) → k ≤ 4 → j < rows → planNow (contents r) k j ≡ voted (r .view) (slotOf r (frameSlot (suc k) j))
   unfolding contents
   planSlot k j low row =
       ap (λ (o : Option rules.Vote). each o (λ x. when (eqb (x .view) (r .view)) (some (x .plan)))) (voteAt r k j low row)
       ∙ votedBy (r .view) (slotOf r (frameSlot (suc k) j))
 
+  -- The view for which a sender's view-change is, by contents, is the one in its slot.
   changeSlot : (j : ℕ) → j < rows → changeOf (contents r) j ≡ asks (slotOf r (frameSlot 6 j))
   unfolding contents frameIn asks
   changeSlot j row =
@@ -92,6 +95,7 @@ module _ (r : slots.Record) where
       go true = refl
       go false = refl
 
+  -- What a sender reports in this view, by contents, stands in its four slots.
   reportSlots : (kind j : ℕ) → 7 ≤ kind → kind ≤ 8 → j < rows
       → each (contents r .kept kind j) (λ f. when (eqb (f .view) (r .view)) (reportBy (f .body)))
       ≡ when (present (slotOf r (frameSlot kind j)) && eqb (slotOf r (frameSlot kind j) .view) (r .view)) (some (three kind j))
@@ -117,6 +121,7 @@ module _ (s : List ℕ) (r : slots.Record) (reads : Reads s r) where
       let first : frameSlot 6 j ≡ j = omega arith in
       changeSlot r j row ∙ ap (λ (i : ℕ). asks (slotOf r i)) first ∙ ap asks (reads .shared j row)
 
+  -- What a sender reports in this view, read in the block.
   reportAt : (kind j : ℕ) → 7 ≤ kind → kind ≤ 8 → j < rows
       → reportsBy (blockPart s) kind (r .view) j ≡ each (contents r .kept kind j) (λ f. when (eqb (f .view) (r .view)) (reportBy (f .body)))
   unfolding reportsBy

@@ -7,6 +7,7 @@ use Rattle.protocol.specs.Record.{Record}
 use Rattle.protocol.specs.Pass.{actVote}
 use Rattle.acts.specs.inside.Acts.{actAt}
 
+-- Equal numbers name the same step: for the arms of the match in `act_at`.
 pub numbered : {k j : ℕ} (c : Record) → k ≡ j → actAt j c ≡ actAt k c
 numbered c e = ap (λ (i : ℕ). actAt i c) (sym e)
 

@@ -22,19 +22,23 @@ use Rattle.acts.specs.inside.Parts.{sharedPart, blockPart, blockPlace}
 -- ---- the slots of a record
 
 module _ (s : List ℕ) (i : ℕ) where
+  -- A slot of the first 64 stands in the shared part.
   sharedSlot : i < rows → slotOf (decodeRecord s) i ≡ slotIn (sharedPart s) (partPlace i)
   sharedSlot low =
       let first : partPlace i ≡ 0 + partPlace i = omega arith in
       slotThere s i (omega arith) ∙ ap (slotIn s) (placeShared i low ∙ first) ∙ sym (slotPart 0 sharedSize s (partPlace i) (omega arith))
 
+  -- Every other slot stands in the block.
   blockSlot : rows ≤ i → i < slotCount → slotOf (decodeRecord s) i ≡ slotIn (blockPart s) (blockPlace i)
   blockSlot least low =
       slotThere s i low ∙ ap (slotIn s) (placeBlock i least) ∙ sym (slotPart sharedSize blockSize s (blockPlace i) (omega arith))
 
 module _ (s : List ℕ) (ready : Ready s) where
+  -- The shared part of a record's bytes has its size.
   pub sharedLength : length (sharedPart s) ≡ sharedSize
   sharedLength = length-take sharedSize s ∙ omega (arith, ready .size)
 
+  -- The block has its size.
   pub blockLength : length (blockPart s) ≡ blockSize
   blockLength = length-take blockSize (drop sharedSize s) ∙ omega (arith, length-drop sharedSize s, ready .size)
 
@@ -52,16 +56,20 @@ abbrev pub seen : List ℕ → Settings → ℕ → slots.Record
 seen s set view = record { set = set; view = view; plan = decodeRecord s .plan; slots = decodeRecord s .slots }
 
 module _ (s : List ℕ) (set : Settings) (view : ℕ) (ready : Ready s) (isSet : set ≡ decodeRecord s .set) (isView : view ≡ decodeRecord s .view) where
+  -- It is the record that the bytes spell.
   seenIs : seen s set view ≡ decodeRecord s
   unfolding decodeRecord
   seenIs = λ i. record { set = isSet i; view = isView i; plan = decodeRecord s .plan; slots = decodeRecord s .slots }
 
+  -- So it has its contents, which the contracts of the steps name.
   pub contentsSeen : contents (seen s set view) ≡ contentsIn s
   contentsSeen = ap contents seenIs
 
+  -- Its settings are in range, so n and f are bounded.
   pub seat : Allowed set
   seat = subst Allowed (sym isSet) (readyAllowed ready)
 
+  -- Its slots can be read in the two parts, and it is sound: what the laws of the steps ask for.
   pub reads : Reads s (seen s set view)
   reads = record {
     allows = seat;

@@ -27,6 +27,7 @@ use Rattle.acts.specs.inside.Reports.{reportsBy, aboveOf, withVote, with
 
 -- ---- one vote
 
+-- A vote for a plan in a view.
 abbrev vote : ℕ → ℕ → Option Vote
 vote w p = some (record { view = w; plan = p })
 
@@ -48,15 +49,18 @@ module _ (t : List ℕ) (at : ℕ) (x : Slot.Report) where
       getD-set-other (set t at (aboveOf x)) (at + column) q (x .plan) 0 (λ (e : q ≡ at + column). off 1 (omega arith))
       ∙ getD-set-other t at q (aboveOf x) 0 (λ (e : q ≡ at). off 0 (omega arith))
 
+  -- A vote put leaves the table's length.
   pub voteLength : length (withVote t at x) ≡ length t
   voteLength = length-set (set t at (aboveOf x)) (at + column) (x .plan) ∙ length-set t at (aboveOf x)
 
   module _ (room : at + column < length t) where
+    -- In its first column stands the view + 1.
     voteAbove : getD (withVote t at x) at 0 ≡ aboveOf x
     voteAbove =
         getD-set-other (set t at (aboveOf x)) (at + column) at (x .plan) 0 (λ (e : at ≡ at + column). omega arith)
         ∙ getD-set-same t at (aboveOf x) 0 (omega arith)
 
+    -- In its second column stands the plan.
     votePlan : getD (withVote t at x) (at + column) 0 ≡ x .plan
     votePlan = getD-set-same (set t at (aboveOf x)) (at + column) (x .plan) 0 (rw length-set room)
 
@@ -73,27 +77,35 @@ putAll t t₁ t₂ t₃ i h p l e₁ e₂ e₃ =
     e₃ ∙ ap (λ (x : List ℕ). withVote x (5 * column + i) l) (e₂ ∙ ap (λ (x : List ℕ). withVote x (3 * column + i) p) e₁)
 
 module _ (t : List ℕ) (i : ℕ) (h p l : Slot.Report) (row : i < column) (size : length t ≡ tableSize) where
+  -- The table with the sender marked as a reporter.
   abbrev with₀ : List ℕ
   with₀ = set t i 1
 
+  -- Its highest vote is put too.
   abbrev with₁ : List ℕ
   with₁ = withVote with₀ (column + i) h
 
+  -- Then its previous vote.
   abbrev with₂ : List ℕ
   with₂ = withVote with₁ (3 * column + i) p
 
+  -- Then its lock: the whole report is put.
   abbrev with₃ : List ℕ
   with₃ = withVote with₂ (5 * column + i) l
 
+  -- Each of the four stores leaves the table's length, so the next one has room.
   size₀ : length with₀ ≡ tableSize
   size₀ = length-set t i 1 ∙ size
 
+  -- With the highest vote put.
   size₁ : length with₁ ≡ tableSize
   size₁ = voteLength with₀ (column + i) h ∙ size₀
 
+  -- With the previous vote put.
   size₂ : length with₂ ≡ tableSize
   size₂ = voteLength with₁ (3 * column + i) p ∙ size₁
 
+  -- With the whole report put.
   pub reportLength : length (withReport t i h p l) ≡ tableSize
   reportLength = voteLength with₂ (5 * column + i) l ∙ size₂
 
@@ -107,6 +119,7 @@ module _ (t : List ℕ) (i : ℕ) (h p l : Slot.Report) (row : i < column) (size
 
   -- Column c and the next of the own row, where they are those of a vote that was put.
   module _ (s : List ℕ) (c : ℕ) (x : Slot.Report) (room : column * c + i + column < length s) where
+    -- Then the two columns are read as that vote.
     ownVote : (u : List ℕ) → getD u (column * c + i) 0 ≡ getD (withVote s (column * c + i) x) (column * c + i) 0
         → getD u (column * c + i + column) 0 ≡ getD (withVote s (column * c + i) x) (column * c + i + column) 0 → voteIn u c i ≡ reported x
     ownVote u above plan =
@@ -115,6 +128,7 @@ module _ (t : List ℕ) (i : ℕ) (h p l : Slot.Report) (row : i < column) (size
         let b : getD u (column * (c + 1) + i) 0 ≡ x .plan = ap (λ (q : ℕ). getD u q 0) next ∙ plan ∙ votePlan s (column * c + i) x room in
         (λ k. voteOf (a k) (b k)) ∙ voteBack x
 
+  -- The own row has the lock that was put last.
   ownLock : voteIn with₃ 5 i ≡ reported l
   ownLock = ownVote with₂ 5 l (omega (arith, size₂)) with₃ refl refl
 
@@ -122,15 +136,19 @@ module _ (t : List ℕ) (i : ℕ) (h p l : Slot.Report) (row : i < column) (size
   early : (q : ℕ) → q < 5 * column + i → getD with₃ q 0 ≡ getD with₂ q 0
   early q less = voteOther with₂ (5 * column + i) l q (λ d (e : q ≡ 5 * column + i + column * d). omega arith)
 
+  -- What stands before the previous vote's columns is as the highest vote left it.
   earlier : (q : ℕ) → q < 3 * column + i → getD with₃ q 0 ≡ getD with₁ q 0
   earlier q less = early q (omega arith) ∙ voteOther with₁ (3 * column + i) p q (λ d (e : q ≡ 3 * column + i + column * d). omega arith)
 
+  -- The own row has the previous vote.
   ownPrevious : voteIn with₃ 3 i ≡ reported p
   ownPrevious = ownVote with₁ 3 p (omega (arith, size₁)) with₃ (early (column * 3 + i) (omega arith)) (early (column * 3 + i + column) (omega arith))
 
+  -- And the highest vote.
   ownHighest : voteIn with₃ 1 i ≡ reported h
   ownHighest = ownVote with₀ 1 h (omega (arith, size₀)) with₃ (earlier (column * 1 + i) (omega arith)) (earlier (column * 1 + i + column) (omega arith))
 
+  -- And the mark of a reporter.
   ownMark : getD with₃ i 0 ≡ 1
   ownMark =
       earlier i (omega arith)
@@ -141,15 +159,18 @@ module _ (t : List ℕ) (i : ℕ) (h p l : Slot.Report) (row : i < column) (size
   abbrev pub told : Report
   told = record { highest = reported h; previous = reported p; lock = reported l }
 
+  -- So the sender's row is read as what it reports.
   pub reportOwn : reportsIn (withReport t i h p l) i ≡ some told
   unfolding reportsIn reporter
   reportOwn =
       let here : (ltb i column && not (eqb (getD with₃ i 0) 0)) ≡ true = rw (lt-ltb i column row, ownMark) in
       rw here (λ k. some (record { highest = ownHighest k; previous = ownPrevious k; lock = ownLock k }))
 
+  -- The mark of another sender stays.
   pub markOther : (j : ℕ) → j < column → j ≢ i → getD (withReport t i h p l) j 0 ≡ getD t j 0
   markOther j low off = let first : column * 0 + j ≡ j = omega arith in rw first at (rowOther 0 j low off)
 
+  -- So what another sender reports stays.
   pub reportOther : (j : ℕ) → j < column → j ≢ i → reportsIn (withReport t i h p l) j ≡ reportsIn t j
   unfolding reportsIn reporter
   reportOther j low off =
@@ -159,6 +180,7 @@ module _ (t : List ℕ) (i : ℕ) (h p l : Slot.Report) (row : i < column) (size
 
 -- ---- sender by sender
 
+-- A sender whose mark is 0 has not reported.
 unreported : (t : List ℕ) (j : ℕ) → getD t j 0 ≡ 0 → reportsIn t j ≡ none
 unfolding reportsIn reporter
 unreported t j off = rw off (go (ltb j column))
@@ -176,6 +198,7 @@ unfolding reportsIn reporter
 rowless t j over = rw (le-ltb j column over)
 
 module _ (reports : Reports) where
+  -- A table of zeros holds no report: where the loop starts.
   pub filledNone : Filled reports 0 (replicate {A = ℕ} tableSize 0)
   filledNone = record {
     size = length-replicate {A = ℕ} tableSize 0;
@@ -184,6 +207,7 @@ module _ (reports : Reports) where
   }
 
   module _ (k : ℕ) (t : List ℕ) (was : Filled reports k t) (row : k < column) where
+    -- A sender that reports nothing leaves the table as it is.
     pub filledSkip : reports k ≡ none → Filled reports (k + 1) t
     filledSkip off = record {
       size = was .size;
@@ -195,6 +219,7 @@ module _ (reports : Reports) where
         by j low (yes e) = ap (reportsIn t) e ∙ unreported t k (was .rest k (omega arith) row) ∙ sym off ∙ ap reports (sym e)
         by j low (no e) = was .done j (omega arith)
 
+    -- A sender that reports has its report put into its row.
     pub filledMore : (h p l : Slot.Report) → reports k ≡ some (told t k h p l row (was .size)) → Filled reports (k + 1) (withReport t k h p l)
     filledMore h p l on = record {
       size = reportLength t k h p l row (was .size);
@@ -223,6 +248,7 @@ filledAll reports k t most f none-else = fun-ext (λ j. by j (decLt j k) (decLt 
 
 module _ (block : List ℕ) (kind v i at from : ℕ) (told : Bool)
     (frame : at ≡ blockPlace (frameSlot kind i)) (first : from ≡ blockPlace (reportSlot kind 0 i)) (is : told ≡ not (isNone (voted v (slotIn block at)))) where
+  -- The sender's frame is kept and of view v just where the code was told so.
   testIs : (present (slotIn block (blockPlace (frameSlot kind i))) && eqb (slotIn block (blockPlace (frameSlot kind i)) .view) v) ≡ told
   unfolding voted
   testIs =
@@ -233,10 +259,12 @@ module _ (block : List ℕ) (kind v i at from : ℕ) (told : Bool)
       go true = refl
       go false = refl
 
+  -- It is not: the sender reports nothing.
   pub untold : told ≡ false → reportsBy block kind v i ≡ none
   unfolding reportsBy
   untold off = rw (testIs, off)
 
+  -- It is: the sender reports the three votes that stand 64 slots apart.
   pub toldThere : told ≡ true → reportsBy block kind v i ≡ some (record {
     highest = reported (slotIn block from);
     previous = reported (slotIn block (from + slotSize * rows));

@@ -25,11 +25,13 @@ use Rattle.acts.specs.inside.Votes.{voted, meet, after, leading, Leads, 
 -- ---- a slot
 
 module _ (v : ℕ) (slot : Report) where
+  -- No mark: no vote.
   pub votedNone : slot .mark ≢ 1 → voted v slot ≡ none
   unfolding voted
   votedNone off = rw (ne-eqb (slot .mark) 1 off)
 
   module _ (here : slot .mark ≡ 1) where
+    -- A mark: there is a vote of view v just where the slot's view is v.
     pub votedThere : eqb (slot .view) v ≡ not (isNone (voted v slot))
     unfolding voted
     votedThere = rw (eq-eqb (slot .mark) 1 here) (go (eqb (slot .view) v))
@@ -38,10 +40,12 @@ module _ (v : ℕ) (slot : Report) where
         go true = refl
         go false = refl
 
+    -- A mark and another view: no vote of view v.
     pub votedOther : slot .view ≢ v → voted v slot ≡ none
     unfolding voted
     votedOther off = rw (eq-eqb (slot .mark) 1 here, ne-eqb (slot .view) v off)
 
+    -- A mark and view v: a vote for the slot's plan.
     pub votedSome : slot .view ≡ v → voted v slot ≡ some (slot .plan)
     unfolding voted
     votedSome same = rw (eq-eqb (slot .mark) 1 here, eq-eqb (slot .view) v same)
@@ -73,10 +77,12 @@ pub record Ahead (vote : ℕ → Option ℕ) (k : ℕ) (b : Lead) : Type 0 where
   pub most : b .votes ≤ k
 
 module _ (vote : ℕ → Option ℕ) (k : ℕ) where
+  -- One vote more, as the definition has it.
   tallyMore : (q : ℕ) → tally vote q (suc k) ≡ tally vote q k + cond (holds (eqb q) (vote k)) 1 0
   unfolding weigh
   tallyMore q = refl
 
+  -- Meeting one vote keeps what is known, in each of the three cases of `meet`.
   aheadMore : (b : Lead) (o : Option ℕ) → vote k ≡ o → Ahead vote k b → Ahead vote (suc k) (after b o)
   unfolding meet
   aheadMore b none is a = record {
@@ -120,6 +126,7 @@ module _ (vote : ℕ → Option ℕ) (k : ℕ) where
         most = omega (arith, a .most);
       })
 
+-- So it is known of the plan that leads among the first k votes.
 pub aheadLeads : (vote : ℕ → Option ℕ) (k : ℕ) → Ahead vote k (leading vote k)
 unfolding leading weigh
 aheadLeads vote zero = record { own = omega arith; other = λ q off. omega arith; most = omega arith }
@@ -141,10 +148,12 @@ votesMore b (some x) = go (eqb x (b .plan)) (eqb (b .margin) 0)
     go false false = omega arith
 
 module _ (vote : ℕ → Option ℕ) where
+  -- Before the first vote nothing leads.
   pub leadNone : record { plan = 0; margin = 0; votes = 0 } ≡ leading vote 0
   unfolding leading
   leadNone = refl
 
+  -- One turn of the loop: one more slot is met.
   pub leadMore : (k : ℕ) (b r : Lead) → b ≡ leading vote k → r ≡ after b (vote k) → r ≡ leading vote (k + 1)
   unfolding leading
   leadMore k b r was is = rw add-one (is ∙ ap (λ (x : Lead). after x (vote k)) was)
@@ -164,6 +173,7 @@ module _ (vote : ℕ → Option ℕ) where
       rw next (omega (arith, votesMore (leading vote (k + d)) (vote (k + d)), votesSlack k d))
 
   module _ (k n f : ℕ) (b : Lead) (is : b ≡ leading vote k) where
+    -- All n were met: this is the lead.
     pub leadAll : k ≡ n → Leads vote n f b
     leadAll e = let same = is ∙ ap (leading vote) e in record { few = λ less. rw (← same) less; all = λ many. same }
 
@@ -181,9 +191,11 @@ module _ (vote : ℕ → Option ℕ) where
 -- ---- the plan that a quorum is for
 
 module _ (vote : ℕ → Option ℕ) (n f : ℕ) where
+  -- A quorum for p is n - f votes for p.
   pub quorumIs : (p : ℕ) → quorumFor vote n f p ≡ true → n ≤ tally vote p n + f
   quorumIs p h = omega (arith, totalEquals n f, quorumWeighs (equals n f) (λ j. holds (eqb p) (vote j)) .0 h)
 
+  -- Where no quorum is for the plan that leads, no plan is agreed on.
   agreedNone : quorumFor vote n f (leading vote n .plan) ≡ false → none ≡ agreedIn vote n f
   unfolding agreedIn
   agreedNone off = rw off
@@ -198,15 +210,19 @@ module _ (vote : ℕ → Option ℕ) (n f : ℕ) where
         (notTrue (quorumFor vote n f (leading vote n .plan)) (λ h. omega (arith, quorumIs (leading vote n .plan) h, aheadLeads vote n .own, low .0)))
 
     module _ (many : n - f ≤ b .votes) (count : ℕ) (counted : count ≡ tally vote (b .plan) n) where
+      -- A quorum voted, so none was left out, and b is the lead after n votes.
       leadIs : b ≡ leading vote n
       leadIs = leads .all (omega arith)
 
+      -- As many as a quorum were counted for its plan just where a quorum is for it.
       counts : leb (n - f) count ≡ quorumFor vote n f (leading vote n .plan)
       counts = quorumCount n f (λ j. holds (eqb (b .plan)) (vote j)) count counted ∙ ap (λ (x : Lead). quorumFor vote n f (x .plan)) leadIs
 
+      -- Too few were: no plan is agreed on.
       pub agreedOther : count < n - f → none ≡ agreedIn vote n f
       agreedOther few = agreedNone (sym counts ∙ lt-leb (n - f) count few)
 
+      -- Enough were: that plan is.
       pub agreedOn : n - f ≤ count → some (b .plan) ≡ agreedIn vote n f
       unfolding agreedIn
       agreedOn enough = rw (← counts, le-leb (n - f) count enough) (ap (λ (x : Lead). some (x .plan)) leadIs)

@@ -74,7 +74,7 @@ module _ (t : List ℕ) (r w : ℕ) where
   unfolding reportsIn claims reach
   claimsIn p h = rw (h, viewForIn p high plan, viewIn previous (getD t (column * 4 + r) 0))
 
-  -- A previous vote at w or later claims every plan.
+  -- A previous vote at w or later claims every plan; at view 0 none is needed.
   pub claimsEvery : reporter t r ≡ true → leb w (previous - 1) ≡ true → (p : ℕ) → reporting (reportsIn t) (claims p w) r ≡ true
   claimsEvery h low p = claimsIn p h ∙ le-leb w _ (omega (arith, leb-true w (previous - 1) low))
 

@@ -40,6 +40,7 @@ three vs s m is count =
     let e : total vs - vs .f ≡ 3 = ap (λ (x : Vaults). total x - x .f) is in
     rw (e, count)
 
+-- A case whose test passes holds of the rules.
 holds : (x : Case) → right x ≡ true → Holds x
 unfolding right allowed free
 holds (starting n f k) h = eqb-true _ k h
@@ -58,6 +59,7 @@ wrong : List Case → Option Case
 wrong [] = none
 wrong (x ∷ xs) = cond (right x) (wrong xs) (some x)
 
+-- So all cases of a list hold where none of them is wrong.
 all : (l : List Case) → wrong l ≡ none → All l
 unfolding wrong
 all [] h = tt

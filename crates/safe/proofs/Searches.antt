@@ -51,7 +51,7 @@ module _ (plans : List ℕ) (c : Search) (p : ℕ) (below : c .u < c .v) where
   last : (w : ℕ) → serving w (suc w) ≡ cond (test w) w (c .v)
   last w = servingNext test w (c .v) (suc w) w refl (omega arith) ∙ ap (λ (x : ℕ). cond (test w) w x) (servingNone test w (c .v) w (omega arith))
 
-  -- The search has found w just where the test at w passed, as v itself is never found.
+  -- What is found is below v just where the test passed at w: v stands for none.
   passed : (w : ℕ) → w < c .v → (b : Bool) → ltb (cond b w (c .v)) (c .v) ≡ b
   passed w low true = lt-ltb w (c .v) low
   passed w low false = le-ltb (c .v) (c .v) (omega arith)

@@ -53,12 +53,12 @@ and-true false = refl
 -- ---- conjunctions
 
 module _ (slots : ℕ → Report) (kind sender : ℕ) where
-  -- the highest report is there: not all three are absent
+  -- the highest report is not absent: so not all three are
   pub reports-highest : absent (slots (reportSlot kind 0 sender)) ≡ false → reportsAbsent slots kind sender ≡ false
   unfolding reportsAbsent
   reports-highest a = rw a
 
-  -- the highest is absent, the previous is there: not all three are absent
+  -- the highest is absent, the previous is not: so not all three are
   pub reports-previous : absent (slots (reportSlot kind 0 sender)) ≡ true → absent (slots (reportSlot kind 1 sender)) ≡ false
       → reportsAbsent slots kind sender ≡ false
   unfolding reportsAbsent

@@ -102,11 +102,11 @@ module _ (slots : ℕ → Report) (kind n count : ℕ) where
       at : (i : ℕ) → frameSlot kind (n + i) ≡ frameSlot kind 0 + n + i
       at i = omega arith
 
-  -- a frame there: the rest is not empty
+  -- a frame's slot there is not absent: the rest is not empty
   pub restFrames : all (absentFrom slots (frameSlot kind 0 + n)) count ≡ false → all (emptyFrom slots kind n) count ≡ false
   restFrames e = restParts ∙ rw e
 
-  -- no frame there, kinds 1 to 6: the rest is empty
+  -- the frames' slots there are absent, kinds 1 to 6: the rest is empty
   pub restShort : all (absentFrom slots (frameSlot kind 0 + n)) count ≡ true → kind < 7 → all (emptyFrom slots kind n) count ≡ true
   unfolding others
   restShort e h = restParts ∙ rw e (allSame others (λ i. true) count (λ i k. rw (lt-ltb kind 7 h)) ∙ every count)
@@ -128,7 +128,7 @@ module _ (slots : ℕ → Report) (kind n count : ℕ) where
       group which base p = allSame (λ i. absent (slots (reportSlot kind which (n + i)))) (absentFrom slots base) count
           (λ i k. ap (λ (x : ℕ). absent (slots x)) (p i))
 
-  -- no frame there, kinds 7 and 8: the reports decide, in their three groups
+  -- the frames' slots there are absent, kinds 7 and 8: the reports decide, in their three groups
   pub restTold : all (absentFrom slots (frameSlot kind 0 + n)) count ≡ true → 7 ≤ kind
       → all (emptyFrom slots kind n) count ≡ toldAbsent slots (reportSlot kind 0 0 + n) count
   restTold e h = restParts ∙ rw e (groups h)
@@ -136,18 +136,18 @@ module _ (slots : ℕ → Report) (kind n count : ℕ) where
 -- ---- three groups of reports
 
 module _ (slots : ℕ → Report) (from count : ℕ) where
-  -- a highest report there: not all are absent
+  -- some highest report is not absent: so not all are
   pub toldFirst : all (absentFrom slots from) count ≡ false → toldAbsent slots from count ≡ false
   unfolding toldAbsent
   toldFirst a = rw a
 
-  -- no highest, but a previous report there: not all are absent
+  -- the highest are absent, some previous one is not: so not all are
   pub toldSecond : all (absentFrom slots from) count ≡ true → all (absentFrom slots (from + rows)) count ≡ false
       → toldAbsent slots from count ≡ false
   unfolding toldAbsent
   toldSecond a b = rw (a, b)
 
-  -- neither: the locks decide
+  -- both are absent: the locks decide
   pub toldThird : all (absentFrom slots from) count ≡ true → all (absentFrom slots (from + rows)) count ≡ true
       → toldAbsent slots from count ≡ all (absentFrom slots (from + 2 * rows)) count
   unfolding toldAbsent

@@ -22,6 +22,7 @@ pub current-is : (rec : List ℕ) (l : Lent) → lentIs rec ≡ l → currentBy 
 unfolding currentOf
 current-is rec l e = ap (λ (k : Lent). currentBy k (contentsIn rec)) (sym e)
 
+-- The same of the answer on the decision.
 pub decision-is : (rec : List ℕ) (l : Lent) → lentIs rec ≡ l → decisionBy l (contentsIn rec) ≡ decisionOf rec
 unfolding decisionOf
 decision-is rec l e = ap (λ (k : Lent). decisionBy k (contentsIn rec)) (sym e)
@@ -40,6 +41,7 @@ none-made rec slot e h =
     let none-reported : decision.Open ≡ madeBy (reported slot) = rw (ne-eqb (slot .mark) 1 h) refl in
     none-reported ∙ ap (λ (x : Report). madeBy (reported x)) e
 
+-- A marked slot is a decision made, in its view and for its plan.
 pub one-made : (rec : List ℕ) (slot : Report) → slot ≡ decodeRecord rec .slots decisionSlot → slot .mark ≡ 1
     → decision.Made (slot .view) (slot .plan) ≡ madeBy (contentsIn rec .decision)
 unfolding contents

@@ -82,6 +82,7 @@ short-at [] number e = omega arith
 short-at (x ∷ l) zero e = leb-true (length (bytesOf x)) 120 (bothSplit (leb (length (bytesOf x)) 120) (all-short l) e .0)
 short-at (x ∷ l) (suc number) e = short-at l number (bothSplit (leb (length (bytesOf x)) 120) (all-short l) e .1)
 
+-- No sentence is longer than 120 bytes, by that test on the whole list.
 pub shortTexts : ShortTexts
 unfolding sentenceOf all-short bytesOf
 shortTexts number = short-at sentences number refl

@@ -42,19 +42,23 @@ use Rattle.vault.proofs.Laws.{acceptedRoom, refusedBy, acceptedBy, call
 module _ (set : Settings) (plan : ℕ) (given : first (settingRows set) ≡ 0) (low : plan < 2 ^ 64) (rec : List ℕ) (holds : Holds rec (fresh set plan))
     (t : Entry) (et : t ≡ timerEntry (calls.fresh set plan) 0) (at : ℕ) (out out' : List ℕ)
     (put : (at ≡ 0 + length (entryBytes t)) × (out' ≡ placed out 0 (entryBytes t))) (room : 256 ≤ length out) where
+  -- View 0 is entered: a fresh record, and its timer entry.
   abbrev entered : Out
   entered = record { left = calls.fresh set plan; wrote = timerEntry (calls.fresh set plan) 0 ∷ [] }
 
+  -- The fresh record is one that calls leave.
   freshReady : Ready rec
   freshReady = readyAs holds (contentsFresh set plan) (cleanFresh set plan) (whole .sound) (whole .ranged)
     where
       whole : Whole (calls.fresh set plan)
       whole = freshWhole set plan given low
 
+  -- Its settings are those of the start.
   pub freshSet : set ≡ decodeRecord rec .set
   unfolding fresh
   freshSet = ap (λ (r : slots.Record). r .set) (sym (holds .is))
 
+  -- The bytes are the fresh record's, and the output has the timer entry.
   enteredRan : Ran entered 0 out out' at rec
   enteredRan = record {
     left = contentsHeld holds ∙ contentsFresh set plan;
@@ -66,14 +70,17 @@ module _ (set : Settings) (plan : ℕ) (given : first (settingRows set) ≡ 0) (
       size : length (entryBytes t) ≡ length (entryBytes (timerEntry (calls.fresh set plan) 0))
       size = ap (λ (e : Entry). length (entryBytes e)) et
 
+  -- An accepted start has room for all its entries.
   startRoom : Room (started set plan) 0 out
   unfolding answer
   startRoom = acceptedRoom none (start set plan) (started set plan) out (ap (λ (k : ℕ). unless k (started set plan)) given) room
 
+  -- What `pass_from` asks for, to go on from C.
   pub beginRequires : Ready rec × (set ≡ decodeRecord rec .set) × (2 ≤ 8) × Room (pass fromC (contentsIn rec)) at out'
   unfolding started
   beginRequires = (freshReady, freshSet, omega arith, roomNext entered fromC 0 out startRoom enteredRan)
 
+  -- With that pass run, the whole start has run.
   pub beginRan : (n : ℕ) (rec' out'' : List ℕ) → Ran (pass fromC (contentsIn rec)) at out' out'' n rec' → Ran (started set plan) 0 out out'' n rec'
   unfolding started
   beginRan n rec' out'' = ranJoin entered fromC 0 out startRoom enteredRan
@@ -81,6 +88,7 @@ module _ (set : Settings) (plan : ℕ) (given : first (settingRows set) ≡ 0) (
 -- ---- what a start leaves
 
 module _ (rec : List ℕ) (set : Settings) (plan : ℕ) (out : List ℕ) where
+  -- Output space below 256 bytes: 1.
   pub startShort : length out < 256 → gave 1 rec out ≡ startLeft rec set plan out
   unfolding startLeft
   startShort = calledShort 4 rec out (start set plan)
@@ -100,14 +108,17 @@ module _ (rec : List ℕ) (set : Settings) (plan : ℕ) (out : List ℕ) where
       go false e = calledLent 4 rec out (start set plan) room Unsound e
 
   module _ (room : 256 ≤ length out) (size : length rec ≡ recordSize) (blank : decodeRecord rec .set .n ≡ 0) where
+    -- A blank record: the start by contents decides.
     startBlank : after rec out (answer none (start set plan)) ≡ startLeft rec set plan out
     unfolding startLeft
     startBlank = calledLent 4 rec out (start set plan) room Blank (lent-blank rec size blank)
 
+    -- The settings give a number: that is the answer, and nothing is changed.
     pub startRefused : (k : ℕ) → k ≡ first (settingRows set) → (k ≡ 0 → ⊥) → gave k rec out ≡ startLeft rec set plan out
     unfolding answer
     startRefused k is given = refusedBy rec out (started set plan) (first (settingRows set)) k is given ∙ startBlank
 
+    -- The settings pass: the start is accepted.
     pub startAccepted : first (settingRows set) ≡ 0 → after rec out (accepted (started set plan)) ≡ startLeft rec set plan out
     unfolding answer
     startAccepted given = acceptedBy rec out (started set plan) (first (settingRows set)) given ∙ startBlank

@@ -98,9 +98,11 @@ module _ (r : slots.Record) (f : Frame) (at : Place (f .kind) (f .sender)) where
 -- ---- a frame that the reader accepted, against the record
 
 module _ {rec : List ℕ} {set : Settings} {f : Frame} (g : Read rec set f) where
+  -- The record is one that calls leave.
   abbrev ready : Ready rec
   ready = g .held .ready
 
+  -- The frame's body is one of its kind.
   abbrev shape : fits (f .kind) (f .body) ≡ true
   shape = g .readable .valid .shape
 
@@ -112,25 +114,30 @@ module _ {rec : List ℕ} {set : Settings} {f : Frame} (g : Read rec set f) wher
       let row = leb-false (set .n) (f .sender) (neither (leb (set .n) (f .sender)) (eqb (f .sender) (set .id)) given .0) in
       record { low = low; high = high; row = omega (arith, row, ap (λ (s : Settings). s .n) (g .held .its), readyAllowed ready .most) }
 
+  -- What `keep` asks for.
   pub keepRequires : (fits (f .kind) (f .body) ≡ true) × (f .sender < rows) × (length rec ≡ recordSize)
   keepRequires = (shape, placeOf .row, ready .size)
 
   -- Rows 16 and 17, by the number that the code finds.
   module _ (view : ℕ) (current : view ≡ decodeRecord rec .view) (k : ℕ)
       (found : k ≡ first (keepRows (slotOf (decodeRecord rec)) view (f .sender) (f .kind) (f .view))) where
+    -- The code's number is that of rows 16 and 17 on contents.
     given : k ≡ first (recordRows (contentsIn rec) f)
     given =
         found
         ∙ ap (λ (v : ℕ). first (keepRows (slotOf (decodeRecord rec)) v (f .sender) (f .kind) (f .view))) current
         ∙ rowsContents (decodeRecord rec) f placeOf
 
+    -- The code finds none: neither row is given.
     pub rowsPass : k ≡ 0 → first (recordRows (contentsIn rec) f) ≡ 0
     rowsPass e = sym given ∙ e
 
+    -- It finds one: that is the answer, record and output unchanged.
     pub rowsRefused : (out : List ℕ) → (k ≡ 0 → ⊥) → gave k rec out ≡ readLeft rec f out
     unfolding answer
     rowsRefused out = refusedBy rec out (heard (contentsIn rec) f) (first (recordRows (contentsIn rec) f)) k given
 
+    -- It finds none: the frame is accepted.
     pub rowsAccepted : (out : List ℕ) → k ≡ 0 → after rec out (accepted (heard (contentsIn rec) f)) ≡ readLeft rec f out
     unfolding answer
     rowsAccepted out e = acceptedBy rec out (heard (contentsIn rec) f) (first (recordRows (contentsIn rec) f)) (rowsPass e)
@@ -138,6 +145,7 @@ module _ {rec : List ℕ} {set : Settings} {f : Frame} (g : Read rec set f) wher
   -- ---- the frame is kept
 
   module _ (rec' : List ℕ) (holds : Holds rec' (keepFrame (decodeRecord rec) (f .sender) f)) where
+    -- The bytes hold the contents with the frame kept.
     held : contentsIn rec' ≡ keep f (contentsIn rec)
     held = contentsHeld holds ∙ contentsKeep (decodeRecord rec) f refl (placeOf .row) shape
 
@@ -151,10 +159,12 @@ module _ {rec : List ℕ} {set : Settings} {f : Frame} (g : Read rec set f) wher
         whole = heardWhole (contentsIn rec) f (subst (λ (s : Settings). Readable (s .n) (s .id) f) (g .held .its) (g .readable))
             (record { sound = ready .sound; ranged = ready .ranged })
 
+    -- The settings are the same.
     heardSet : set ≡ decodeRecord rec' .set
     unfolding contents keep
     heardSet = g .held .its ∙ ap (λ (c : Record). c .set) (sym held)
 
+    -- What `pass_from` asks for, to go from A.
     pub hearRequires : (out : List ℕ) → first (recordRows (contentsIn rec) f) ≡ 0 → 256 ≤ length out
         → Ready rec' × (set ≡ decodeRecord rec' .set) × (0 ≤ 8) × Room (pass fromA (contentsIn rec')) 0 out
     unfolding heard answer
@@ -169,6 +179,7 @@ module _ {rec : List ℕ} {set : Settings} {f : Frame} (g : Read rec set f) wher
         accepts : answer (some (contentsIn rec)) (frame (Accepted f)) ≡ accepted (heard (contentsIn rec) f)
         accepts = ap (λ (k : ℕ). unless k (heard (contentsIn rec) f)) passed
 
+    -- With that pass run, the whole frame call has run.
     pub hearRan : (out out' : List ℕ) (n : ℕ) (rec'' : List ℕ) → Ran (pass fromA (contentsIn rec')) 0 out out' n rec''
         → Ran (heard (contentsIn rec) f) 0 out out' n rec''
     unfolding heard
@@ -183,9 +194,11 @@ module _ (rec bytes : List ℕ) (link : ℕ) (out : List ℕ) where
 
   module _ (sound : lentIs rec ≡ Sound) (room : 256 ≤ length out) (set : Settings) (is : set ≡ decodeRecord rec .set) (x : Reading)
       (got : x ≡ readFrame bytes link (set .n) (set .id)) where
+    -- The code reads with the same settings, so it gets the same answer.
     reads : x ≡ reading
     reads = got ∙ ap (λ (s : Settings). readFrame bytes link (s .n) (s .id)) is
 
+    -- So what the call leaves is what that answer gives.
     pub frameAnswered : after rec out (answer (some (contentsIn rec)) (frame x)) ≡ frameLeft rec link bytes out
     unfolding frameLeft
     frameAnswered =
@@ -198,9 +211,11 @@ module _ (rec bytes : List ℕ) (link : ℕ) (out : List ℕ) where
         ap (λ (i : ℕ). gave i rec out) (number ∙ ap refusalOf e)
         ∙ ap (λ (y : Reading). after rec out (answer (some (contentsIn rec)) (frame y))) (sym e) ∙ frameAnswered
 
+    -- An accepted frame goes on against the record.
     pub readAccepted : (f : Frame) → x ≡ Accepted f → readLeft rec f out ≡ frameLeft rec link bytes out
     readAccepted f e = ap (λ (y : Reading). after rec out (answer (some (contentsIn rec)) (frame y))) (sym e) ∙ frameAnswered
 
+    -- What `frame_read` asks for: a sound record, and a frame that its reader accepted.
     pub readThen : Bytes rec → Bytes bytes → (f : Frame) → x ≡ Accepted f → Read rec set f
     readThen lent known f e = record {
       held = record { ready = readyLent rec lent sound; its = is };
@@ -209,6 +224,7 @@ module _ (rec bytes : List ℕ) (link : ℕ) (out : List ℕ) where
 
 -- ---- the way in
 
+-- Refusals 1 to 3: the number is the answer, record and output unchanged.
 pub frameRefused : (rec : List ℕ) (link : ℕ) (bytes out : List ℕ) (k : ℕ) → k ≡ wayIn rec (length out) → (k ≡ 0 → ⊥)
     → gave k rec out ≡ frameLeft rec link bytes out
 unfolding frameLeft answer

@@ -44,20 +44,24 @@ acceptedRoom b a o out e room = omega (arith, outputShort b a o e)
 -- ---- tables of refusals: the number k that one gives, 0 where it gives none
 
 module _ (rec out : List ℕ) (o : Out) (k : ℕ) where
+  -- A table gives a number: that is the answer, record and output unchanged.
   pub refusedBy : (j : ℕ) → j ≡ k → (j ≡ 0 → ⊥) → gave j rec out ≡ after rec out (unless k o)
   refusedBy zero e given = absurd (given refl)
   refusedBy (suc j) e given = ap (λ (i : ℕ). after rec out (unless i o)) e
 
+  -- It gives none: the call is accepted.
   pub acceptedBy : k ≡ 0 → after rec out (accepted o) ≡ after rec out (unless k o)
   acceptedBy e = ap (λ (i : ℕ). after rec out (unless i o)) (sym e)
 
 -- ---- any call: 'output space below 256 bytes' first, then by what the record is
 
 module _ (k : ℕ) (rec out : List ℕ) (a : Call) where
+  -- Output space below 256 bytes: 1, whatever the call.
   pub calledShort : length out < 256 → gave 1 rec out ≡ called k rec out a
   unfolding called
   calledShort low = rw (lt-ltb (length out) 256 low)
 
+  -- Else what the record is decides.
   pub calledLent : 256 ≤ length out → (l : Lent) → lentIs rec ≡ l → after rec out (onLent l k (contents (decodeRecord rec)) a) ≡ called k rec out a
   unfolding called
   calledLent room l e = sym (rw (le-ltb (length out) 256 room, e))
@@ -65,10 +69,12 @@ module _ (k : ℕ) (rec out : List ℕ) (a : Call) where
 -- ---- the way in, of a frame and of a timer
 
 module _ (rec : List ℕ) (room : ℕ) where
+  -- Output space below 256 bytes: 1.
   pub wayShort : room < 256 → 1 ≡ wayIn rec room
   unfolding wayIn
   wayShort low = rw (lt-ltb room 256 low)
 
+  -- Else what the record is: 2 where it is blank, 3 where it is unsound, none where it is sound.
   pub wayLent : 256 ≤ room → (l : Lent) → lentIs rec ≡ l → byLent l ≡ wayIn rec room
   unfolding wayIn
   wayLent high l e = rw (le-ltb room 256 high, e)

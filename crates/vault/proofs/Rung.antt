@@ -42,6 +42,7 @@ use Rattle.vault.proofs.Laws.{acceptedRoom, refusedBy, acceptedBy, call
 abbrev asks : Report → Option ℕ
 asks x = cond (present x) (some (x .view)) none
 
+-- The view for which a sender's view-change is, by contents, is what its slot asks for.
 changeAt : (r : slots.Record) (j : ℕ) → j < rows → changeOf (contents r) j ≡ asks (slotOf r (frameSlot 6 j))
 unfolding keptIn frameIn
 changeAt r j low =
@@ -53,32 +54,40 @@ changeAt r j low =
 
 -- The own view-change stands in slot `at`, and is x.
 module _ (rec : List ℕ) (id view at : ℕ) (row : id < rows) (place : at ≡ frameSlot 6 id) (x : Report) (own : x ≡ slotOf (decodeRecord rec) at) where
+  -- w is the view that an accepted timer asks for.
   abbrev Wanted : ℕ → Type 0
   Wanted w = w ≡ wantedFrom view (changeOf (contentsIn rec) id)
 
+  -- What the own slot gives is that view.
   there : (w : ℕ) → w ≡ wantedFrom view (asks x) → Wanted w
   there w e =
       e ∙ ap (λ (y : Report). wantedFrom view (asks y)) (own ∙ ap (slotOf (decodeRecord rec)) place)
       ∙ ap (wantedFrom view) (sym (changeAt (decodeRecord rec) id row))
 
+  -- No own view-change is kept: the next view.
   pub wantedNone : (x .mark ≡ 1 → ⊥) → Wanted (view + 1)
   wantedNone ne = there (view + 1) (rw (ne-eqb (x .mark) 1 ne) (add-one view))
 
+  -- The own one is above the current view: it is repeated.
   pub wantedOwn : x .mark ≡ 1 → view < x .view → Wanted (x .view)
   wantedOwn is above = there (x .view) (rw (eq-eqb (x .mark) 1 is, lt-ltb view (x .view) above) refl)
 
+  -- It is not: the next view.
   pub wantedNext : x .mark ≡ 1 → x .view ≤ view → Wanted (view + 1)
   wantedNext is low = there (view + 1) (rw (eq-eqb (x .mark) 1 is, le-ltb view (x .view) low) (add-one view))
 
 -- ---- the refusals
 
 module _ (current v : ℕ) where
+  -- 'view named is not the current one': 18.
   pub notCurrent : (v ≡ current → ⊥) → TimerGives current v 18
   notCurrent ne r e = rw (e, ne-eqb v current ne) refl
 
+  -- 'current view is 4,294,967,295': 19.
   pub lastView : v ≡ current → current ≡ 4294967295 → TimerGives current v 19
   lastView is last r e = rw (e, eq-eqb v current is, eq-eqb current 4294967295 last) refl
 
+  -- Neither: none is given.
   pub mayRing : v ≡ current → (current ≡ 4294967295 → ⊥) → TimerGives current v 0
   mayRing is ne r e = rw (e, eq-eqb v current is, ne-eqb current 4294967295 ne) refl
 
@@ -90,20 +99,24 @@ ownRow h = subst (λ (s : Settings). s .id < rows) (sym (h .its)) (readyRow (h .
 
 module _ {rec : List ℕ} {set : Settings} (h : Held rec set) (view : ℕ) (current : view ≡ decodeRecord rec .view)
     (low : view < 4294967295) (w : ℕ) (found : w ≡ wantedFrom view (changeOf (contentsIn rec) (set .id))) (out : List ℕ) (room : 256 ≤ length out) where
+  -- The current view is not the last, so there is a next one.
   notLast : contentsIn rec .view ≡ 4294967295 → ⊥
   unfolding contents
   notLast e = omega (arith, e, low, current)
 
+  -- w is the view that the record's contents want.
   wants : w ≡ wanted (contentsIn rec)
   unfolding contents
   wants =
       found ∙ ap (λ (v : ℕ). wantedFrom v (changeOf (contentsIn rec) (set .id))) current
       ∙ ap (λ (s : Settings). wantedFrom (decodeRecord rec .view) (changeOf (contentsIn rec) (s .id))) (h .its)
 
+  -- It is above the current view, so it can be asked for.
   above : decodeRecord rec .view < w
   unfolding contents
   above = omega (arith, wants, wantedMay (contentsIn rec) notLast .0)
 
+  -- The view-change for w is broadcast.
   abbrev asking : Out
   asking = taken (contentsIn rec) (some (ask w))
 
@@ -112,16 +125,19 @@ module _ {rec : List ℕ} {set : Settings} (h : Held rec set) (view : ℕ) (curr
   unfolding rung
   rungIs = ap (λ (v : ℕ). joined (taken (contentsIn rec) (some (ask v))) fromA) wants
 
+  -- An accepted timer has room for all its entries.
   roomAll : Room (joined asking fromA) 0 out
   unfolding answer
   roomAll = subst (λ (o : Out). Room o 0 out) (sym rungIs)
       (acceptedRoom (some (contentsIn rec)) (timer (contentsIn rec .view)) (rung (contentsIn rec)) out
       (ap (λ (k : ℕ). unless k (rung (contentsIn rec))) (sym (mayRing (contentsIn rec .view) (contentsIn rec .view) refl notLast (contentsIn rec) refl))) room)
 
+  -- What `ask_for` asks for.
   pub askRequires : Ready rec × (set ≡ decodeRecord rec .set) × (decodeRecord rec .view < w) × Room asking 0 out
   askRequires = (h .ready, h .its, above, roomFirst asking fromA 0 out roomAll)
 
   module _ (at : ℕ) (rec' out' : List ℕ) (ran : Ran asking 0 out out' at rec') where
+    -- What `pass_from` asks for, to go from A.
     pub ringRequires : Ready rec' × (set ≡ decodeRecord rec' .set) × (0 ≤ 8) × Room (pass fromA (contentsIn rec')) at out'
     unfolding contents
     ringRequires = (
@@ -131,6 +147,7 @@ module _ {rec : List ℕ} {set : Settings} (h : Held rec set) (view : ℕ) (curr
       roomNext asking fromA 0 out roomAll ran,
     )
 
+    -- With that pass run, the whole timer has run.
     pub ringRan : (n : ℕ) (rec'' out'' : List ℕ) → Ran (pass fromA (contentsIn rec')) at out' out'' n rec'' → Ran (rung (contentsIn rec)) 0 out out'' n rec''
     ringRan n rec'' out'' then =
         subst (λ (o : Out). Ran o 0 out out'' n rec'') rungIs (ranJoin asking fromA 0 out roomAll ran then)
@@ -139,22 +156,27 @@ module _ {rec : List ℕ} {set : Settings} (h : Held rec set) (view : ℕ) (curr
 
 module _ (rec out : List ℕ) (sound : lentIs rec ≡ Sound) (room : 256 ≤ length out) (current : ℕ) (now : current ≡ decodeRecord rec .view) (view k : ℕ)
     (given : TimerGives current view k) where
+  -- The code's number is that of rows 18 and 19 on contents.
   rows′ : k ≡ first (timerRows (contentsIn rec) view)
   unfolding contents
   rows′ = given (contentsIn rec) (sym now)
 
+  -- On a sound record the timer by contents decides.
   answered : after rec out (answer (some (contentsIn rec)) (timer view)) ≡ timerLeft rec view out
   unfolding timerLeft
   answered = calledLent 3 rec out (timer view) room Sound sound
 
+  -- A number is given: that is the answer, record and output unchanged.
   pub timerRefused : (k ≡ 0 → ⊥) → gave k rec out ≡ timerLeft rec view out
   unfolding answer
   timerRefused other = refusedBy rec out (rung (contentsIn rec)) (first (timerRows (contentsIn rec) view)) k rows′ other ∙ answered
 
+  -- None is given: the timer is accepted.
   pub timerAccepted : k ≡ 0 → after rec out (accepted (rung (contentsIn rec))) ≡ timerLeft rec view out
   unfolding answer
   timerAccepted e = acceptedBy rec out (rung (contentsIn rec)) (first (timerRows (contentsIn rec) view)) (sym rows′ ∙ e) ∙ answered
 
+  -- Then the current view is below the last, as `ring` asks.
   pub viewBelow : Ready rec → k ≡ 0 → current < 4294967295
   unfolding contents
   viewBelow ready e =
@@ -163,6 +185,7 @@ module _ (rec out : List ℕ) (sound : lentIs rec ≡ Sound) (room : 256 ≤ len
       let ne : decodeRecord rec .view ≡ 4294967295 → ⊥ = eqb-false (decodeRecord rec .view) 4294967295 other in
       omega (arith, wide, ne, now)
 
+-- Refusals 1 to 3: the number is the answer, record and output unchanged.
 pub timerShut : (rec : List ℕ) (view : ℕ) (out : List ℕ) (k : ℕ) → k ≡ wayIn rec (length out) → (k ≡ 0 → ⊥) → gave k rec out ≡ timerLeft rec view out
 unfolding timerLeft answer
 timerShut rec view out k way = wayRefused rec out k way (timer view) refl

@@ -18,6 +18,7 @@ use Rattle.vault.proofs.timer.Reads as ofTimer
 startTakes : (κs : Lfts 2) (r o : RefT (List ℕ)) (set : Settings) (plan : ℕ) → ofStart.Asked κs (r, (set, (plan, (o, tt))))
 startTakes κs r o set plan = tt
 
+-- What start's caller learns: the answer, and every byte of record and output.
 startSaid : (κs : Lfts 2) (r o : RefT (List ℕ)) (set : Settings) (plan : ℕ) (a : Answer) (rec out : List ℕ)
     → ofStart.Learnt κs (r, (set, (plan, (o, tt)))) a (at-last r rec, (set, (plan, (at-last o out, tt))))
     → leftBy a rec out ≡ startLeft (now r) set plan (now o)
@@ -27,6 +28,7 @@ startSaid κs r o set plan a rec out learnt = learnt
 frameTakes : (κs : Lfts 3) (r s o : RefT (List ℕ)) (link : ℕ) → ofFrame.Asked κs (r, (link, (s, (o, tt))))
 frameTakes κs r s o link = tt
 
+-- What frame's caller learns.
 frameSaid : (κs : Lfts 3) (r s o : RefT (List ℕ)) (link : ℕ) (a : Answer) (rec out : List ℕ)
     → ofFrame.Learnt κs (r, (link, (s, (o, tt)))) a (at-last r rec, (link, (s, (at-last o out, tt))))
     → leftBy a rec out ≡ frameLeft (now r) link (now s) (now o)
@@ -36,6 +38,7 @@ frameSaid κs r s o link a rec out learnt = learnt
 timerTakes : (κs : Lfts 2) (r o : RefT (List ℕ)) (view : ℕ) → ofTimer.Asked κs (r, (view, (o, tt)))
 timerTakes κs r o view = tt
 
+-- What timer's caller learns.
 timerSaid : (κs : Lfts 2) (r o : RefT (List ℕ)) (view : ℕ) (a : Answer) (rec out : List ℕ)
     → ofTimer.Learnt κs (r, (view, (o, tt))) a (at-last r rec, (view, (at-last o out, tt)))
     → leftBy a rec out ≡ timerLeft (now r) view (now o)

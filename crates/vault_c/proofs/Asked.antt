@@ -20,9 +20,11 @@ room : (out : List ℕ) (t : Told) → 2 ≤ length out → t ≡ withRoom out t
 unfolding withRoom
 room out t h = rw (le-ltb (length out) 2 h) refl
 
+-- With room, the host is told what crate stored answers on the current view.
 pub current-told : (out : List ℕ) (t : Told) (x y : Current) → 2 ≤ length out → x ≡ y → t ≡ tellCurrent x out → t ≡ withRoom out (tellCurrent y out)
 current-told out t x y h same is = is ∙ ap (λ (z : Current). tellCurrent z out) same ∙ room out (tellCurrent y out) h
 
+-- With room, the host is told what crate stored answers on the decision.
 pub decision-told : (out : List ℕ) (t : Told) (x y : Decision) → 2 ≤ length out → x ≡ y → t ≡ tellDecision x out → t ≡ withRoom out (tellDecision y out)
 decision-told out t x y h same is = is ∙ ap (λ (z : Decision). tellDecision z out) same ∙ room out (tellDecision y out) h
 

@@ -18,6 +18,7 @@ use Rattle.protocol.specs.Record.{Record}
 use Rattle.protocol.specs.Pass.{Out}
 use Rattle.protocol.specs.Calls.{Call, start, frame, timer, short, Answer, refused, accepted, unless, recordRows, timerRows, started, heard, rung, answer}
 
+-- The numbers of refusals that a call gives: 1 to 19.
 abbrev pub Refusal : ℕ → Type 0
 Refusal k = (1 ≤ k) × (k ≤ 19)
 
@@ -26,6 +27,7 @@ abbrev Low : List Row → Type 0
 Low [] = Unit {0}
 Low (row k given ∷ rows) = (k ≤ 19) × Low rows
 
+-- The number that such a table gives is at most 19.
 firstLow : (rows : List Row) → Low rows → first rows ≤ 19
 firstLow [] low = omega arith
 firstLow (row k true ∷ rows) low = low .0
@@ -36,6 +38,7 @@ abbrev pub Named : Answer → Type 0
 Named (refused k) = Refusal k
 Named (accepted o) = Unit {0}
 
+-- A call that a table decides answers with such a number, or is accepted.
 unlessNamed : (k : ℕ) (o : Out) → k ≤ 19 → Named (unless k o)
 unlessNamed zero o low = tt
 unlessNamed (suc k) o low = (omega arith, low)
@@ -48,6 +51,7 @@ Brings (frame (Refused k)) = Refusal k
 Brings (timer view) = Unit {0}
 Brings short = Unit {0}
 
+-- The reader's number is one: its rows are 9 to 15.
 pub readNamed : (s : List ℕ) (link n own : ℕ) → Brings (frame (readFrame s link n own))
 unfolding readFrame refusal
 readNamed s link n own = go (eqb (refusal s link n own) 0) refl
@@ -60,6 +64,7 @@ readNamed s link n own = go (eqb (refusal s link n own) 0) refl
         let low : refusal s link n own ≤ 19 = firstLow rows (omega arith) in
         omega arith
 
+-- So every call by contents answers with such a number, or is accepted.
 pub answerNamed : (b : Option Record) (a : Call) → Brings a → Named (answer b a)
 unfolding answer
 answerNamed b short brings = omega arith

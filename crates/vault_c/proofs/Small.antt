@@ -28,11 +28,13 @@ use Rattle.contents.specs.Contents.{contents}
 use Rattle.contents.specs.Calls.{after, onLent, called, startLeft, frameLeft, timerLeft}
 use Rattle.contents.specs.Left.{Left, wrote, gave}
 
+-- What a call leaves is small: at most 205 bytes written, or a refusal's number.
 abbrev pub Small : Left → Type 0
 Small (wrote count rec out) = count ≤ 205
 Small (gave number rec out) = Refusal number
 
 module _ (rec out : List ℕ) (a : Call) (brings : Brings a) where
+  -- By contents every call leaves so little.
   small-after : (b : Option Record) → Small (after rec out (answer b a))
   small-after b = go (answer b a) refl (answerNamed b a brings)
     where
@@ -40,11 +42,13 @@ module _ (rec out : List ℕ) (a : Call) (brings : Brings a) where
       go (refused k) e named = named
       go (accepted o) e named = outputShort b a o e
 
+  -- So it does on a lent record, whatever that is.
   small-lent : (l : Lent) (k : ℕ) (r : Record) → Refusal k → Small (after rec out (onLent l k r a))
   small-lent Blank k r named = small-after none
   small-lent Unsound k r named = named
   small-lent Sound k r named = small-after (some r)
 
+  -- And whatever the output space is.
   small-called : (k : ℕ) → Refusal k → Small (called k rec out a)
   unfolding called
   small-called k named = go (ltb (length out) 256)
@@ -53,10 +57,12 @@ module _ (rec out : List ℕ) (a : Call) (brings : Brings a) where
       go true = omega arith
       go false = small-lent (lentIs rec) k (contents (decodeRecord rec)) named
 
+-- So does start.
 pub small-start : (rec : List ℕ) (set : Settings) (plan : ℕ) (out : List ℕ) → Small (startLeft rec set plan out)
 unfolding startLeft
 small-start rec set plan out = small-called rec out (start set plan) tt 4 (omega arith)
 
+-- So does frame.
 pub small-frame : (rec : List ℕ) (link : ℕ) (bytes out : List ℕ) → Small (frameLeft rec link bytes out)
 unfolding frameLeft
 small-frame rec link bytes out =
@@ -64,6 +70,7 @@ small-frame rec link bytes out =
     let id = decodeRecord rec .set .id in
     small-called rec out (frame (readFrame bytes link n id)) (readNamed bytes link n id) 3 (omega arith)
 
+-- So does timer.
 pub small-timer : (rec : List ℕ) (view : ℕ) (out : List ℕ) → Small (timerLeft rec view out)
 unfolding timerLeft
 small-timer rec view out = small-called rec out (timer view) tt 3 (omega arith)

@@ -16,6 +16,7 @@ use Rattle.vault_c.proofs.vault_timer.Reads as ofTimer
 startTakes : (κs : Lfts 2) (r o : RefT (List ℕ)) (n f id class plan : ℕ) → ofStart.Asked κs (r, (n, (f, (id, (class, (plan, (o, tt)))))))
 startTakes κs r o n f id class plan = tt
 
+-- What the caller of start's export learns: the number, and every byte of record and output.
 startSaid : (κs : Lfts 2) (r o : RefT (List ℕ)) (n f id class plan number : ℕ) (rec out : List ℕ)
     → ofStart.Learnt κs (r, (n, (f, (id, (class, (plan, (o, tt))))))) number (at-last r rec, (n, (f, (id, (class, (plan, (at-last o out, tt)))))))
     → seen number rec out ≡ numbered (startLeft (now r) (record { n = n; f = f; id = id; class = class }) plan (now o))
@@ -25,6 +26,7 @@ startSaid κs r o n f id class plan number rec out learnt = learnt
 frameTakes : (κs : Lfts 3) (r s o : RefT (List ℕ)) (link : ℕ) → ofFrame.Asked κs (r, (link, (s, (o, tt))))
 frameTakes κs r s o link = tt
 
+-- What the caller of frame's export learns.
 frameSaid : (κs : Lfts 3) (r s o : RefT (List ℕ)) (link number : ℕ) (rec out : List ℕ)
     → ofFrame.Learnt κs (r, (link, (s, (o, tt)))) number (at-last r rec, (link, (s, (at-last o out, tt))))
     → seen number rec out ≡ numbered (frameLeft (now r) link (now s) (now o))
@@ -34,6 +36,7 @@ frameSaid κs r s o link number rec out learnt = learnt
 timerTakes : (κs : Lfts 2) (r o : RefT (List ℕ)) (view : ℕ) → ofTimer.Asked κs (r, (view, (o, tt)))
 timerTakes κs r o view = tt
 
+-- What the caller of timer's export learns.
 timerSaid : (κs : Lfts 2) (r o : RefT (List ℕ)) (view number : ℕ) (rec out : List ℕ)
     → ofTimer.Learnt κs (r, (view, (o, tt))) number (at-last r rec, (view, (at-last o out, tt)))
     → seen number rec out ≡ numbered (timerLeft (now r) view (now o))

@@ -27,7 +27,7 @@ length-digits (suc w) n = simp (length-append, length-digits w (n / 256)) (add-o
 pub room : (i n : ℕ) → i < 8 → n < 256 ^ i → n * 256 + 255 < 2 ^ 64
 room i n h b = let p : 256 ^ i ≤ 256 ^ 7 = pow-le-pow-right {n = 256} (omega arith) {i = i} {j = 7} (omega arith) in omega arith
 
--- one more digit makes a number of one more byte, for the loop that reads a number
+-- a number with one digit more fits one byte more, for the loop that reads numbers
 pub more : (i n b : ℕ) → n < 256 ^ i → b < 256 → n * 256 + b < 256 ^ (i + 1)
 more i n b h k = rw (add-one, pow-suc) (omega arith)
 
