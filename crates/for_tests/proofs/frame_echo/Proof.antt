@@ -1,4 +1,4 @@
--- `frame_c::frame_echo` meets its contract. "Each gives its number, zero bytes written, record and output unchanged" (01, Refusals).
+-- `for_tests::frame_echo` meets its contract. "Each gives its number, zero bytes written, record and output unchanged" (01, Refusals).
 -- Each answer by the reading that led to it: 1 by the length, a refusal by `read`, the entries by `put_echo`.
 -- Assumes nothing.
 use Prim.Native.Nat.{ℕ, _+_}
@@ -8,11 +8,11 @@ use lib.ListN.{length}
 use denote.Ref.{now}
 use borrow.Author.Tests.{lt-ltb, le-ltb}
 use Rattle.frame.specs.inside.Reading.{refusalOf}
-use Rattle.frame_c.specs.inside.Echo.{left, echo}
-use Rattle.frame_c.proofs.Laws.{counted}
+use Rattle.for_tests.specs.inside.Answers.{left, echo}
+use Rattle.for_tests.proofs.Laws.{countShort}
 use borrow.Author.Needs.{needs}
-use Rattle.frame_c.proofs.frame_echo.Statement.{statement}
-use Rattle.frame_c.proofs.frame_echo.Tie as tie
+use Rattle.for_tests.proofs.frame_echo.Statement.{statement}
+use Rattle.for_tests.proofs.frame_echo.Tie as tie
 
 returns : tie.Need-returns
 unfolding echo
@@ -45,10 +45,10 @@ put-echo-requires : tie.Need-put-echo-requires
 put-echo-requires c κs = search needs
 
 cast-result-2 : tie.Need-cast-result-2
-cast-result-2 c = omega (arith, counted _ _ (c .before .before .put-echo .ensures .0))
+cast-result-2 c = omega (arith, countShort _ _ (c .before .before .put-echo .ensures .0))
 
 add-result : tie.Need-add-result
-add-result c = omega (arith, counted _ _ (c .before .before .put-echo .ensures .0))
+add-result c = omega (arith, countShort _ _ (c .before .before .put-echo .ensures .0))
 
 same-length : tie.Need-same-length
 same-length c = search needs

@@ -1,12 +1,12 @@
--- `safe_c::safe_plan` meets its contract.
+-- `for_tests::safe_plan` meets its contract.
 -- Each answer's number is that of `safePlan`: safe, not safe, or a call that makes no sense.
 -- Assumes nothing.
 use mathlib.Core.Bool.{true, false}
 use mathlib.Core.Path.{sym, _∙_}
 use borrow.Author.Needs.{needs}
-use Rattle.safe_c.proofs.Laws.{laidParts, safeSaid, safeUnlaid}
-use Rattle.safe_c.proofs.safe_plan.Statement.{statement}
-use Rattle.safe_c.proofs.safe_plan.Tie as tie
+use Rattle.for_tests.proofs.Laws.{laidParts, safeSaid, safeUnlaid}
+use Rattle.for_tests.proofs.safe_plan.Statement.{statement}
+use Rattle.for_tests.proofs.safe_plan.Tie as tie
 
 is-laid-requires : tie.Need-is-laid-requires
 is-laid-requires c κs = search needs

@@ -1,4 +1,4 @@
--- `frame_c::put_echo` meets its contract. "Entries lie end to end" (01, Refusals).
+-- `for_tests::put_echo` meets its contract. "Entries lie end to end" (01, Refusals).
 -- Three entries put one after the other lie end to end, and three entries have room in 138 bytes.
 -- Assumes nothing.
 use native.Mathlib.Omega.{arith}
@@ -6,11 +6,11 @@ use lib.ListN.{length-append}
 use denote.Ref.{now}
 use Rattle.entry.specs.declared.Entry.the-variants.{ForAll, Timer, Decision}
 use Rattle.entry.proofs.Theorems.{entry-length, lays-layout}
-use Rattle.frame_c.specs.inside.Echo.{echoEntries}
-use Rattle.frame_c.proofs.Laws.{echo-short}
+use Rattle.for_tests.specs.inside.Answers.{echoEntries}
+use Rattle.for_tests.proofs.Laws.{echoShort}
 use borrow.Author.Needs.{needs}
-use Rattle.frame_c.proofs.put_echo.Statement.{statement}
-use Rattle.frame_c.proofs.put_echo.Tie as tie
+use Rattle.for_tests.proofs.put_echo.Statement.{statement}
+use Rattle.for_tests.proofs.put_echo.Tie as tie
 
 put-entry-requires : tie.Need-put-entry-requires
 put-entry-requires c κs = omega (arith, entry-length (ForAll (c .before .before .args .f)) .1)
@@ -43,7 +43,7 @@ returns c =
     let timer = atPutEntry2 .put-entry2 .ensures in
     let decision = c .before .before .put-entry3 .ensures in (
       simp length-append (omega arith),
-      rw (decision .1, timer .1, frame .1, timer .0, frame .0) (lays-layout (echoEntries (a .f)) (now (a .out)) 0 (omega (arith, echo-short (a .f)))),
+      rw (decision .1, timer .1, frame .1, timer .0, frame .0) (lays-layout (echoEntries (a .f)) (now (a .out)) 0 (omega (arith, echoShort (a .f)))),
     )
 
 pub put-echo-spec : {M : Type 1} → statement M

@@ -1,13 +1,12 @@
--- `safe_c::choose_plan` meets its contract.
+-- `for_tests::choose_plan` meets its contract.
 -- Each answer's number and output are those of `choosePlan`: the choice with its plan or without, or a call that makes no sense.
 -- Assumes nothing.
 use mathlib.Core.Path.{sym, _∙_, ap}
 use borrow.Author.Needs.{needs}
 use Rattle.safe.specs.Choices.{chosen}
-use Rattle.safe_c.proofs.Laws.{laidParts, chooseSaid, chooseFull, chooseUnlaid}
-use Rattle.safe_c.specs.inside.Answers.{Answer}
-use Rattle.safe_c.proofs.choose_plan.Statement.{statement}
-use Rattle.safe_c.proofs.choose_plan.Tie as tie
+use Rattle.for_tests.proofs.Laws.{laidParts, chooseSaid, chooseFull, chooseUnlaid}
+use Rattle.for_tests.proofs.choose_plan.Statement.{statement}
+use Rattle.for_tests.proofs.choose_plan.Tie as tie
 
 is-laid-requires : tie.Need-is-laid-requires
 is-laid-requires c κs = search needs
@@ -39,11 +38,10 @@ returns c =
     let atEntry = atIsLaid .before .before .before in
     let a = atEntry .args in
     let set = atSettingsFor .settings-for .ensures in
-    let e = chooseSaid (a .table .now) (a .n) (a .f) _ _ (set .0) (set .1) (a .v) (a .start) _ (a .out .now)
+    chooseSaid (a .table .now) (a .n) (a .f) _ _ (set .0) (set .1) (a .v) (a .start) _ (a .out .now)
     (sym (atIsLaid .is-laid .ensures) ∙ atIf1 .if1 .taken)
     (atIf2 .if2 .taken)
-    (sym (ap chosen (c .before .choice .given .1)) ∙ c .before .before .before .choose .ensures) in
-    (ap (λ (x : Answer). x .code) e, ap (λ (x : Answer). x .out) e)
+    (sym (ap chosen (c .before .choice .given .1)) ∙ c .before .before .before .choose .ensures)
 
 enum-told : tie.Need-enum-told
 enum-told c = search needs
@@ -56,23 +54,20 @@ returns-2 c =
     let atEntry = atIsLaid .before .before .before in
     let a = atEntry .args in
     let set = c .before .before .before .settings-for .ensures in
-    let e = chooseSaid (a .table .now) (a .n) (a .f) _ _ (set .0) (set .1) (a .v) (a .start) _ (a .out .now)
+    chooseSaid (a .table .now) (a .n) (a .f) _ _ (set .0) (set .1) (a .v) (a .start) _ (a .out .now)
     (sym (atIsLaid .is-laid .ensures) ∙ atIf1 .if1 .taken)
     (atIf2 .if2 .taken)
-    (sym (ap chosen (c .enum-told .given .1)) ∙ c .before .before .choose .ensures) in
-    (ap (λ (x : Answer). x .code) e, ap (λ (x : Answer). x .out) e)
+    (sym (ap chosen (c .enum-told .given .1)) ∙ c .before .before .choose .ensures)
 
 returns-3 : tie.Need-returns-3
 returns-3 c =
     let a = c .before .before .before .before .before .args in
-    let e = chooseFull (a .table .now) (a .n) (a .f) (a .v) (a .start) (a .out .now) (c .if2 .left) in
-    (ap (λ (x : Answer). x .code) e, ap (λ (x : Answer). x .out) e)
+    chooseFull (a .table .now) (a .n) (a .f) (a .v) (a .start) (a .out .now) (c .if2 .left)
 
 returns-4 : tie.Need-returns-4
 returns-4 c =
     let a = c .before .before .before .before .args in
-    let e = chooseUnlaid (a .table .now) (a .n) (a .f) (a .v) (a .start) (a .out .now) (sym (c .before .is-laid .ensures) ∙ c .if1 .left) in
-    (ap (λ (x : Answer). x .code) e, ap (λ (x : Answer). x .out) e)
+    chooseUnlaid (a .table .now) (a .n) (a .f) (a .v) (a .start) (a .out .now) (sym (c .before .is-laid .ensures) ∙ c .if1 .left)
 
 pub choose-plan-spec : {M : Type 1} → statement M
 choose-plan-spec =

@@ -1,10 +1,10 @@
--- `record_c::record_class` meets its contract: each answer has its number.
+-- `for_tests::record_class` meets its contract: each answer has its number.
 -- Assumes nothing.
 use mathlib.Core.Path.{sym, ap, _∙_}
-use Rattle.record_c.specs.inside.Class.{classNumber}
+use Rattle.for_tests.specs.inside.Answers.{classNumber}
 use borrow.Author.Needs.{needs}
-use Rattle.record_c.proofs.record_class.Statement.{statement}
-use Rattle.record_c.proofs.record_class.Tie as tie
+use Rattle.for_tests.proofs.record_class.Statement.{statement}
+use Rattle.for_tests.proofs.record_class.Tie as tie
 
 classify-requires : tie.Need-classify-requires
 classify-requires c κs = search needs

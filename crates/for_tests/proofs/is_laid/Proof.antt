@@ -1,10 +1,10 @@
--- `safe_c::is_laid` meets its contract.
+-- `for_tests::is_laid` meets its contract.
 -- The three tests of `laid`, in its order.
 -- Assumes nothing.
 use borrow.Author.Tests.{eq-eqb, ne-eqb, le-leb, lt-leb}
-use Rattle.safe_c.specs.inside.Answers.{laid}
-use Rattle.safe_c.proofs.is_laid.Statement.{statement}
-use Rattle.safe_c.proofs.is_laid.Tie as tie
+use Rattle.for_tests.specs.inside.Answers.{laid}
+use Rattle.for_tests.proofs.is_laid.Statement.{statement}
+use Rattle.for_tests.proofs.is_laid.Tie as tie
 
 returns : tie.Need-returns
 unfolding laid
