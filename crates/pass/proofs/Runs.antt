@@ -18,7 +18,6 @@ use Rattle.protocol.specs.Pass.{Out, Step, onward, pass}
 use Rattle.contents.specs.Contents.{contentsIn}
 use Rattle.contents.specs.inside.Ready.{Ready}
 use Rattle.steps.specs.declared.Entries.{Entries}
-use Rattle.steps.specs.declared.Entries.the-variants.{Zero, One, Two, Three}
 use Rattle.steps.specs.declared.Record as by
 use Rattle.steps.specs.inside.Steps.{listOf, Took}
 use Rattle.pass.specs.inside.Steps.{Room, Ran}
@@ -65,36 +64,36 @@ module _ (e : Entries) (at : ℕ) (o : List ℕ) (room : at + length (layout (li
   low : at ≤ length o
   low = omega (arith, room)
 
-  being : (f : Entries) → e ≡ f → {n : ℕ} {o' : List ℕ} → Wrote at o (listOf f) n o' → Wrote at o (listOf e) n o'
-  being f is {n} {o'} = subst (λ (g : Entries). Wrote at o (listOf g) n o') (sym is)
+  being : (es : List Entry) → listOf e ≡ es → {n : ℕ} {o' : List ℕ} → Wrote at o es n o' → Wrote at o (listOf e) n o'
+  being es is {n} {o'} = subst (λ (fs : List Entry). Wrote at o fs n o') (sym is)
 
-  pub wroteZero : e ≡ Zero → Wrote at o (listOf e) at o
-  wroteZero is = being Zero is (wroteNone at o low)
+  pub wroteZero : listOf e ≡ [] → Wrote at o (listOf e) at o
+  wroteZero is = being [] is (wroteNone at o low)
 
   module _ (a : Entry) {n : ℕ} {p : List ℕ} (one : Put at o a n p) where
-    pub wroteOne : e ≡ One a → Wrote at o (listOf e) n p
-    wroteOne is = being (One a) is (wroteMore at o low [] a (wroteNone at o low) one)
+    pub wroteOne : listOf e ≡ a ∷ [] → Wrote at o (listOf e) n p
+    wroteOne is = being (a ∷ []) is (wroteMore at o low [] a (wroteNone at o low) one)
 
     module _ (b : Entry) {m : ℕ} {q : List ℕ} (two : Put n p b m q) where
-      pub wroteTwo : e ≡ Two a b → Wrote at o (listOf e) m q
-      wroteTwo is = being (Two a b) is (wroteMore at o low (a ∷ []) b (wroteMore at o low [] a (wroteNone at o low) one) two)
+      pub wroteTwo : listOf e ≡ a ∷ b ∷ [] → Wrote at o (listOf e) m q
+      wroteTwo is = being (a ∷ b ∷ []) is (wroteMore at o low (a ∷ []) b (wroteMore at o low [] a (wroteNone at o low) one) two)
 
-      pub wroteThree : (c : Entry) {k : ℕ} {s : List ℕ} → Put m q c k s → e ≡ Three a b c → Wrote at o (listOf e) k s
+      pub wroteThree : (c : Entry) {k : ℕ} {s : List ℕ} → Put m q c k s → listOf e ≡ a ∷ b ∷ c ∷ [] → Wrote at o (listOf e) k s
       wroteThree c three is =
-          being (Three a b c) is (wroteMore at o low (a ∷ b ∷ []) c
+          being (a ∷ b ∷ c ∷ []) is (wroteMore at o low (a ∷ b ∷ []) c
           (wroteMore at o low (a ∷ []) b (wroteMore at o low [] a (wroteNone at o low) one) two) three)
 
 -- Their sizes.
-pub sizeOne : (e : Entries) (a : Entry) → e ≡ One a → length (layout (listOf e)) ≡ length (entryBytes a)
-sizeOne e a is = ap (λ (f : Entries). length (layout (listOf f))) is ∙ omega (arith, lengthMore [] a)
+pub sizeOne : (e : Entries) (a : Entry) → listOf e ≡ a ∷ [] → length (layout (listOf e)) ≡ length (entryBytes a)
+sizeOne e a is = ap (λ (es : List Entry). length (layout es)) is ∙ omega (arith, lengthMore [] a)
 
-pub sizeTwo : (e : Entries) (a b : Entry) → e ≡ Two a b → length (layout (listOf e)) ≡ length (entryBytes a) + length (entryBytes b)
-sizeTwo e a b is = ap (λ (f : Entries). length (layout (listOf f))) is ∙ omega (arith, lengthMore (a ∷ []) b, lengthMore [] a)
+pub sizeTwo : (e : Entries) (a b : Entry) → listOf e ≡ a ∷ b ∷ [] → length (layout (listOf e)) ≡ length (entryBytes a) + length (entryBytes b)
+sizeTwo e a b is = ap (λ (es : List Entry). length (layout es)) is ∙ omega (arith, lengthMore (a ∷ []) b, lengthMore [] a)
 
-pub sizeThree : (e : Entries) (a b c : Entry) → e ≡ Three a b c
+pub sizeThree : (e : Entries) (a b c : Entry) → listOf e ≡ a ∷ b ∷ c ∷ []
     → length (layout (listOf e)) ≡ length (entryBytes a) + length (entryBytes b) + length (entryBytes c)
 sizeThree e a b c is =
-    ap (λ (f : Entries). length (layout (listOf f))) is ∙ omega (arith, lengthMore (a ∷ b ∷ []) c, lengthMore (a ∷ []) b, lengthMore [] a)
+    ap (λ (es : List Entry). length (layout es)) is ∙ omega (arith, lengthMore (a ∷ b ∷ []) c, lengthMore (a ∷ []) b, lengthMore [] a)
 
 -- ---- what an act or a step leaves, with its entries written
 

@@ -1,6 +1,7 @@
 // One pass over a record's lent bytes: steps A to H in their order. What a step is to do is found where the record lies; a record is
 // loaded by value only where a step acts.
 use acts::Act;
+use entry::Entry;
 use settings::Settings;
 use steps::Entries;
 use steps::Record;
@@ -54,15 +55,16 @@ fn write_entries(out: &mut [u8], at: usize, e: Entries) -> usize
 {
     match e {
         Entries::Zero => at,
-        Entries::One(a) => entry::put_entry(out, at, a),
-        Entries::Two(a, b) => {
-            let next = entry::put_entry(out, at, a);
-            entry::put_entry(out, next, b)
+        Entries::Sent(f) => entry::put_entry(out, at, Entry::ForAll(f)),
+        Entries::Decided(view, plan) => entry::put_entry(out, at, Entry::Decision { view, plan }),
+        Entries::Led(view, millis, proof) => {
+            let next = entry::put_entry(out, at, Entry::Timer { view, millis });
+            entry::put_entry(out, next, Entry::ForAll(proof))
         }
-        Entries::Three(a, b, c) => {
-            let second = entry::put_entry(out, at, a);
-            let third = entry::put_entry(out, second, b);
-            entry::put_entry(out, third, c)
+        Entries::Followed(view, millis, proof, to, suggest) => {
+            let second = entry::put_entry(out, at, Entry::Timer { view, millis });
+            let third = entry::put_entry(out, second, Entry::ForAll(proof));
+            entry::put_entry(out, third, Entry::ForOne(to, suggest))
         }
     }
 }

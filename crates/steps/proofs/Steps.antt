@@ -54,7 +54,7 @@ use Rattle.acts.specs.declared.Act as acts
 use Rattle.acts.specs.declared.Act.the-variants.{Ask, Enter, Cast, Decide}
 use Rattle.acts.specs.inside.Acts.{asAct, actAt}
 use Rattle.steps.specs.declared.Entries.{Entries}
-use Rattle.steps.specs.declared.Entries.the-variants.{Zero, One, Two, Three}
+use Rattle.steps.specs.declared.Entries.the-variants.{Zero, Sent, Decided, Led, Followed}
 use Rattle.steps.specs.declared.Record as by
 use Rattle.steps.specs.inside.Steps.{listOf, OfView, OfPlan, toldOf, Did, Took}
 use Rattle.steps.specs.inside.Order.{stepAt}
@@ -101,21 +101,21 @@ module _ (rec : List ℕ) (h : Ready rec) where
   votes kind id view p = record { kind = kind; sender = id; view = view; body = Plan p }
 
   pub didAsk : {id w : ℕ} {left : List ℕ} → id ≡ r .set .id → Holds left (keepFrame r id (changes id w))
-      → Did (taken c (some (ask w))) left (One (ForAll (changes id w)))
+      → Did (taken c (some (ask w))) left (Sent (changes id w))
   unfolding contents writes
   didAsk {id} {w} {left} own held =
       didHeld (subst (Holds left) (λ i. keepFrame r (own i) (changes (own i) w)) held)
       (contentsAsk r w row) (cleanAsk r w row (h .clean)) (λ i. ForAll (changes (own i) w) ∷ [])
 
   pub didCast : {k p kind id view : ℕ} {left : List ℕ} → k ≤ 4 → kind ≡ suc k → id ≡ r .set .id → view ≡ r .view
-      → Holds left (ownBroadcast r (votes kind id view p)) → Did (taken c (some (cast k p))) left (One (ForAll (votes kind id view p)))
+      → Holds left (ownBroadcast r (votes kind id view p)) → Did (taken c (some (cast k p))) left (Sent (votes kind id view p))
   unfolding contents writes
   didCast {k} {p} {left = left} low is own now held =
       didHeld (subst (Holds left) (λ i. ownBroadcast r (votes (is i) (own i) (now i) p)) held)
       (contentsCast r k p low row) (cleanCast r k p low row (h .clean)) (λ i. ForAll (votes (is i) (own i) (now i) p) ∷ [])
 
   pub didDecide : {p view : ℕ} {left : List ℕ} → view ≡ r .view → Holds left (decided r view p)
-      → Did (taken c (some (decide p))) left (One (Decision view p))
+      → Did (taken c (some (decide p))) left (Decided view p)
   unfolding contents writes
   didDecide {p} {left = left} now held =
       didHeld (subst (Holds left) (λ i. decided r (now i) p) held)
@@ -170,18 +170,18 @@ module _ (rec : List ℕ) (h : Ready rec) where
           (cleanEnter r w (h .clean) row b) (same ∙ ap (λ (x : Bool). heads (suggestEntry c w x)) (sym lead))
 
       pub didLead : to ≡ set .id → {left : List ℕ} → Holds left (keepFrame (decodeRecord proved) (set .id) suggest)
-          → Did (taken c (some (enter w))) left (Two (Timer w millis) (ForAll proof))
+          → Did (taken c (some (enter w))) left (Led w millis proof)
       unfolding contents
       didLead mine {left} held =
           entered true (eq-eqb (leaderOf w (r .set .n)) (r .set .id) (sym led ∙ mine ∙ ap (λ (s : Settings). s .id) own))
           (subst (Holds left) (λ i. keepFrame (there .is i) (own i .id) (suggestTold i)) held)
-          (Two (Timer w millis) (ForAll proof)) (λ i. Timer w (timed i) ∷ ForAll (proofTold i) ∷ [])
+          (Led w millis proof) (λ i. Timer w (timed i) ∷ ForAll (proofTold i) ∷ [])
 
-      pub didFollow : (to ≡ set .id → ⊥) → Did (taken c (some (enter w))) proved (Three (Timer w millis) (ForAll proof) (ForOne to suggest))
+      pub didFollow : (to ≡ set .id → ⊥) → Did (taken c (some (enter w))) proved (Followed w millis proof to suggest)
       unfolding contents
       didFollow other =
           entered false (ne-eqb (leaderOf w (r .set .n)) (r .set .id) (λ e. other (led ∙ e ∙ ap (λ (s : Settings). s .id) (sym own)))) there
-          (Three (Timer w millis) (ForAll proof) (ForOne to suggest))
+          (Followed w millis proof to suggest)
           (λ i. Timer w (timed i) ∷ ForAll (proofTold i) ∷ ForOne (led i) (suggestTold i) ∷ [])
 
 -- The act, as the code's match has it.

@@ -1,7 +1,6 @@
 // What each step of document 01's pass does ('One pass', A to H), on a record by value: it hands back the record with the entries.
 // What an act does to the bytes is said once, over lent bytes; a step lends its own to it.
 use acts::Act;
-use entry::Entry;
 use frame::Body;
 use frame::Frame;
 use frame::Report;
@@ -22,12 +21,14 @@ ghost use Rattle.acts.specs.inside.Acts.{asAct, actAt};
 ghost use Rattle.steps.specs.inside.Steps.{OfView, OfPlan, toldOf, Did, Took};
 ghost use Rattle.steps.specs.inside.Order.{stepAt};
 
-// The entries that a step writes: no step writes more than three.
+// The entries that a step writes: none; a frame for all vaults (A, C to G); the decision (H); a timer, given by view and milliseconds,
+// with the proof for all (B, where the vault leads the view), and with the suggest for the leader (B elsewhere).
 pub enum Entries {
     Zero,
-    One(Entry),
-    Two(Entry, Entry),
-    Three(Entry, Entry, Entry),
+    Sent(Frame),
+    Decided(u32, u64),
+    Led(u32, u32, Frame),
+    Followed(u32, u32, Frame, u8, Frame),
 }
 
 // What a step wrote: as a struct it is stored in a field.
@@ -62,7 +63,7 @@ pub fn ask_in(rec: &mut [u8], id: u8, w: u32) -> Entries
         body: Body::Empty,
     };
     keeping::keep_head(rec, id, f);
-    Entries::One(Entry::ForAll(f))
+    Entries::Sent(f)
 }
 
 // To send a vote, or a proposal (0).
@@ -77,7 +78,7 @@ fn cast_in(rec: &mut [u8], id: u8, view: u32, k: u8, p: u64) -> Entries
         body: Body::Plan(p),
     };
     keeping::own_broadcast(rec, id, f);
-    Entries::One(Entry::ForAll(f))
+    Entries::Sent(f)
 }
 
 // To decide a plan.
@@ -91,7 +92,7 @@ fn decide_in(rec: &mut [u8], view: u32, p: u64) -> Entries
         plan: p,
     };
     layout::put_slot(rec, layout::DECISION, decision);
-    Entries::One(Entry::Decision { view, plan: p })
+    Entries::Decided(view, p)
 }
 
 // The reports of the own suggest or proof: the highest and the previous own vote of the kind `claim`, and the highest of the kind `lock`.
@@ -120,7 +121,6 @@ fn enter_in(rec: &mut [u8], set: Settings, w: u32) -> Entries
     let to = acts::leader(w, wide(set.n)) as u8;
     layout::put_view(rec, w);
     keeping::keep_told(rec, set.id, 8, w, proof);
-    let timer = Entry::Timer { view: w, millis };
     let all = Frame {
         kind: 8,
         sender: set.id,
@@ -129,7 +129,7 @@ fn enter_in(rec: &mut [u8], set: Settings, w: u32) -> Entries
     };
     if to == set.id {
         keeping::keep_told(rec, set.id, 7, w, suggest);
-        return Entries::Two(timer, Entry::ForAll(all));
+        return Entries::Led(w, millis, all);
     }
     let one = Frame {
         kind: 7,
@@ -137,7 +137,7 @@ fn enter_in(rec: &mut [u8], set: Settings, w: u32) -> Entries
         view: w,
         body: Body::Told(suggest),
     };
-    Entries::Three(timer, Entry::ForAll(all), Entry::ForOne(to, one))
+    Entries::Followed(w, millis, all, to, one)
 }
 
 // The act of A or B.
@@ -174,18 +174,20 @@ fn plan_in(rec: &mut [u8], act: Act) -> Entries
 // ---- steps
 
 // The same on an array: a step's own bytes are lent as one, and so they are not copied.
-fn view_act(bytes: &mut [u8; layout::SIZE], act: Act) -> Entries
+fn view_act(bytes: &mut [u8; layout::SIZE], act: Act) -> Wrote
     requires { ⌜ Ready (now bytes) × OfView (asAct act) ⌝ }
-    ensures { λ e. ⌜ Did (taken (contentsIn (now (bytes .entry))) (asAct act)) (now (bytes .exit)) e ⌝ }
+    ensures { λ w. ⌜ Did (taken (contentsIn (now (bytes .entry))) (asAct act)) (now (bytes .exit)) (w .entries) ⌝ }
 {
-    view_in(bytes, act)
+    let entries = view_in(bytes, act);
+    Wrote { entries }
 }
 
-fn plan_act(bytes: &mut [u8; layout::SIZE], act: Act) -> Entries
+fn plan_act(bytes: &mut [u8; layout::SIZE], act: Act) -> Wrote
     requires { ⌜ Ready (now bytes) × OfPlan (asAct act) ⌝ }
-    ensures { λ e. ⌜ Did (taken (contentsIn (now (bytes .entry))) (asAct act)) (now (bytes .exit)) e ⌝ }
+    ensures { λ w. ⌜ Did (taken (contentsIn (now (bytes .entry))) (asAct act)) (now (bytes .exit)) (w .entries) ⌝ }
 {
-    plan_in(bytes, act)
+    let entries = plan_in(bytes, act);
+    Wrote { entries }
 }
 
 impl Record {
@@ -194,8 +196,7 @@ impl Record {
         requires { ⌜ Ready (self .bytes) × (asAct act ≡ actA (contentsIn (self .bytes))) ⌝ }
         ensures { λ s. ⌜ Took (stepA (contentsIn (self .bytes))) s ⌝ }
     {
-        let entries = view_act(&mut self.bytes, act);
-        let wrote = Wrote { entries };
+        let wrote = view_act(&mut self.bytes, act);
         self.wrote = wrote;
         self
     }
@@ -205,8 +206,7 @@ impl Record {
         requires { ⌜ Ready (self .bytes) × (asAct act ≡ actB (contentsIn (self .bytes))) ⌝ }
         ensures { λ s. ⌜ Took (stepB (contentsIn (self .bytes))) s ⌝ }
     {
-        let entries = view_act(&mut self.bytes, act);
-        let wrote = Wrote { entries };
+        let wrote = view_act(&mut self.bytes, act);
         self.wrote = wrote;
         self
     }
@@ -216,8 +216,7 @@ impl Record {
         requires { ⌜ Ready (self .bytes) × (asAct act ≡ actC (contentsIn (self .bytes))) ⌝ }
         ensures { λ s. ⌜ Took (stepC (contentsIn (self .bytes))) s ⌝ }
     {
-        let entries = plan_act(&mut self.bytes, act);
-        let wrote = Wrote { entries };
+        let wrote = plan_act(&mut self.bytes, act);
         self.wrote = wrote;
         self
     }
@@ -227,8 +226,7 @@ impl Record {
         requires { ⌜ Ready (self .bytes) × (asAct act ≡ actD (contentsIn (self .bytes))) ⌝ }
         ensures { λ s. ⌜ Took (stepD (contentsIn (self .bytes))) s ⌝ }
     {
-        let entries = plan_act(&mut self.bytes, act);
-        let wrote = Wrote { entries };
+        let wrote = plan_act(&mut self.bytes, act);
         self.wrote = wrote;
         self
     }
@@ -238,8 +236,7 @@ impl Record {
         requires { ⌜ Ready (self .bytes) × (asAct act ≡ actVote (contentsIn (self .bytes)) 1) ⌝ }
         ensures { λ s. ⌜ Took (stepVote 1 (contentsIn (self .bytes))) s ⌝ }
     {
-        let entries = plan_act(&mut self.bytes, act);
-        let wrote = Wrote { entries };
+        let wrote = plan_act(&mut self.bytes, act);
         self.wrote = wrote;
         self
     }
@@ -249,8 +246,7 @@ impl Record {
         requires { ⌜ Ready (self .bytes) × (asAct act ≡ actVote (contentsIn (self .bytes)) 2) ⌝ }
         ensures { λ s. ⌜ Took (stepVote 2 (contentsIn (self .bytes))) s ⌝ }
     {
-        let entries = plan_act(&mut self.bytes, act);
-        let wrote = Wrote { entries };
+        let wrote = plan_act(&mut self.bytes, act);
         self.wrote = wrote;
         self
     }
@@ -260,8 +256,7 @@ impl Record {
         requires { ⌜ Ready (self .bytes) × (asAct act ≡ actVote (contentsIn (self .bytes)) 3) ⌝ }
         ensures { λ s. ⌜ Took (stepVote 3 (contentsIn (self .bytes))) s ⌝ }
     {
-        let entries = plan_act(&mut self.bytes, act);
-        let wrote = Wrote { entries };
+        let wrote = plan_act(&mut self.bytes, act);
         self.wrote = wrote;
         self
     }
@@ -271,8 +266,7 @@ impl Record {
         requires { ⌜ Ready (self .bytes) × (asAct act ≡ actH (contentsIn (self .bytes))) ⌝ }
         ensures { λ s. ⌜ Took (stepH (contentsIn (self .bytes))) s ⌝ }
     {
-        let entries = plan_act(&mut self.bytes, act);
-        let wrote = Wrote { entries };
+        let wrote = plan_act(&mut self.bytes, act);
         self.wrote = wrote;
         self
     }

@@ -8,6 +8,7 @@ use lib.ListN.{length}
 use Rattle.frame.specs.declared.Report.{Report}
 use Rattle.frame.specs.declared.Reports.{Reports}
 use Rattle.entry.specs.declared.Entry.{Entry}
+use Rattle.entry.specs.declared.Entry.the-variants.{ForAll, ForOne, Timer, Decision}
 use Rattle.record.specs.Slots.{frameSlot, previousSlot}
 use Rattle.layout.specs.Size.{recordSize}
 use Rattle.layout.specs.Layout.{decodeRecord}
@@ -16,15 +17,16 @@ use Rattle.contents.specs.Lent.{Clean}
 use Rattle.contents.specs.Contents.{contentsIn}
 use Rattle.contents.specs.inside.Ready.{Ready}
 use Rattle.steps.specs.declared.Entries.{Entries}
-use Rattle.steps.specs.declared.Entries.the-variants.{Zero, One, Two, Three}
+use Rattle.steps.specs.declared.Entries.the-variants.{Zero, Sent, Decided, Led, Followed}
 use Rattle.steps.specs.declared.Record.{Record}
 
 -- 'Entries lie end to end': those that a step writes, in their order.
 abbrev pub listOf : Entries → List Entry
 listOf Zero = []
-listOf (One a) = a ∷ []
-listOf (Two a b) = a ∷ b ∷ []
-listOf (Three a b c) = a ∷ b ∷ c ∷ []
+listOf (Sent f) = ForAll f ∷ []
+listOf (Decided view plan) = Decision view plan ∷ []
+listOf (Led view millis proof) = Timer view millis ∷ ForAll proof ∷ []
+listOf (Followed view millis proof to suggest) = Timer view millis ∷ ForAll proof ∷ ForOne to suggest ∷ []
 
 -- What A or B may be to do.
 abbrev pub OfView : Option Act → Type 0
