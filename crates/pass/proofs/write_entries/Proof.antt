@@ -3,7 +3,7 @@
 use mathlib.Core.Path.{ap}
 use native.Mathlib.Omega.{arith}
 use denote.Ref.{now}
-use Rattle.steps.specs.Steps.{listOf}
+use Rattle.steps.specs.inside.Steps.{listOf}
 use Rattle.pass.proofs.Runs.{sizeOne, sizeTwo, sizeThree, wroteZero, wroteOne, wroteTwo, wroteThree}
 use borrow.Author.Needs.{needs}
 use Rattle.pass.proofs.write_entries.Statement.{statement}
