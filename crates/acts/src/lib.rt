@@ -1,6 +1,7 @@
 // When each step of document 01's pass acts ('One pass', A to H), read off a record's lent bytes: A and B are lent its shared part,
 // C to H the practice's block. The answer says what is to be done.
 use frame::Report;
+use frame::numbers;
 use safe::Choice;
 use settings::Settings;
 ghost use Prim.Native.Nat.{_+_, _-_, _*_, _≤_, _<_};
@@ -41,7 +42,7 @@ fn change_above(shared: &[u8], at: usize, low: u32) -> u32
     requires { ⌜ at + slotSize ≤ length (now shared) ⌝ }
     ensures { λ r. ⌜ r ≡ newsFrom low (asks (slotIn (now (shared .entry)) at)) ⌝ }
 {
-    if shared[at] != 1 {
+    if shared[at] != numbers::PRESENT {
         return low;
     }
     claims::larger(low, layout::view_at(shared, at))
@@ -189,7 +190,7 @@ fn is_of_view(block: &[u8], at: usize, v: u32) -> bool
     requires { ⌜ at + slotSize ≤ length (now block) ⌝ }
     ensures { λ b. ⌜ b ≡ not (isNone (voted v (slotIn (now (block .entry)) at))) ⌝ }
 {
-    if block[at] != 1 {
+    if block[at] != numbers::PRESENT {
         return false;
     }
     layout::view_at(block, at) == v
@@ -217,8 +218,8 @@ pub fn leader(view: u32, n: usize) -> usize
 fn above(x: Report) -> u64
     ensures { λ r. ⌜ r ≡ aboveOf x ⌝ }
 {
-    if x.mark == 1 {
-        claims::long(x.view) + 1
+    if x.mark == numbers::PRESENT {
+        (x.view as u64) + 1
     } else {
         0
     }
@@ -292,7 +293,7 @@ fn plan_by_reports(rec: &[u8], set: Settings, view: u32) -> Choice
     requires { ⌜ Ready (now rec) × (set ≡ decodeRecord (now rec) .set) × (view ≡ decodeRecord (now rec) .view) ⌝ }
     ensures { λ c. ⌜ chosen c ≡ proposalOf (contentsIn (now (rec .entry))) ⌝ }
 {
-    let table = gather(&rec[layout::SHARED..layout::SIZE], 7, set.n, view);
+    let table = gather(&rec[layout::SHARED..layout::SIZE], numbers::SUGGEST, set.n, view);
     safe::choose(&table, set, view, layout::plan_of(rec))
 }
 
@@ -327,7 +328,7 @@ fn approved_by_reports(rec: &[u8], set: Settings, view: u32, p: u64) -> bool
     requires { ⌜ Ready (now rec) × (set ≡ decodeRecord (now rec) .set) × (view ≡ decodeRecord (now rec) .view) ⌝ }
     ensures { λ b. ⌜ b ≡ approvedBy (contentsIn (now (rec .entry))) p ⌝ }
 {
-    let table = gather(&rec[layout::SHARED..layout::SIZE], 8, set.n, view);
+    let table = gather(&rec[layout::SHARED..layout::SIZE], numbers::PROOF, set.n, view);
     safe::safe_by(&table, set, view, p, true)
 }
 
@@ -403,7 +404,7 @@ fn met_at(b: Lead, block: &[u8], at: usize, v: u32) -> Lead
     requires { ⌜ (b .margin < rows) × (b .votes < rows) × (at + slotSize ≤ length (now block)) ⌝ }
     ensures { λ r. ⌜ r ≡ after b (voted v (slotIn (now (block .entry)) at)) ⌝ }
 {
-    if block[at] != 1 {
+    if block[at] != numbers::PRESENT {
         return b;
     }
     if layout::view_at(block, at) != v {
@@ -504,7 +505,7 @@ fn act_h(rec: &[u8], set: Settings, view: u32) -> Act
     ensures { λ r. ⌜ asAct r ≡ actH (contentsIn (now (rec .entry))) ⌝ }
 {
     let block = &rec[layout::SHARED..layout::SIZE];
-    if block[DECIDED] == 1 {
+    if block[DECIDED] == numbers::PRESENT {
         return Act::Nothing;
     }
     match agreed_plan(block, vote_place(4, 0), set, view) {

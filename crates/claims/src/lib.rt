@@ -65,18 +65,6 @@ pub fn larger(a: u32, b: u32) -> u32
     if a < b { b } else { a }
 }
 
-fn wide(x: u32) -> usize
-    ensures { λ r. ⌜ r ≡ x ⌝ }
-{
-    x as usize
-}
-
-pub fn long(x: u32) -> u64
-    ensures { λ r. ⌜ r ≡ x ⌝ }
-{
-    x as u64
-}
-
 // Whether vault r has reported.
 pub fn reported<'a>(table: &'a [u64], r: usize) -> bool
     requires { ⌜ (length (now table) ≡ tableSize) × (r < column) ⌝ }
@@ -119,7 +107,7 @@ pub fn claims_at<'a>(table: &'a [u64], n: usize, w: u32, plans: &mut [u64], at: 
     requires { ⌜ (length (now table) ≡ tableSize) × (n ≤ column) × (length (now plans) ≡ rowsSize) × (at + column ≤ rowsSize) ⌝ }
     ensures { λ t. ⌜ (length (now (plans .exit)) ≡ rowsSize) × SameBelow (now (plans .entry)) (now (plans .exit)) at × Tells (reportsIn (now (table .entry))) n (λ p. claims p w) (now (plans .exit)) at t ⌝ }
 {
-    let view = long(w);
+    let view = w as u64;
     let mut every: usize = 0;
     let mut some: usize = 0;
     let mut r: usize = 0;
@@ -253,7 +241,7 @@ pub fn lowest_cleared<'a>(spans: &'a [u32], n: usize, f: usize, v: u32) -> u32
         let mut r: usize = 0;
         'reporters: loop {
             if r == n {
-                if is_blocking(wide(locks), f) {
+                if is_blocking(locks as usize, f) {
                     break 'views t;
                 }
                 break 'reporters;

@@ -1,17 +1,11 @@
 // The entries of an output, one after the other: for a host that walks what a call has written.
+use frame::numbers;
 ghost use mathlib.Core.Path.{_≡_};
 ghost use lib.ListN.{drop};
 ghost use Rattle.entries.specs.Walk.{hostSize, frameSize, sizeBy, sizeIn};
 
-// The recipient byte for the host.
-const HOST: u8 = 254;
-
-// What the host is told, a timer or a decision, and how long the entry is.
-const TIMER: u8 = 11;
-
+// How long an entry for the host is, of a timer or a decision.
 const TIMER_SIZE: usize = 10;
-
-const DECISION: u8 = 10;
 
 const DECISION_SIZE: usize = 14;
 
@@ -19,10 +13,10 @@ const DECISION_SIZE: usize = 14;
 fn host_size(told: u8) -> usize
     ensures { λ r. ⌜ r ≡ hostSize told ⌝ }
 {
-    if told == TIMER {
+    if told == numbers::HOST_TIMER {
         return TIMER_SIZE;
     }
-    if told == DECISION {
+    if told == numbers::HOST_DECISION {
         return DECISION_SIZE;
     }
     0
@@ -43,7 +37,7 @@ fn frame_size(kind: u8) -> usize
 fn size_by(to: u8, next: u8) -> usize
     ensures { λ r. ⌜ r ≡ sizeBy to next ⌝ }
 {
-    if to == HOST {
+    if to == numbers::TO_HOST {
         return host_size(next);
     }
     frame_size(next)

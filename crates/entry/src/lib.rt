@@ -12,6 +12,7 @@ use frame::Body;
 use frame::Frame;
 use frame::Report;
 use frame::Reports;
+use frame::numbers;
 
 // An entry of the output: a frame for all vaults or for one, or word to the host that a timer is to run or a plan is decided.
 pub enum Entry {
@@ -20,15 +21,6 @@ pub enum Entry {
     Timer { view: u32, millis: u32 },
     Decision { view: u32, plan: u64 },
 }
-
-// The recipient byte for all vaults.
-const ALL: u8 = 255;
-// The recipient byte for the host.
-const HOST: u64 = 254;
-// The host is to run a timer.
-const TIMER: u64 = 11;
-// The host is told of a decision.
-const DECISION: u64 = 10;
 
 fn put_head(out: &mut [u8], f: Frame)
     requires { ⌜ 6 ≤ length (now out) ⌝ }
@@ -104,15 +96,15 @@ fn put_frame(out: &mut [u8], at: usize, to: u8, f: Frame) -> usize
 }
 
 // Writes a host entry at a place: the host's byte, what it is told, the view, and a number of some width.
-fn put_host(out: &mut [u8], at: usize, code: u64, view: u32, width: usize, value: u64) -> usize
+fn put_host(out: &mut [u8], at: usize, code: u8, view: u32, width: usize, value: u64) -> usize
     requires { ⌜ at + total (widths (hostFields code view width value)) ≤ length (now out) ⌝ }
     ensures { λ r. ⌜ (r ≡ at + total (widths (hostFields code view width value))) × (now (out .exit) ≡ placed (now (out .entry)) at (spell (hostFields code view width value))) ⌝ }
 {
     let code_at = at + 1;
     let view_at = code_at + 1;
     let value_at = view_at + 4;
-    wire::put(out, at, 1, HOST);
-    wire::put(out, code_at, 1, code);
+    wire::put(out, at, 1, numbers::TO_HOST as u64);
+    wire::put(out, code_at, 1, code as u64);
     wire::put(out, view_at, 4, view as u64);
     wire::put(out, value_at, width, value);
     value_at + width
@@ -124,9 +116,9 @@ pub fn put_entry(out: &mut [u8], at: usize, e: Entry) -> usize
     ensures { λ r. ⌜ (r ≡ at + length (entryBytes e)) × (now (out .exit) ≡ placed (now (out .entry)) at (entryBytes e)) ⌝ }
 {
     match e {
-        Entry::ForAll(f) => put_frame(out, at, ALL, f),
+        Entry::ForAll(f) => put_frame(out, at, numbers::TO_ALL, f),
         Entry::ForOne(to, f) => put_frame(out, at, to, f),
-        Entry::Timer { view, millis } => put_host(out, at, TIMER, view, 4, millis as u64),
-        Entry::Decision { view, plan } => put_host(out, at, DECISION, view, 8, plan),
+        Entry::Timer { view, millis } => put_host(out, at, numbers::HOST_TIMER, view, 4, millis as u64),
+        Entry::Decision { view, plan } => put_host(out, at, numbers::HOST_DECISION, view, 8, plan),
     }
 }

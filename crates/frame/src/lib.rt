@@ -5,7 +5,9 @@ ghost use mathlib.Core.List.{_++_};
 ghost use Prim.Native.Nat.{_<_};
 ghost use Rattle.frame.specs.Format.{lengthOf, threeReports};
 ghost use Rattle.frame.specs.Refusal.{badForm, tooHigh, badPrevious, viewMissing, misled, first, any, formRows, linkRows, reportRows, contentRows, leaderRows};
-ghost use Rattle.frame.specs.inside.Reading.{refusalOf};
+ghost use Rattle.frame.specs.inside.Reading.{presentAt, refusalOf};
+
+pub mod numbers;
 
 // The lengths of frames: with a plan, bare, and with reports.
 const PLAN_LENGTH: usize = 14;
@@ -14,26 +16,22 @@ const BARE_LENGTH: usize = 6;
 
 const REPORTS_LENGTH: usize = 45;
 
-// The numbers of the refusals.
-const BAD_KIND: u8 = 9;
-
-const BAD_LENGTH: u8 = 10;
-
-const BAD_LINK: u8 = 11;
-
-const BAD_SENDER: u8 = 12;
-
-const BAD_VIEW: u8 = 13;
-
-const BAD_REPORT: u8 = 14;
-
-const BAD_LEADER: u8 = 15;
-
 // A report of one vote: mark 1 is present; mark 0 is absent, with view and plan 0.
 pub struct Report {
     pub mark: u8,
     pub view: u32,
     pub plan: u64,
+}
+
+// A report that is present.
+pub fn present(view: u32, plan: u64) -> Report
+    ensures { λ r. ⌜ r ≡ presentAt view plan ⌝ }
+{
+    Report {
+        mark: numbers::PRESENT,
+        view,
+        plan,
+    }
 }
 
 // The three reports of a suggest (highest vote-2, previous vote-2, highest vote-3) or a proof (highest vote-1,
@@ -79,9 +77,9 @@ pub fn length_of(kind: u8) -> usize
     ensures { λ r. ⌜ r ≡ lengthOf kind ⌝ }
 {
     match kind {
-        1..=5 => PLAN_LENGTH,
-        6 => BARE_LENGTH,
-        7..=8 => REPORTS_LENGTH,
+        numbers::PROPOSAL..=numbers::VOTE_4 => PLAN_LENGTH,
+        numbers::VIEW_CHANGE => BARE_LENGTH,
+        numbers::SUGGEST..=numbers::PROOF => REPORTS_LENGTH,
         _ => 0,
     }
 }
@@ -91,14 +89,14 @@ pub fn form_refusal(s: &[u8]) -> u8
     ensures { λ r. ⌜ r ≡ first (formRows (now (s .entry))) ⌝ }
 {
     if s.len() == 0 {
-        return BAD_KIND;
+        return numbers::REFUSED_KIND;
     }
     let size = length_of(s[0]);
     if size == 0 {
-        return BAD_KIND;
+        return numbers::REFUSED_KIND;
     }
     if s.len() != size {
-        return BAD_LENGTH;
+        return numbers::REFUSED_LENGTH;
     }
     0
 }
@@ -108,13 +106,13 @@ pub fn link_refusal(sender: u8, link: u8, n: u8, own: u8) -> u8
     ensures { λ r. ⌜ r ≡ first (linkRows sender link n own) ⌝ }
 {
     if n <= link {
-        return BAD_LINK;
+        return numbers::REFUSED_LINK;
     }
     if link == own {
-        return BAD_LINK;
+        return numbers::REFUSED_LINK;
     }
     if sender != link {
-        return BAD_SENDER;
+        return numbers::REFUSED_SENDER;
     }
     0
 }
@@ -122,7 +120,7 @@ pub fn link_refusal(sender: u8, link: u8, n: u8, own: u8) -> u8
 fn bad_form(r: Report) -> bool
     ensures { λ b. ⌜ b ≡ badForm r ⌝ }
 {
-    if r.mark == 1 {
+    if r.mark == numbers::PRESENT {
         return false;
     }
     if r.mark != 0 {
@@ -137,7 +135,7 @@ fn bad_form(r: Report) -> bool
 fn too_high(view: u32, r: Report) -> bool
     ensures { λ b. ⌜ b ≡ tooHigh view r ⌝ }
 {
-    if r.mark != 1 {
+    if r.mark != numbers::PRESENT {
         return false;
     }
     view <= r.view
@@ -146,10 +144,10 @@ fn too_high(view: u32, r: Report) -> bool
 fn bad_previous(highest: Report, previous: Report) -> bool
     ensures { λ b. ⌜ b ≡ badPrevious highest previous ⌝ }
 {
-    if previous.mark != 1 {
+    if previous.mark != numbers::PRESENT {
         return false;
     }
-    if highest.mark != 1 {
+    if highest.mark != numbers::PRESENT {
         return true;
     }
     if highest.view <= previous.view {
@@ -197,15 +195,15 @@ fn reports_refusal(view: u32, r: Reports) -> u8
     ensures { λ b. ⌜ b ≡ first (reportRows view (threeReports r)) ⌝ }
 {
     if any_bad_form(r) {
-        return BAD_REPORT;
+        return numbers::REFUSED_REPORT;
     }
     if any_too_high(view, r) {
-        return BAD_REPORT;
+        return numbers::REFUSED_REPORT;
     }
     let highest = r.highest;
     let previous = r.previous;
     if bad_previous(highest, previous) {
-        return BAD_REPORT;
+        return numbers::REFUSED_REPORT;
     }
     0
 }
@@ -214,7 +212,7 @@ fn view_missing(kind: u8, view: u32) -> bool
     ensures { λ b. ⌜ b ≡ viewMissing kind view ⌝ }
 {
     match kind {
-        6..=8 => view == 0,
+        numbers::VIEW_CHANGE..=numbers::PROOF => view == 0,
         _ => false,
     }
 }
@@ -224,7 +222,7 @@ pub fn content_refusal(f: Frame) -> u8
     ensures { λ r. ⌜ r ≡ first (contentRows f) ⌝ }
 {
     if view_missing(f.kind, f.view) {
-        return BAD_VIEW;
+        return numbers::REFUSED_VIEW_0;
     }
     let body = f.body;
     match body {
@@ -239,8 +237,8 @@ fn led_wrong(kind: u8, sender: u8, view: u32, n: u8, own: u8) -> bool
     ensures { λ b. ⌜ b ≡ misled kind sender view n own ⌝ }
 {
     match kind {
-        1 => view % (n as u32) != (sender as u32),
-        7 => view % (n as u32) != (own as u32),
+        numbers::PROPOSAL => view % (n as u32) != (sender as u32),
+        numbers::SUGGEST => view % (n as u32) != (own as u32),
         _ => false,
     }
 }
@@ -251,7 +249,7 @@ pub fn leader_refusal(f: Frame, n: u8, own: u8) -> u8
     ensures { λ r. ⌜ r ≡ first (leaderRows f n own) ⌝ }
 {
     if led_wrong(f.kind, f.sender, f.view, n, own) {
-        return BAD_LEADER;
+        return numbers::REFUSED_LEADER;
     }
     0
 }

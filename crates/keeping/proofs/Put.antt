@@ -5,6 +5,7 @@ use mathlib.Core.Path.{_≡_, refl, ap, sym, _∙_}
 use mathlib.Core.Bool.{true}
 use mathlib.Core.List.{List}
 use native.Mathlib.Omega.{arith}
+use Rattle.frame.specs.declared.Report.{Report}
 use Rattle.frame.specs.declared.Reports.{Reports}
 use Rattle.frame.specs.declared.Body.{Body}
 use Rattle.frame.specs.declared.Body.the-variants.{Plan, Empty, Told}
@@ -40,11 +41,11 @@ heldReports o o₁ o₂ o₃ {a} {b} {c} kind sender t ea eb ec x y z =
     ∙ (λ i. withSlot (withSlot (withSlot (decodeRecord o) (ea i) h) (eb i) p) (ec i) l))
 
 -- a frame's head, and the reports that follow it where there are some
-module _ (o o₁ : List ℕ) (sender : ℕ) (f : Frame) {at plan : ℕ} (e : at ≡ frameSlot (f .kind) sender) (p : plan ≡ planOf (f .body))
-    (h : Holds o₁ (withSlot (decodeRecord o) at (record { mark = 1; view = f .view; plan = plan }))) where
+module _ (o o₁ : List ℕ) (sender : ℕ) (f : Frame) {at : ℕ} {slot : Report} (e : at ≡ frameSlot (f .kind) sender) (p : slot ≡ headSlot f)
+    (h : Holds o₁ (withSlot (decodeRecord o) at slot)) where
   -- the bytes hold the record with the frame's own slot
   head : decodeRecord o₁ ≡ withSlot (decodeRecord o) (frameSlot (f .kind) sender) (headSlot f)
-  head = h .is ∙ (λ i. withSlot (decodeRecord o) (e i) (record { mark = 1; view = f .view; plan = p i }))
+  head = h .is ∙ (λ i. withSlot (decodeRecord o) (e i) (p i))
 
   -- with what follows the head put too, that is the record with the frame kept
   kept : {b : Body} → f .body ≡ b → withBody (decodeRecord o₁) (f .kind) sender b ≡ keepFrame (decodeRecord o) sender f

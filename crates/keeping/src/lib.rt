@@ -3,6 +3,7 @@ use frame::Body;
 use frame::Frame;
 use frame::Report;
 use frame::Reports;
+use frame::numbers;
 ghost use mathlib.Core.Path.{_≡_};
 ghost use mathlib.Core.Bool.{true};
 ghost use Prim.Native.Nat.{_≤_, _<_};
@@ -24,7 +25,7 @@ fn is_stale(current: u32, kind: u8, view: u32) -> bool
     if view < current {
         return true;
     }
-    if kind != 6 {
+    if kind != numbers::VIEW_CHANGE {
         return false;
     }
     view == current
@@ -33,7 +34,7 @@ fn is_stale(current: u32, kind: u8, view: u32) -> bool
 fn is_outdone(slot: Report, view: u32) -> bool
     ensures { λ b. ⌜ b ≡ outdone slot view ⌝ }
 {
-    if slot.mark != 1 {
+    if slot.mark != numbers::PRESENT {
         return false;
     }
     view <= slot.view
@@ -45,11 +46,11 @@ pub fn keep_refusal(rec: &[u8], current: u32, sender: u8, kind: u8, view: u32) -
     ensures { λ r. ⌜ r ≡ first (keepRows (slotOf (decodeRecord (now (rec .entry)))) current sender kind view) ⌝ }
 {
     if is_stale(current, kind, view) {
-        return 16;
+        return numbers::REFUSED_OVER;
     }
     let at = layout::frame_slot(kind, sender);
     if is_outdone(layout::slot_of(rec, at), view) {
-        return 17;
+        return numbers::REFUSED_KEPT;
     }
     0
 }
@@ -86,11 +87,7 @@ pub fn keep_head(rec: &mut [u8], sender: u8, f: Frame)
 {
     let at = layout::frame_slot(f.kind, sender);
     let body = f.body;
-    let head = Report {
-        mark: 1,
-        view: f.view,
-        plan: plan_of(body),
-    };
+    let head = frame::present(f.view, plan_of(body));
     layout::put_slot(rec, at, head);
 }
 
@@ -100,11 +97,7 @@ pub fn keep_told(rec: &mut [u8], sender: u8, kind: u8, view: u32, t: Reports)
     ensures { λ _. ⌜ Holds (now (rec .exit)) (keepFrame (decodeRecord (now (rec .entry))) sender (told kind sender view t)) ⌝ }
 {
     let at = layout::frame_slot(kind, sender);
-    let head = Report {
-        mark: 1,
-        view,
-        plan: 0,
-    };
+    let head = frame::present(view, 0);
     layout::put_slot(rec, at, head);
     put_reports(rec, kind, sender, t);
 }
@@ -126,13 +119,13 @@ pub fn keep(rec: &mut [u8], sender: u8, f: Frame)
 fn vote_moves(slot: Report, kind: u8, plan: u64) -> bool
     ensures { λ b. ⌜ b ≡ moves slot kind plan ⌝ }
 {
-    if kind < 2 {
+    if kind < numbers::VOTE_1 {
         return false;
     }
-    if 3 < kind {
+    if numbers::VOTE_2 < kind {
         return false;
     }
-    if slot.mark != 1 {
+    if slot.mark != numbers::PRESENT {
         return false;
     }
     slot.plan != plan

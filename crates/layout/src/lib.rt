@@ -38,12 +38,6 @@ pub const PREVIOUS: usize = 896;
 
 pub const DECISION: usize = 898;
 
-fn wide(x: u8) -> usize
-    ensures { λ r. ⌜ r ≡ x ⌝ }
-{
-    x as usize
-}
-
 // ---- slots by number
 
 // The slot of the kept frame of a kind and a sender: kinds 6, 7, 8, 1, 2, 3, 4, 5, of 64 rows each.
@@ -51,7 +45,7 @@ pub fn frame_slot(kind: u8, sender: u8) -> usize
     requires { ⌜ Place kind sender ⌝ }
     ensures { λ r. ⌜ (r ≡ frameSlot kind sender) × (r < firstReport) ⌝ }
 {
-    (wide(kind) + 2) % 8 * ROWS + wide(sender)
+    ((kind as usize) + 2) % 8 * ROWS + (sender as usize)
 }
 
 // The slot of report j (0 highest, 1 previous, 2 lock) in the kept suggest or proof of a sender.
@@ -59,7 +53,7 @@ pub fn report_slot(kind: u8, which: u8, sender: u8) -> usize
     requires { ⌜ (7 ≤ kind) × (which < 3) × Place kind sender ⌝ }
     ensures { λ r. ⌜ (r ≡ reportSlot kind which sender) × (firstReport ≤ r) × (r < firstPrevious) ⌝ }
 {
-    REPORTS + (wide(kind) - 7) * (3 * ROWS) + wide(which) * ROWS + wide(sender)
+    REPORTS + ((kind as usize) - 7) * (3 * ROWS) + (which as usize) * ROWS + (sender as usize)
 }
 
 // The slot of the own previous vote of a kind: 2 is vote-1, 3 is vote-2.
@@ -67,7 +61,7 @@ pub fn previous_slot(kind: u8) -> usize
     requires { ⌜ (2 ≤ kind) × (kind ≤ 3) ⌝ }
     ensures { λ r. ⌜ (r ≡ previousSlot kind) × (firstPrevious ≤ r) × (r < decisionSlot) ⌝ }
 {
-    PREVIOUS + (wide(kind) - 2)
+    PREVIOUS + ((kind as usize) - 2)
 }
 
 // Where the bytes of a slot stand in a record.
@@ -113,19 +107,13 @@ pub fn plan_at(part: &[u8], at: usize) -> u64
     wire::number64(part, at + 5)
 }
 
-fn wider(x: u32) -> u64
-    ensures { λ r. ⌜ r ≡ x ⌝ }
-{
-    x as u64
-}
-
 // Puts a slot at a place: thirteen bytes change.
 pub fn put_at(part: &mut [u8], at: usize, slot: Report)
     requires { ⌜ at + slotSize ≤ length (now part) ⌝ }
     ensures { λ _. ⌜ now (part .exit) ≡ placed (now (part .entry)) at (slotBytes slot) ⌝ }
 {
     part[at] = slot.mark;
-    wire::put(part, at + 1, 4, wider(slot.view));
+    wire::put(part, at + 1, 4, slot.view as u64);
     wire::put(part, at + 5, 8, slot.plan);
 }
 
@@ -183,7 +171,7 @@ pub fn put_view(rec: &mut [u8], view: u32)
     requires { ⌜ length (now rec) ≡ recordSize ⌝ }
     ensures { λ _. ⌜ Holds (now (rec .exit)) (withView (decodeRecord (now (rec .entry))) view) ⌝ }
 {
-    wire::put(rec, VIEW, 4, wider(view));
+    wire::put(rec, VIEW, 4, view as u64);
 }
 
 // Every byte becomes 0.

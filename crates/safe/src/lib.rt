@@ -26,12 +26,6 @@ const LOCKS: usize = 2 * claims::COLUMN;
 
 const ROOM: usize = 3 * claims::COLUMN;
 
-fn wide(x: u8) -> usize
-    ensures { λ r. ⌜ r ≡ x ⌝ }
-{
-    x as usize
-}
-
 // ---- locks
 
 // What vault r adds to the reporters that have no lock.
@@ -69,7 +63,7 @@ fn lock_span<'a>(table: &'a [u64], r: usize, v: u32) -> u32
 {
     if claims::reported(table, r) {
         let above = table[claims::LOCK + r];
-        if claims::long(v) < above {
+        if (v as u64) < above {
             return v;
         }
         if above == 0 {
@@ -127,7 +121,7 @@ fn locks_at<'a>(table: &'a [u64], n: usize, u: u32, plans: &mut [u64]) -> Tally
     requires { ⌜ (length (now table) ≡ tableSize) × (n ≤ column) × (length (now plans) ≡ rowsSize) ⌝ }
     ensures { λ t. ⌜ (length (now (plans .exit)) ≡ rowsSize) × SameBelow (now (plans .entry)) (now (plans .exit)) lockRow × Tells (reportsIn (now (table .entry))) n (λ p. allows p u) (now (plans .exit)) lockRow t ⌝ }
 {
-    let view = claims::long(u);
+    let view = u as u64;
     let mut every: usize = 0;
     let mut some: usize = 0;
     let mut r: usize = 0;
@@ -352,7 +346,7 @@ pub fn safe_by<'a>(table: &'a [u64], set: Settings, v: u32, p: u64, three: bool)
     requires { ⌜ (length (now table) ≡ tableSize) × (set .n ≤ 64) × (set .f < set .n) ⌝ }
     ensures { λ b. ⌜ b ≡ safe (ruleOf three) (vaultsOf set) (reportsIn (now (table .entry))) v p ⌝ }
 {
-    safe_among(table, wide(set.n), wide(set.f), v, p, three)
+    safe_among(table, set.n as usize, set.f as usize, v, p, three)
 }
 
 // ---- step C
@@ -472,5 +466,5 @@ pub fn choose<'a>(table: &'a [u64], set: Settings, v: u32, start: u64) -> Choice
     requires { ⌜ (length (now table) ≡ tableSize) × (set .n ≤ 64) × (set .f < set .n) ⌝ }
     ensures { λ c. ⌜ chosen c ≡ choice (vaultsOf set) (reportsIn (now (table .entry))) v start ⌝ }
 {
-    choose_among(table, wide(set.n), wide(set.f), v, start)
+    choose_among(table, set.n as usize, set.f as usize, v, start)
 }

@@ -1,4 +1,5 @@
 // A vault's settings: the refusals 5 to 8 of the place "start", and the delay that the link class gives.
+use frame::numbers;
 ghost use mathlib.Core.Path.{_≡_};
 ghost use Prim.Native.Nat.{_*_};
 ghost use Rattle.frame.specs.Refusal.{first};
@@ -15,33 +16,27 @@ pub struct Settings {
 // The delay in milliseconds of each link class, 0 to 7.
 const DELAYS: [u32; 8] = [20, 50, 100, 200, 500, 1000, 2000, 5000];
 
-fn wide(x: u8) -> u32
-    ensures { λ r. ⌜ r ≡ x ⌝ }
-{
-    x as u32
-}
-
 // Refusals 5 to 8 of settings, in their order; 0 where none is given.
 pub fn settings_refusal(s: Settings) -> u8
     ensures { λ r. ⌜ r ≡ first (settingRows s) ⌝ }
 {
     if s.n < 4 {
-        return 5;
+        return numbers::REFUSED_N;
     }
     if 64 < s.n {
-        return 5;
+        return numbers::REFUSED_N;
     }
     if s.f == 0 {
-        return 6;
+        return numbers::REFUSED_F;
     }
-    if wide(s.n) <= 3 * wide(s.f) {
-        return 6;
+    if (s.n as u32) <= 3 * (s.f as u32) {
+        return numbers::REFUSED_F;
     }
     if s.n <= s.id {
-        return 7;
+        return numbers::REFUSED_ID;
     }
     if 7 < s.class {
-        return 8;
+        return numbers::REFUSED_CLASS;
     }
     0
 }

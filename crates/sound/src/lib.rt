@@ -1,6 +1,7 @@
 // Whether lent bytes are a blank record, a sound one, or neither. They are read where they lie: in bulk where nothing is kept, else the
 // mark first, and the rest only where it is asked for.
 use frame::Report;
+use frame::numbers;
 use settings::Settings;
 ghost use mathlib.Core.Path.{_≡_};
 ghost use mathlib.Core.Bool.{not, _&&_, _||_};
@@ -34,12 +35,6 @@ pub struct Head {
 // The bytes of one kind's slots, and of one group of its reports.
 const GROUP: usize = 832;
 
-fn wide(x: u8) -> usize
-    ensures { λ r. ⌜ r ≡ x ⌝ }
-{
-    x as usize
-}
-
 // ---- one slot
 
 fn empty(slot: Report) -> bool
@@ -57,7 +52,7 @@ fn empty(slot: Report) -> bool
 fn well_formed(slot: Report) -> bool
     ensures { λ b. ⌜ b ≡ not (badForm slot) ⌝ }
 {
-    if slot.mark == 1 {
+    if slot.mark == numbers::PRESENT {
         return true;
     }
     empty(slot)
@@ -67,10 +62,10 @@ fn well_formed(slot: Report) -> bool
 fn follows(highest: Report, previous: Report) -> bool
     ensures { λ b. ⌜ b ≡ not (badPrevious highest previous) ⌝ }
 {
-    if previous.mark != 1 {
+    if previous.mark != numbers::PRESENT {
         return true;
     }
-    if highest.mark != 1 {
+    if highest.mark != numbers::PRESENT {
         return false;
     }
     if highest.view <= previous.view {
@@ -128,7 +123,7 @@ fn frame_place(kind: u8, sender: u8) -> usize
     ensures { λ r. ⌜ (r ≡ place (frameSlot kind sender)) × (r + slotSize ≤ recordSize) ⌝ }
 {
     let first = layout::place_of(layout::frame_slot(kind, 0));
-    first + layout::SLOT * wide(sender)
+    first + layout::SLOT * (sender as usize)
 }
 
 // Where the bytes of a kept suggest's or proof's first report stand; the others' stand one and two groups on.
@@ -137,7 +132,7 @@ fn report_place(kind: u8, sender: u8) -> usize
     ensures { λ r. ⌜ (r ≡ place (reportSlot kind 0 sender)) × (r + (2 * groupSize + slotSize) ≤ recordSize) ⌝ }
 {
     let first = layout::place_of(layout::report_slot(kind, 0, 0));
-    first + layout::SLOT * wide(sender)
+    first + layout::SLOT * (sender as usize)
 }
 
 fn reports_absent(rec: &[u8], kind: u8, sender: u8) -> bool
@@ -163,7 +158,7 @@ fn empty_at(rec: &[u8], kind: u8, sender: u8) -> bool
     if !empty(layout::slot_at(rec, at)) {
         return false;
     }
-    if kind < 7 {
+    if kind < numbers::SUGGEST {
         return true;
     }
     reports_absent(rec, kind, sender)
@@ -174,7 +169,7 @@ fn report_fits(rec: &[u8], at: usize, view: u32) -> bool
     requires { ⌜ at + slotSize ≤ length (now rec) ⌝ }
     ensures { λ b. ⌜ b ≡ reportFits view (slotIn (now (rec .entry)) at) ⌝ }
 {
-    if rec[at] != 1 {
+    if rec[at] != numbers::PRESENT {
         return empty(layout::slot_at(rec, at));
     }
     layout::view_at(rec, at) < view
@@ -216,7 +211,7 @@ fn plan_sound(set: Settings, view: u32, head: Head) -> bool
     if above(set, view, head) {
         return false;
     }
-    if head.kind != 1 {
+    if head.kind != numbers::PROPOSAL {
         return true;
     }
     head.view % (set.n as u32) == (head.sender as u32)
@@ -236,7 +231,7 @@ fn told_sound(rec: &[u8], set: Settings, view: u32, head: Head) -> bool
     if !reports_fit(rec, head.kind, head.sender, head.view) {
         return false;
     }
-    if head.kind != 7 {
+    if head.kind != numbers::SUGGEST {
         return true;
     }
     head.view % (set.n as u32) == (set.id as u32)
@@ -249,10 +244,10 @@ fn is_free(id: u8, kind: u8, sender: u8) -> bool
     if sender == id {
         return false;
     }
-    if kind < 2 {
+    if kind < numbers::VOTE_1 {
         return false;
     }
-    kind <= 5
+    kind <= numbers::VOTE_4
 }
 
 // What is kept for a kind and a sender below n is a sound frame. Its form is told apart here, so that no frame is made of a vote.
@@ -260,14 +255,14 @@ fn marked_sound(rec: &[u8], set: Settings, view: u32, head: Head) -> bool
     requires { ⌜ Place (head .kind) (head .sender) × (head .sender < set .n) × (length (now rec) ≡ recordSize) × Marked (slotOf (decodeRecord (now rec))) head ⌝ }
     ensures { λ b. ⌜ b ≡ placeSound (slotOf (decodeRecord (now (rec .entry)))) set view (head .kind) (head .sender) ⌝ }
 {
-    if head.kind <= 5 {
+    if head.kind <= numbers::VOTE_4 {
         return plan_sound(set, view, head);
     }
     let at = frame_place(head.kind, head.sender);
     if layout::plan_at(rec, at) != 0 {
         return false;
     }
-    if head.kind == 6 {
+    if head.kind == numbers::VIEW_CHANGE {
         return head.view != 0;
     }
     told_sound(rec, set, view, head)
@@ -279,7 +274,7 @@ fn place_sound(rec: &[u8], set: Settings, view: u32, kind: u8, sender: u8) -> bo
     ensures { λ b. ⌜ b ≡ placeSound (slotOf (decodeRecord (now (rec .entry)))) set view kind sender ⌝ }
 {
     let at = frame_place(kind, sender);
-    if rec[at] != 1 {
+    if rec[at] != numbers::PRESENT {
         return empty_at(rec, kind, sender);
     }
     if is_free(set.id, kind, sender) {
@@ -300,7 +295,7 @@ fn no_reports(rec: &[u8], kind: u8) -> bool
     requires { ⌜ (1 ≤ kind) × (kind ≤ 8) × (length (now rec) ≡ recordSize) ⌝ }
     ensures { λ b. ⌜ b ≡ all (λ s. ltb kind 7 || reportsAbsent (slotOf (decodeRecord (now (rec .entry)))) kind s) rows ⌝ }
 {
-    if kind < 7 {
+    if kind < numbers::SUGGEST {
         return true;
     }
     slots_absent(rec, layout::report_slot(kind, 0, 0), 3 * layout::ROWS)
@@ -325,12 +320,12 @@ fn rest_empty(rec: &[u8], kind: u8, n: u8) -> bool
     requires { ⌜ (n ≤ rows) × (1 ≤ kind) × (kind ≤ 8) × (length (now rec) ≡ recordSize) ⌝ }
     ensures { λ b. ⌜ b ≡ all (emptyFrom (slotOf (decodeRecord (now (rec .entry)))) kind n) (rows - n) ⌝ }
 {
-    let row = wide(n);
+    let row = n as usize;
     let from = layout::frame_slot(kind, 0) + row;
     if !slots_absent(rec, from, layout::ROWS - row) {
         return false;
     }
-    if kind < 7 {
+    if kind < numbers::SUGGEST {
         return true;
     }
     let told = layout::report_slot(kind, 0, 0) + row;
@@ -373,7 +368,7 @@ fn rows_sound(rec: &[u8], set: Settings, view: u32) -> bool
     ensures { λ b. ⌜ b ≡ rowsSound (slotOf (decodeRecord (now (rec .entry)))) set view ⌝ }
 {
     let mut k: u8 = 0;
-    while k < 8 {
+    while k < numbers::PROOF {
         if !kind_sound(rec, set, view, k + 1) {
             return false;
         }
@@ -399,10 +394,10 @@ fn votes_sound(rec: &[u8], id: u8) -> bool
     requires { ⌜ (id < rows) × (length (now rec) ≡ recordSize) ⌝ }
     ensures { λ b. ⌜ b ≡ votesSound (slotOf (decodeRecord (now (rec .entry)))) id ⌝ }
 {
-    if !previous_sound(rec, id, 2) {
+    if !previous_sound(rec, id, numbers::VOTE_1) {
         return false;
     }
-    if !previous_sound(rec, id, 3) {
+    if !previous_sound(rec, id, numbers::VOTE_2) {
         return false;
     }
     well_formed(layout::slot_of(rec, layout::DECISION))

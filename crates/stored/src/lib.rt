@@ -1,5 +1,6 @@
 // What a stored record tells a host that comes back: its view, the timer of it, and the decision, which may have been stored and not
 // yet acted on.
+use frame::numbers;
 use sound::Lent;
 ghost use mathlib.Core.Path.{_≡_};
 ghost use Rattle.sound.specs.declared.Lent.the-variants.{Sound};
@@ -20,11 +21,6 @@ pub enum Decision {
     Refused(u8),
 }
 
-// The refusals of a record that is blank, and of one that is not sound.
-const BLANK: u8 = 2;
-
-const UNSOUND: u8 = 3;
-
 // The view of a sound record, and the timer of its link class.
 fn entered(rec: &[u8]) -> Current
     requires { ⌜ lentIs (now rec) ≡ Sound ⌝ }
@@ -43,8 +39,8 @@ pub fn current_of(rec: &[u8]) -> Current
 {
     let lent = sound::classify(rec);
     match lent {
-        Lent::Blank => Current::Refused(BLANK),
-        Lent::Unsound => Current::Refused(UNSOUND),
+        Lent::Blank => Current::Refused(numbers::REFUSED_BLANK),
+        Lent::Unsound => Current::Refused(numbers::REFUSED_UNSOUND),
         Lent::Sound => entered(rec),
     }
 }
@@ -55,7 +51,7 @@ fn made(rec: &[u8]) -> Decision
     ensures { λ r. ⌜ r ≡ madeBy (contentsIn (now (rec .entry)) .decision) ⌝ }
 {
     let slot = layout::slot_of(rec, layout::DECISION);
-    if slot.mark != 1 {
+    if slot.mark != numbers::PRESENT {
         return Decision::Open;
     }
     Decision::Made {
@@ -70,8 +66,8 @@ pub fn decision_of(rec: &[u8]) -> Decision
 {
     let lent = sound::classify(rec);
     match lent {
-        Lent::Blank => Decision::Refused(BLANK),
-        Lent::Unsound => Decision::Refused(UNSOUND),
+        Lent::Blank => Decision::Refused(numbers::REFUSED_BLANK),
+        Lent::Unsound => Decision::Refused(numbers::REFUSED_UNSOUND),
         Lent::Sound => made(rec),
     }
 }

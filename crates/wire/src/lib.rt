@@ -6,7 +6,8 @@ ghost use Rattle.wire.specs.Digits.{numberAt, digits};
 ghost use Rattle.wire.specs.inside.Reversed.{Reversed};
 ghost use Rattle.wire.specs.Placed.{placed};
 
-fn wide(x: u8) -> u64
+// A byte as a number: of `wide(s[i])` only the index is left to prove, of a cast of s[i] the byte too.
+pub fn wide(x: u8) -> u64
     ensures { λ r. ⌜ (r ≡ x) × (r < 256) ⌝ }
 {
     x as u64
@@ -43,12 +44,6 @@ pub fn number32(s: &[u8], at: usize) -> u32
     (x % 256 * 16777216 + x / 256 % 256 * 65536 + x / 65536 % 256 * 256 + x / 16777216) as u32
 }
 
-fn wider(x: u32) -> u64
-    ensures { λ r. ⌜ (r ≡ x) × (r < 4294967296) ⌝ }
-{
-    x as u64
-}
-
 // The number that eight bytes spell, likewise.
 pub fn number64(s: &[u8], at: usize) -> u64
     requires { ⌜ at + 8 ≤ length (now s) ⌝ }
@@ -56,7 +51,7 @@ pub fn number64(s: &[u8], at: usize) -> u64
 {
     let high = number32(s, at);
     let low = number32(s, at + 4);
-    wider(high) * 4294967296 + wider(low)
+    (high as u64) * 4294967296 + (low as u64)
 }
 
 // Writes a number as width bytes at a place; every other byte stays.

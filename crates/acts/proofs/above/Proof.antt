@@ -1,26 +1,25 @@
 -- `acts::above` meets its contract: the mark tells whether there is a vote.
 -- Assumes nothing.
 use Prim.Native.Nat.{ℕ, _+_}
-use mathlib.Core.Path.{ap}
 use borrow.Author.Tests.{eq-eqb, ne-eqb}
 use Rattle.acts.specs.inside.Reports.{aboveOf}
 use borrow.Author.Needs.{needs}
 use Rattle.acts.proofs.above.Statement.{statement}
 use Rattle.acts.proofs.above.Tie as tie
 
-long-requires : tie.Need-long-requires
-long-requires c κs = search needs
+cast-result : tie.Need-cast-result
+cast-result c = search needs
 
 add-result : tie.Need-add-result
 add-result c = search needs
 
 returns : tie.Need-returns
 unfolding aboveOf
-returns c = simp (eq-eqb _ _ (c .before .if1 .taken)) (ap (λ (x : ℕ). x + 1) (c .long .ensures))
+returns c = simp (eq-eqb _ _ (c .if1 .taken))
 
 returns-2 : tie.Need-returns-2
 unfolding aboveOf
 returns-2 c = simp (ne-eqb _ _ (c .if1 .left))
 
 pub above-spec : {M : Type 1} → statement M
-above-spec = tie.close (tie.spec long-requires add-result returns returns-2)
+above-spec = tie.close (tie.spec cast-result add-result returns returns-2)

@@ -22,14 +22,11 @@ Inv-loop table n w plans₀ at view every₀ some₀ r₀ plans every some r =
 abbrev μ-loop : tie.MeasureT-loop
 μ-loop table n w plans₀ at view every₀ some₀ r₀ plans every some r = n - r
 
-long-requires : tie.Need-long-requires Inv-loop μ-loop
-long-requires c κs = search needs
-
 loop-holds : tie.Need-loop-holds Inv-loop μ-loop
 loop-holds c =
-    let a = c .before .before .before .args in
-    let pre = c .before .before .before .pre in
-    (omega arith, pre .2, λ i low. refl, rowNone (reportsIn (a .table .now)) (λ p. claims p (c .long .result)) (a .plans .now) (a .at))
+    let a = c .before .before .args in
+    let pre = c .before .before .pre in
+    (omega arith, pre .2, λ i low. refl, rowNone (reportsIn (a .table .now)) (λ p. claims p (a .w)) (a .plans .now) (a .at))
 
 claim-share-requires : tie.Need-claim-share-requires Inv-loop μ-loop
 claim-share-requires c κs = search needs
@@ -54,11 +51,11 @@ slice-write-plans c = omega (arith, c .before .before .before .loop .inv .3 .mos
 
 add-every : tie.Need-add-every Inv-loop μ-loop
 add-every c =
-    let a = c .before .before .before .before .before .before .before .before .args in
+    let a = c .before .before .before .before .before .before .before .args in
     let at = c .before .before .before .before .loop in
     let add = c .before .before .claim-share in
     let x = getD (a .table .now) (column * 2 + at .r) 0 in
-    let view = c .before .before .before .before .before .long .result in
+    let view = a .w in
     let s = add .result in
     let most = shareFits (λ p. reporting (reportsIn (a .table .now)) (claims p view) (at .r)) x (s .every) (s .some) (add .ensures) in
     omega (arith, at .inv .3 .most, most)
@@ -66,13 +63,12 @@ add-every c =
 add-some : tie.Need-add-some Inv-loop μ-loop
 add-some c =
     let atLoop = c .before .before .before .before .before in
-    let atLong = atLoop .before in
-    let atEntry = atLong .before .before .before in
+    let atEntry = atLoop .before .before .before in
     let a = atEntry .args in
     let at = atLoop .loop in
     let add = c .before .before .before .claim-share in
     let x = getD (a .table .now) (column * 2 + at .r) 0 in
-    let view = atLong .long .result in
+    let view = a .w in
     let s = add .result in
     let most = shareFits (λ p. reporting (reportsIn (a .table .now)) (claims p view) (at .r)) x (s .every) (s .some) (add .ensures) in
     omega (arith, at .inv .3 .most, most)
@@ -86,12 +82,11 @@ loop-less c = search needs
 loop-again : tie.Need-loop-again Inv-loop μ-loop
 loop-again c =
     let atLoop = c .before .before .before .before .before in
-    let atLong = atLoop .before in
-    let atEntry = atLong .before .before .before in
+    let atEntry = atLoop .before .before .before in
     let a = atEntry .args in
     let at = atLoop .loop in
     let add = c .before .before .before .claim-share in
-    let view = atLong .long .result in
+    let view = a .w in
     let x = getD (a .table .now) (column * 2 + at .r) 0 in
     let low : a .at + at .some < length (at .plans) = omega (arith, at .inv .3 .most) in (
       omega arith,
@@ -106,15 +101,13 @@ same-length c = search needs
 
 returns : tie.Need-returns Inv-loop μ-loop
 returns c =
-    let a = c .before .before .before .before .before .args in
+    let a = c .before .before .before .before .args in
     let at = c .before .loop in
     let t : Tally = record { every = at .every; some = at .some } in
     let all : at .r ≡ a .n = omega arith in (
       at .inv .1,
       at .inv .2,
-      subst (λ (k : ℕ). Tells (reportsIn (a .table .now)) k (λ p. claims p (a .w)) (at .plans) (a .at) t) all
-          (subst (λ (v : ℕ). Tells (reportsIn (a .table .now)) (at .r) (λ p. claims p v) (at .plans) (a .at) t) (c .before .before .long .ensures)
-          (at .inv .3)),
+      subst (λ (k : ℕ). Tells (reportsIn (a .table .now)) k (λ p. claims p (a .w)) (at .plans) (a .at) t) all (at .inv .3),
     )
 
 pub claims-at-spec : {M : Type 1} → statement M
@@ -123,7 +116,6 @@ claims-at-spec =
     (tie.spec
     Inv-loop
     μ-loop
-    long-requires
     loop-holds
     claim-share-requires
     add-plans

@@ -39,8 +39,8 @@ sub-w c = search needs
 reporters-holds : tie.Need-reporters-holds Inv-reporters μ-reporters Inv-views μ-views
 reporters-holds c = (omega arith, omega arith, sym (weighNone _ _))
 
-wide-requires : tie.Need-wide-requires Inv-reporters μ-reporters Inv-views μ-views
-wide-requires c κs = search needs
+cast-is-blocking : tie.Need-cast-is-blocking Inv-reporters μ-reporters Inv-views μ-views
+cast-is-blocking c = search needs
 
 is-blocking-requires : tie.Need-is-blocking-requires Inv-reporters μ-reporters Inv-views μ-views
 is-blocking-requires c κs = search needs
@@ -79,7 +79,7 @@ reporters-again c =
 
 views-less : tie.Need-views-less Inv-reporters μ-reporters Inv-views μ-views
 views-less c =
-    let atHighestTo = c .before .before .before .before .before .before in
+    let atHighestTo = c .before .before .before .before .before in
     let atViews = atHighestTo .before in
     let atEntry = atViews .before .before in
     let a = atEntry .args in
@@ -89,22 +89,20 @@ views-less c =
 
 views-again : tie.Need-views-again Inv-reporters μ-reporters Inv-views μ-views
 views-again c =
-    let atReporters = c .before .before .before .before in
+    let atReporters = c .before .before .before in
     let atHighestTo = atReporters .before .before in
     let atViews = atHighestTo .before in
     let atEntry = atViews .before .before in
     let a = atEntry .args in
     let t = atHighestTo .highest-to in
     let last = atViews .views .last in
-    let at = atReporters .reporters in
-    let count = c .before .before .wide in (
+    let at = atReporters .reporters in (
       omega (arith, t .ensures, highestLow (a .spans .now) (a .n) (a .f) last (a .n)),
       omega (
         arith,
-        leb-false (a .f + 1) (count .result) (sym (c .before .is-blocking .ensures) ∙ c .if3 .left),
-        count .ensures,
+        leb-false (a .f + 1) (at .locks) (sym (c .before .is-blocking .ensures) ∙ c .if3 .left),
         at .inv .2,
-        ap (weigh (λ i. 1) (covering (a .spans .now) (t .result - 1))) (c .before .before .before .if2 .taken),
+        ap (weigh (λ i. 1) (covering (a .spans .now) (t .result - 1))) (c .before .before .if2 .taken),
       ),
     )
 
@@ -117,7 +115,7 @@ returns c =
 
 returns-2 : tie.Need-returns-2 Inv-reporters μ-reporters Inv-views μ-views
 returns-2 c =
-    let atReporters = c .before .before .before .before in
+    let atReporters = c .before .before .before in
     let atIf1 = atReporters .before in
     let atHighestTo = atIf1 .before in
     let atViews = atHighestTo .before in
@@ -126,15 +124,13 @@ returns-2 c =
     let last = atViews .views in
     let t = atHighestTo .highest-to in
     let at = atReporters .reporters in
-    let count = c .before .before .wide in
     searchFound (a .spans .now) (a .n) (a .f) (a .v) (last .last) (t .result) (last .inv .0) (last .inv .1) (t .ensures)
     (atIf1 .if1 .left)
     (omega (
       arith,
-      leb-true (a .f + 1) (count .result) (sym (c .before .is-blocking .ensures) ∙ c .if3 .taken),
-      count .ensures,
+      leb-true (a .f + 1) (at .locks) (sym (c .before .is-blocking .ensures) ∙ c .if3 .taken),
       at .inv .2,
-      ap (weigh (λ i. 1) (covering (a .spans .now) (t .result - 1))) (c .before .before .before .if2 .taken),
+      ap (weigh (λ i. 1) (covering (a .spans .now) (t .result - 1))) (c .before .before .if2 .taken),
     ))
 
 pub lowest-cleared-spec : {M : Type 1} → statement M
@@ -149,7 +145,7 @@ lowest-cleared-spec =
     highest-to-requires
     sub-w
     reporters-holds
-    wide-requires
+    cast-is-blocking
     is-blocking-requires
     mul-lock-share
     shared-slice-read-lock-share

@@ -18,6 +18,9 @@ add-view-at c = search needs
 add-value-at : tie.Need-add-value-at
 add-value-at c = search needs
 
+cast-put : tie.Need-cast-put
+cast-put c = search needs
+
 put-requires : tie.Need-put-requires
 put-requires c κs = search needs
 
@@ -54,6 +57,7 @@ put-host-spec =
     add-code-at
     add-view-at
     add-value-at
+    cast-put
     put-requires
     put-requires-2
     put-requires-3

@@ -1,5 +1,7 @@
 -- `keeping::keep_head` meets its contract: a frame without reports is its head.
 -- Assumes nothing.
+use mathlib.Core.Path.{ap, _∙_}
+use Rattle.frame.specs.inside.Reading.{presentAt}
 use Rattle.keeping.proofs.Forms.{fitsKind}
 use Rattle.keeping.proofs.Put.{heldHead}
 use borrow.Author.Needs.{needs}
@@ -15,6 +17,9 @@ frame-slot-requires c κs =
 plan-of-requires : tie.Need-plan-of-requires
 plan-of-requires c κs = search needs
 
+present-requires : tie.Need-present-requires
+present-requires c κs = search needs
+
 put-slot-requires : tie.Need-put-slot-requires
 put-slot-requires c κs = search needs
 
@@ -24,10 +29,12 @@ same-length c = search needs
 returns : tie.Need-returns
 returns c =
     let k = c .before .before in
-    let s = k .before .before .before .before .before in
-    heldHead _ _ (s .args .sender) (s .args .f) (k .before .before .before .frame-slot .ensures .0) (k .before .before .plan-of .ensures) (k .put-slot .ensures)
+    let s = k .before .before .before .before .before .before in
+    let plan = k .before .before .before .plan-of .ensures in
+    let head = k .before .before .present .ensures ∙ ap (presentAt (s .args .f .view)) plan in
+    heldHead _ _ (s .args .sender) (s .args .f) (k .before .before .before .before .frame-slot .ensures .0) head (k .put-slot .ensures)
     (s .pre .0) (s .pre .1)
 
 pub keep-head-spec : {M : Type 1} → statement M
 keep-head-spec =
-    tie.close (tie.spec frame-slot-requires plan-of-requires put-slot-requires same-length returns)
+    tie.close (tie.spec frame-slot-requires plan-of-requires present-requires put-slot-requires same-length returns)

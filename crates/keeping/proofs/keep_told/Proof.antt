@@ -10,6 +10,9 @@ use Rattle.keeping.proofs.keep_told.Tie as tie
 frame-slot-requires : tie.Need-frame-slot-requires
 frame-slot-requires c κs = search needs
 
+present-requires : tie.Need-present-requires
+present-requires c κs = search needs
+
 put-slot-requires : tie.Need-put-slot-requires
 put-slot-requires c κs = search needs
 
@@ -22,11 +25,11 @@ same-length c = search needs
 returns : tie.Need-returns
 returns c =
     let k = c .before .before .before .before .before .before in
-    let s = k .before .before .before .before in
+    let s = k .before .before .before .before .before in
     let f = told (s .args .kind) (s .args .sender) (s .args .view) (s .args .t) in
-    heldTold _ _ (s .args .sender) f (k .before .before .frame-slot .ensures .0) refl (k .put-slot .ensures) refl (c .before .before .put-reports .ensures)
+    heldTold _ _ (s .args .sender) f (k .before .before .before .frame-slot .ensures .0) (k .before .before .present .ensures) (k .put-slot .ensures) refl (c .before .before .put-reports .ensures)
 
 pub keep-told-spec : {M : Type 1} → statement M
 keep-told-spec =
     tie.close
-    (tie.spec frame-slot-requires put-slot-requires put-reports-requires same-length returns)
+    (tie.spec frame-slot-requires present-requires put-slot-requires put-reports-requires same-length returns)

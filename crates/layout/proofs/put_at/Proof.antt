@@ -18,8 +18,8 @@ slice-write-part c = search needs
 add-put : tie.Need-add-put
 add-put c = search needs
 
-wider-requires : tie.Need-wider-requires
-wider-requires c κs = search needs
+cast-put : tie.Need-cast-put
+cast-put c = search needs
 
 put-requires : tie.Need-put-requires
 put-requires c κs = simp length-set (omega arith)
@@ -42,10 +42,10 @@ returns c =
     let at = s .args .at in
     let x = s .args .slot in
     let first = atPlace in
-    let view : first .put .last .0 ≡ placed (set o at (x .mark)) (at + 1) (digits 4 (first .before .wider .result)) = first .put .ensures in
+    let view : first .put .last .0 ≡ placed (set o at (x .mark)) (at + 1) (digits 4 (x .view)) = first .put .ensures in
     c .before .before .put2 .ensures
     ∙ ap (λ (l : List ℕ). placed l (at + 5) (digits 8 (x .plan)))
-    (view ∙ ap (λ (v : ℕ). placed (set o at (x .mark)) (at + 1) (digits 4 v)) (first .before .wider .ensures))
+    view
     ∙ slotStores o at x (omega arith)
 
 pub put-at-spec : {M : Type 1} → statement M
@@ -54,7 +54,7 @@ put-at-spec =
     (tie.spec
     slice-write-part
     add-put
-    wider-requires
+    cast-put
     put-requires
     add-put-2
     put-requires-2

@@ -1,10 +1,8 @@
 -- `layout::put_view` meets its contract: four bytes of the shared part's head.
 -- Assumes nothing.
 use Prim.Native.Nat.{ℕ}
-use mathlib.Core.Path.{ap, sym, subst, _∙_}
+use mathlib.Core.Path.{sym, subst}
 use mathlib.Core.List.{List}
-use Rattle.wire.specs.Digits.{digits}
-use Rattle.wire.specs.Placed.{placed}
 use Rattle.record.specs.inside.Slots.{withView}
 use Rattle.layout.specs.Layout.{viewPlace, decodeRecord}
 use Rattle.layout.specs.inside.Layout.{Holds}
@@ -12,9 +10,6 @@ use Rattle.layout.proofs.Laws.{holdsView}
 use borrow.Author.Needs.{needs}
 use Rattle.layout.proofs.put_view.Statement.{statement}
 use Rattle.layout.proofs.put_view.Tie as tie
-
-wider-requires : tie.Need-wider-requires
-wider-requires c κs = search needs
 
 put-requires : tie.Need-put-requires
 put-requires c κs = search needs
@@ -24,12 +19,11 @@ same-length c = search needs
 
 returns : tie.Need-returns
 returns c =
-    let s = c .before .before .before .before .before .before in
+    let s = c .before .before .before .before .before in
     let o = s .args .rec .now in
-    let e = c .before .before .put .ensures
-    ∙ ap (λ (v : ℕ). placed o viewPlace (digits 4 v)) (c .before .before .before .wider .ensures) in
+    let e = c .before .before .put .ensures in
     subst (λ (l : List ℕ). Holds l (withView (decodeRecord o) (s .args .view))) (sym e)
     (holdsView o (s .args .view) (s .pre) (search needs))
 
 pub put-view-spec : {M : Type 1} → statement M
-put-view-spec = tie.close (tie.spec wider-requires put-requires same-length returns)
+put-view-spec = tie.close (tie.spec put-requires same-length returns)

@@ -6,18 +6,18 @@ use borrow.Author.Needs.{needs}
 use Rattle.safe.proofs.choose.Statement.{statement}
 use Rattle.safe.proofs.choose.Tie as tie
 
-wide-requires : tie.Need-wide-requires
-wide-requires c κs = search needs
+cast-choose-among : tie.Need-cast-choose-among
+cast-choose-among c = search needs
 
-wide-requires-2 : tie.Need-wide-requires-2
-wide-requires-2 c κs = search needs
+cast-choose-among-2 : tie.Need-cast-choose-among-2
+cast-choose-among-2 c = search needs
 
 choose-among-requires : tie.Need-choose-among-requires
 choose-among-requires c κs = let pre = c .before .before .before .pre in
-    (pre .0, omega (arith, c .before .wide .ensures), omega (arith, c .before .wide .ensures, c .wide2 .ensures))
+    (pre .0, omega arith, omega arith)
 
 returns : tie.Need-returns
-returns c = rw (← c .before .before .wide .ensures, ← c .before .wide2 .ensures) (c .choose-among .ensures)
+returns c = c .choose-among .ensures
 
 pub choose-spec : {M : Type 1} → statement M
-choose-spec = tie.close (tie.spec wide-requires wide-requires-2 choose-among-requires returns)
+choose-spec = tie.close (tie.spec cast-choose-among cast-choose-among-2 choose-among-requires returns)

@@ -23,43 +23,37 @@ mul-above c = search needs
 shared-slice-read-above : tie.Need-shared-slice-read-above
 shared-slice-read-above c = search needs
 
-long-requires : tie.Need-long-requires
-long-requires c κs = search needs
-
 returns : tie.Need-returns
 returns c =
-    let a = c .before .before .before .before .before .before .args in
+    let a = c .before .before .before .before .before .args in
     omega (
       arith,
-      spanIn (a .table .now) (a .r) (sym (c .before .before .before .before .reported .ensures) ∙ c .before .before .before .if1 .taken)
+      spanIn (a .table .now) (a .r) (sym (c .before .before .before .reported .ensures) ∙ c .before .before .if1 .taken)
           (a .v),
-      c .before .long .ensures,
     )
 
 returns-2 : tie.Need-returns-2
 returns-2 c =
-    let a = c .before .before .before .before .before .before .before .args in
+    let a = c .before .before .before .before .before .before .args in
     omega (
       arith,
-      spanIn (a .table .now) (a .r) (sym (c .before .before .before .before .before .reported .ensures)
-          ∙ c .before .before .before .before .if1 .taken) (a .v),
-      c .before .before .long .ensures,
+      spanIn (a .table .now) (a .r) (sym (c .before .before .before .before .reported .ensures)
+          ∙ c .before .before .before .if1 .taken) (a .v),
     )
 
 sub-result : tie.Need-sub-result
 sub-result c = omega arith
 
 cast-result : tie.Need-cast-result
-cast-result c = omega (arith, c .before .before .long .ensures)
+cast-result c = omega arith
 
 returns-3 : tie.Need-returns-3
 returns-3 c =
-    let a = c .before .before .before .before .before .before .before .args in
+    let a = c .before .before .before .before .before .before .args in
     omega (
       arith,
-      spanIn (a .table .now) (a .r) (sym (c .before .before .before .before .before .reported .ensures)
-          ∙ c .before .before .before .before .if1 .taken) (a .v),
-      c .before .before .long .ensures,
+      spanIn (a .table .now) (a .r) (sym (c .before .before .before .before .reported .ensures)
+          ∙ c .before .before .before .if1 .taken) (a .v),
     )
 
 returns-4 : tie.Need-returns-4
@@ -74,7 +68,6 @@ lock-span-spec =
     add-above
     mul-above
     shared-slice-read-above
-    long-requires
     returns
     returns-2
     sub-result

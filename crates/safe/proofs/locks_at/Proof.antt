@@ -23,16 +23,13 @@ Inv-loop table n u plans₀ view every₀ some₀ r₀ plans every some r =
 abbrev μ-loop : tie.MeasureT-loop
 μ-loop table n u plans₀ view every₀ some₀ r₀ plans every some r = n - r
 
-long-requires : tie.Need-long-requires Inv-loop μ-loop
-long-requires c κs = search needs
-
 loop-holds : tie.Need-loop-holds Inv-loop μ-loop
 loop-holds c =
-    let a = c .before .before .before .args in (
+    let a = c .before .before .args in (
       omega arith,
-      c .before .before .before .pre .2,
+      c .before .before .pre .2,
       λ i low. refl,
-      rowNone (reportsIn (a .table .now)) (λ p. allows p (c .long .result))
+      rowNone (reportsIn (a .table .now)) (λ p. allows p (a .u))
           (a .plans .now) lockRow,
     )
 
@@ -59,13 +56,13 @@ slice-write-plans c = omega (arith, c .before .before .before .loop .inv .3 .mos
 
 add-every : tie.Need-add-every Inv-loop μ-loop
 add-every c =
-    let a = c .before .before .before .before .before .before .before .before .args in
+    let a = c .before .before .before .before .before .before .before .args in
     let at = c .before .before .before .before .loop in
     let add = c .before .before .allow-share in
     omega (
       arith,
       at .inv .3 .most,
-      shareFits (λ p. reporting (reportsIn (a .table .now)) (allows p (c .before .before .before .before .before .long .result)) (at .r))
+      shareFits (λ p. reporting (reportsIn (a .table .now)) (allows p (a .u)) (at .r))
           (getD (a .table .now) (column * 6 + at .r) 0)
           (add .result .every) (add .result .some) (add .ensures),
     )
@@ -73,15 +70,14 @@ add-every c =
 add-some : tie.Need-add-some Inv-loop μ-loop
 add-some c =
     let atLoop = c .before .before .before .before .before in
-    let atLong = atLoop .before in
-    let atEntry = atLong .before .before .before in
+    let atEntry = atLoop .before .before .before in
     let a = atEntry .args in
     let at = atLoop .loop in
     let add = c .before .before .before .allow-share in
     omega (
       arith,
       at .inv .3 .most,
-      shareFits (λ p. reporting (reportsIn (a .table .now)) (allows p (atLong .long .result)) (at .r))
+      shareFits (λ p. reporting (reportsIn (a .table .now)) (allows p (a .u)) (at .r))
           (getD (a .table .now) (column * 6 + at .r) 0)
           (add .result .every) (add .result .some) (add .ensures),
     )
@@ -95,12 +91,11 @@ loop-less c = search needs
 loop-again : tie.Need-loop-again Inv-loop μ-loop
 loop-again c =
     let atLoop = c .before .before .before .before .before in
-    let atLong = atLoop .before in
-    let atEntry = atLong .before .before .before in
+    let atEntry = atLoop .before .before .before in
     let a = atEntry .args in
     let at = atLoop .loop in
     let add = c .before .before .before .allow-share in
-    let view = atLong .long .result in
+    let view = a .u in
     let x = getD (a .table .now) (column * 6 + at .r) 0 in
     let low : lockRow + at .some < length (at .plans) = omega (arith, at .inv .3 .most) in (
       omega arith,
@@ -115,15 +110,13 @@ same-length c = search needs
 
 returns : tie.Need-returns Inv-loop μ-loop
 returns c =
-    let a = c .before .before .before .before .before .args in
+    let a = c .before .before .before .before .args in
     let at = c .before .loop in
     let t : Tally = record { every = at .every; some = at .some } in
     let all : at .r ≡ a .n = omega arith in (
       at .inv .1,
       at .inv .2,
-      subst (λ (k : ℕ). Tells (reportsIn (a .table .now)) k (λ p. allows p (a .u)) (at .plans) lockRow t) all
-          (subst (λ (v : ℕ). Tells (reportsIn (a .table .now)) (at .r) (λ p. allows p v) (at .plans) lockRow t) (c .before .before .long .ensures)
-          (at .inv .3)),
+      subst (λ (k : ℕ). Tells (reportsIn (a .table .now)) k (λ p. allows p (a .u)) (at .plans) lockRow t) all (at .inv .3),
     )
 
 pub locks-at-spec : {M : Type 1} → statement M
@@ -132,7 +125,6 @@ locks-at-spec =
     (tie.spec
     Inv-loop
     μ-loop
-    long-requires
     loop-holds
     allow-share-requires
     add-plans

@@ -16,11 +16,11 @@ returns-2 c = search tests
 returns-3 : tie.Need-returns-3
 returns-3 c = search tests
 
-wide-requires : tie.Need-wide-requires
-wide-requires c κs = search needs
+cast-if4 : tie.Need-cast-if4
+cast-if4 c = search needs
 
-wide-requires-2 : tie.Need-wide-requires-2
-wide-requires-2 c κs = search needs
+cast-if4-2 : tie.Need-cast-if4-2
+cast-if4-2 c = search needs
 
 mul-if4 : tie.Need-mul-if4
 mul-if4 c = search needs
@@ -64,8 +64,8 @@ settings-refusal-spec =
     returns
     returns-2
     returns-3
-    wide-requires
-    wide-requires-2
+    cast-if4
+    cast-if4-2
     mul-if4
     returns-4
     returns-5

@@ -17,9 +17,6 @@ frame-slot-requires c κs = search needs
 place-of-requires : tie.Need-place-of-requires
 place-of-requires c κs = search needs
 
-wide-requires : tie.Need-wide-requires
-wide-requires c κs = search needs
-
 mul-result : tie.Need-mul-result
 mul-result c = search needs
 
@@ -28,15 +25,14 @@ add-result c = search needs
 
 returns : tie.Need-returns
 returns c =
-    let s = c .before .before .before in
+    let s = c .before .before in
     let a = s .args in
-    let first = c .before .place-of .ensures .0 ∙ ap place (c .before .before .frame-slot .ensures .0) in
-    let row = c .wide .ensures in
-    let e = (λ i. first i + slotSize * row i) ∙ placeFrame (a .kind) (a .sender) (s .pre .row) in
+    let first = c .place-of .ensures .0 ∙ ap place (c .before .frame-slot .ensures .0) in
+    let e = (λ i. first i + slotSize * a .sender) ∙ placeFrame (a .kind) (a .sender) (s .pre .row) in
     let fits = placeFits (frameSlot (a .kind) (a .sender)) (let h = s .pre .row in omega arith) in
     (e, omega (arith, e, fits))
 
 pub frame-place-spec : {M : Type 1} → statement M
 frame-place-spec =
     tie.close
-    (tie.spec frame-slot-requires place-of-requires wide-requires mul-result add-result returns)
+    (tie.spec frame-slot-requires place-of-requires mul-result add-result returns)

@@ -17,9 +17,6 @@ report-slot-requires c κs = search needs
 place-of-requires : tie.Need-place-of-requires
 place-of-requires c κs = search needs
 
-wide-requires : tie.Need-wide-requires
-wide-requires c κs = search needs
-
 mul-result : tie.Need-mul-result
 mul-result c = search needs
 
@@ -28,18 +25,17 @@ add-result c = search needs
 
 returns : tie.Need-returns
 returns c =
-    let s = c .before .before .before in
+    let s = c .before .before in
     let a = s .args in
-    let first = c .before .place-of .ensures .0 ∙ ap place (c .before .before .report-slot .ensures .0) in
-    let row = c .wide .ensures in
+    let first = c .place-of .ensures .0 ∙ ap place (c .before .report-slot .ensures .0) in
     let from = placeReport (a .kind) 0 (a .sender) in
-    let e : c .before .place-of .result + slotSize * c .wide .result ≡ place (reportSlot (a .kind) 0 (a .sender)) = omega (arith, first, row, from) in
+    let e : c .place-of .result + slotSize * a .sender ≡ place (reportSlot (a .kind) 0 (a .sender)) = omega (arith, first, from) in
     let last = placeReport (a .kind) 2 (a .sender) in
     let below : reportSlot (a .kind) 2 (a .sender) < slotCount = let h = s .pre .1 .high in let k = s .pre .1 .row in omega arith in
     let fits = placeFits (reportSlot (a .kind) 2 (a .sender)) below in
-    (e, omega (arith, first, row, last, fits))
+    (e, omega (arith, first, last, fits))
 
 pub report-place-spec : {M : Type 1} → statement M
 report-place-spec =
     tie.close
-    (tie.spec report-slot-requires place-of-requires wide-requires mul-result add-result returns)
+    (tie.spec report-slot-requires place-of-requires mul-result add-result returns)

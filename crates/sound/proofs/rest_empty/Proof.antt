@@ -13,12 +13,9 @@ use borrow.Author.Needs.{needs}
 use Rattle.sound.proofs.rest_empty.Statement.{statement}
 use Rattle.sound.proofs.rest_empty.Tie as tie
 
-wide-requires : tie.Need-wide-requires
-wide-requires c κs = search needs
-
 frame-slot-requires : tie.Need-frame-slot-requires
 frame-slot-requires c κs =
-    let s = c .before .before in
+    let s = c .before in
     record { low = s .pre .1; high = s .pre .2; row = omega arith }
 
 add-from : tie.Need-add-from
@@ -29,14 +26,13 @@ sub-slots-absent c = search needs
 
 slots-absent-requires : tie.Need-slots-absent-requires
 slots-absent-requires c κs =
-    let s = c .before .before .before in
+    let s = c .before .before in
     let n = s .pre .0 in
-    let row = c .before .wide .ensures in
     let from = c .frame-slot .ensures in (
       record {
-        below = omega (arith, n, row, from .1);
-        whole = omega (arith, n, row, from .1);
-        part = λ (g : c .frame-slot .result + c .before .wide .result < rows). omega (arith, n, row, from .0, g);
+        below = omega (arith, n, from .1);
+        whole = omega (arith, n, from .1);
+        part = λ (g : c .frame-slot .result + s .args .n < rows). omega (arith, n, from .0, g);
       },
       s .pre .3,
     )
@@ -44,24 +40,22 @@ slots-absent-requires c κs =
 returns : tie.Need-returns
 returns c =
     let k = c .before .before in
-    let a = k .before .before .before .args in
-    let row = k .before .wide .ensures in
+    let a = k .before .before .args in
     let from = k .frame-slot .ensures .0 in
-    let e = c .before .slots-absent .ensures ∙ (λ i. all (absentFrom (slotOf (decodeRecord (a .rec .now))) (from i + row i)) (rows - row i)) in
+    let e = c .before .slots-absent .ensures ∙ (λ i. all (absentFrom (slotOf (decodeRecord (a .rec .now))) (from i + a .n)) (rows - a .n)) in
     sym (restFrames (slotOf (decodeRecord (a .rec .now))) (a .kind) (a .n) (rows - a .n) (off e (c .if1 .taken)))
 
 returns-2 : tie.Need-returns-2
 returns-2 c =
     let k = c .before .before .before in
-    let a = k .before .before .before .args in
-    let row = k .before .wide .ensures in
+    let a = k .before .before .args in
     let from = k .frame-slot .ensures .0 in
-    let e = c .before .before .slots-absent .ensures ∙ (λ i. all (absentFrom (slotOf (decodeRecord (a .rec .now))) (from i + row i)) (rows - row i)) in
+    let e = c .before .before .slots-absent .ensures ∙ (λ i. all (absentFrom (slotOf (decodeRecord (a .rec .now))) (from i + a .n)) (rows - a .n)) in
     sym (restShort (slotOf (decodeRecord (a .rec .now))) (a .kind) (a .n) (rows - a .n) (on e (c .before .if1 .left)) (c .if2 .taken))
 
 report-slot-requires : tie.Need-report-slot-requires
 report-slot-requires c κs =
-    let s = c .before .before .before .before .before .before in
+    let s = c .before .before .before .before .before in
     (c .if2 .left, omega arith, record { low = s .pre .1; high = s .pre .2; row = omega arith })
 
 add-told : tie.Need-add-told
@@ -72,24 +66,22 @@ sub-told-absent c = search needs
 
 told-absent-requires : tie.Need-told-absent-requires
 told-absent-requires c κs =
-    let s = c .before .before .before .before .before .before .before in
+    let s = c .before .before .before .before .before .before in
     let n = s .pre .0 in
     let high = s .pre .2 in
-    let row = c .before .before .before .before .before .wide .ensures in
     let from = c .report-slot .ensures in
-    (omega (arith, from .1), omega (arith, n, high, row, from .0, c .before .if2 .left), s .pre .3)
+    (omega (arith, from .1), omega (arith, n, high, from .0, c .before .if2 .left), s .pre .3)
 
 returns-3 : tie.Need-returns-3
 returns-3 c =
     let k = c .before .before .before .before .before in
-    let a = k .before .before .before .args in
-    let row = k .before .wide .ensures in
+    let a = k .before .before .args in
     let from = k .frame-slot .ensures .0 in
     let e = c .before .before .before .before .slots-absent .ensures
-    ∙ (λ i. all (absentFrom (slotOf (decodeRecord (a .rec .now))) (from i + row i)) (rows - row i)) in
+    ∙ (λ i. all (absentFrom (slotOf (decodeRecord (a .rec .now))) (from i + a .n)) (rows - a .n)) in
     let told = c .before .report-slot .ensures .0 in
     c .told-absent .ensures
-    ∙ (λ i. toldAbsent (slotOf (decodeRecord (a .rec .now))) (told i + row i) (rows - row i))
+    ∙ (λ i. toldAbsent (slotOf (decodeRecord (a .rec .now))) (told i + a .n) (rows - a .n))
     ∙ sym (restTold (slotOf (decodeRecord (a .rec .now))) (a .kind) (a .n) (rows - a .n)
     (on e (c .before .before .before .if1 .left)) (c .before .before .if2 .left))
 
@@ -97,7 +89,6 @@ pub rest-empty-spec : {M : Type 1} → statement M
 rest-empty-spec =
     tie.close
     (tie.spec
-    wide-requires
     frame-slot-requires
     add-from
     sub-slots-absent

@@ -16,21 +16,21 @@ add-number32 c = search needs
 number32-requires-2 : tie.Need-number32-requires-2
 number32-requires-2 c κs = search needs
 
-wider-requires : tie.Need-wider-requires
-wider-requires c κs = search needs
+cast-result : tie.Need-cast-result
+cast-result c = search needs
 
 mul-result : tie.Need-mul-result
 mul-result c = search needs
 
-wider-requires-2 : tie.Need-wider-requires-2
-wider-requires-2 c κs = search needs
+cast-result-2 : tie.Need-cast-result-2
+cast-result-2 c = search needs
 
 add-result : tie.Need-add-result
 add-result c = search needs
 
 returns : tie.Need-returns
 returns c =
-    let a = c .before .before .before .before .before .args in
+    let a = c .before .before .before .args in
     omega (arith, number-halves (now (a .s)) (a .at))
 
 pub number64-spec : {M : Type 1} → statement M
@@ -40,8 +40,8 @@ number64-spec =
     number32-requires
     add-number32
     number32-requires-2
-    wider-requires
+    cast-result
     mul-result
-    wider-requires-2
+    cast-result-2
     add-result
     returns)
