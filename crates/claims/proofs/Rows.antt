@@ -19,7 +19,8 @@ use Rattle.quorum.proofs.Laws.{weighNone, weighMore, weighSame, outside}
 use Rattle.rules.specs.Rules.{Report, Reports, viewOf, viewFor, reach, claims, reporting}
 use Rattle.claims.specs.declared.Search.{Search}
 use Rattle.claims.specs.declared.Tally.{Tally}
-use Rattle.claims.specs.inside.Rows.{rowsSize, countOf, forPlan, Fits, Stance, forAll, forOne, forNone, Tells, SameBelow, tallyAt, placeAt, claimedIn, endOf, servingView}
+use Rattle.claims.specs.inside.Rows.{rowsSize, countOf, forPlan, Fits, Stance, forAll, forOne, forNone, Tells, SameBelow}
+use Rattle.claims.specs.inside.Rows.{tallyAt, placeAt, claimedIn, endOf, servingView}
 use Rattle.claims.specs.Table.{column, voteOf, reporter, reportsIn}
 
 -- ---- votes of the table

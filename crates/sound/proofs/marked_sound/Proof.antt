@@ -32,8 +32,8 @@ start c = c .before .before .before .before .before
 planRead : (c : tie.After-plan-at)
     → c .plan-at .result ≡ slotOf (decodeRecord (start c .args .rec .now)) (frameSlot (start c .args .head .kind) (start c .args .head .sender)) .plan
 planRead c =
-    let a = start c .args in
-    c .plan-at .ensures ∙ ap (λ (x : Report). x .plan) (frameThere (a .rec .now) (a .head .kind) (a .head .sender) (start c .pre .0) (c .before .frame-place .ensures .0))
+    let there = frameThere _ _ _ (start c .pre .0) (c .before .frame-place .ensures .0) in
+    c .plan-at .ensures ∙ ap (λ (x : Report). x .plan) there
 
 returns-2 : tie.Need-returns-2
 returns-2 c =

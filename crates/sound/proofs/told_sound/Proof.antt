@@ -36,8 +36,8 @@ returns-4 : tie.Need-returns-4
 returns-4 c =
     let d = c .before .before .before .before .before .before in
     let s = d .before .before .before in
-    sym (toldProof _ _ _ _ (s .pre .0) (s .pre .1 .high) (s .pre .2) (told (d .before .above .ensures) (d .if1 .left)) (c .before .before .before .before .if2 .left)
-    (on (c .before .before .before .reports-fit .ensures) (c .before .before .if3 .left)) (c .if4 .taken))
+    sym (toldProof _ _ _ _ (s .pre .0) (s .pre .1 .high) (s .pre .2) (told (d .before .above .ensures) (d .if1 .left))
+    (c .before .before .before .before .if2 .left) (on (c .before .before .before .reports-fit .ensures) (c .before .before .if3 .left)) (c .if4 .taken))
 
 cast-result : tie.Need-cast-result
 cast-result c = search needs
@@ -53,8 +53,8 @@ returns-5 c =
     let k = c .before .before .before in
     let d = k .before .before .before .before .before .before in
     let s = d .before .before .before in
-    sym (toldSuggest _ _ _ _ (s .pre .0) (s .pre .1 .high) (s .pre .2) (told (d .before .above .ensures) (d .if1 .left)) (k .before .before .before .before .if2 .left)
-    (on (k .before .before .before .reports-fit .ensures) (k .before .before .if3 .left)) (k .if4 .left))
+    sym (toldSuggest _ _ _ _ (s .pre .0) (s .pre .1 .high) (s .pre .2) (told (d .before .above .ensures) (d .if1 .left))
+    (k .before .before .before .before .if2 .left) (on (k .before .before .before .reports-fit .ensures) (k .before .before .if3 .left)) (k .if4 .left))
 
 pub told-sound-spec : {M : Type 1} → statement M
 told-sound-spec =
