@@ -35,45 +35,41 @@ module _ (s : List ℕ) (i : ℕ) where
 
 module _ (s : List ℕ) (ready : Ready s) where
   -- The shared part of a record's bytes has its size.
-  pub sharedLength : length (sharedPart s) ≡ sharedSize
+  sharedLength : length (sharedPart s) ≡ sharedSize
   sharedLength = length-take sharedSize s ∙ omega (arith, ready .size)
 
   -- The block has its size.
-  pub blockLength : length (blockPart s) ≡ blockSize
+  blockLength : length (blockPart s) ≡ blockSize
   blockLength = length-take blockSize (drop sharedSize s) ∙ omega (arith, length-drop sharedSize s, ready .size)
 
 -- ---- the record, with its settings and its view at hand
 
--- A sound record whose slots stand in the two parts of some bytes.
+-- A sound record whose slots stand in the two parts of some bytes that spell it.
 pub record Reads (s : List ℕ) (r : slots.Record) : Type 0 where
   pub allows : Allowed (r .set)
   pub sound : Sound (contents r)
   pub shared : (i : ℕ) → i < rows → slotOf r i ≡ slotIn (sharedPart s) (partPlace i)
   pub block : (i : ℕ) → rows ≤ i → i < slotCount → slotOf r i ≡ slotIn (blockPart s) (blockPlace i)
+  pub sharedLength : length (sharedPart s) ≡ sharedSize
+  pub blockLength : length (blockPart s) ≡ blockSize
+  pub spelt : contents r ≡ contentsIn s
 
--- The record that the bytes spell, with these settings and this view.
-abbrev pub seen : List ℕ → Settings → ℕ → slots.Record
-seen s set view = record { set = set; view = view; plan = decodeRecord s .plan; slots = decodeRecord s .slots }
+-- The record that a step is lent: the bytes, with the settings and the view that they spell.
+abbrev pub Lent : List ℕ → Settings → ℕ → Type 0
+Lent s set view = Reads s (record { set = set; view = view; plan = decodeRecord s .plan; slots = decodeRecord s .slots })
 
-module _ (s : List ℕ) (set : Settings) (view : ℕ) (ready : Ready s) (isSet : set ≡ decodeRecord s .set) (isView : view ≡ decodeRecord s .view) where
-  -- It is the record that the bytes spell.
-  seenIs : seen s set view ≡ decodeRecord s
-  unfolding decodeRecord
-  seenIs = λ i. record { set = isSet i; view = isView i; plan = decodeRecord s .plan; slots = decodeRecord s .slots }
-
-  -- So it has its contents, which the contracts of the steps name.
-  pub contentsSeen : contents (seen s set view) ≡ contentsIn s
-  contentsSeen = ap contents seenIs
-
-  -- Its settings are in range, so n and f are bounded.
-  pub seat : Allowed set
-  seat = subst Allowed (sym isSet) (readyAllowed ready)
-
-  -- Its slots can be read in the two parts, and it is sound: what the laws of the steps ask for.
-  pub reads : Reads s (seen s set view)
-  reads = record {
-    allows = seat;
-    sound = subst Sound (sym contentsSeen) (ready .sound);
-    shared = λ i low. sharedSlot s i low;
-    block = λ i least low. blockSlot s i least low;
-  }
+-- Ready bytes are lent so: the slots can be read in the two parts, and the record is sound.
+pub lent : (s : List ℕ) (set : Settings) (view : ℕ) → Ready s → set ≡ decodeRecord s .set → view ≡ decodeRecord s .view → Lent s set view
+unfolding decodeRecord
+lent s set view ready isSet isView = record {
+  allows = subst Allowed (sym isSet) (readyAllowed ready);
+  sound = subst Sound (sym same) (ready .sound);
+  shared = λ i low. sharedSlot s i low;
+  block = λ i least low. blockSlot s i least low;
+  sharedLength = sharedLength s ready;
+  blockLength = blockLength s ready;
+  spelt = same;
+}
+  where
+    same : contents (record { set = set; view = view; plan = decodeRecord s .plan; slots = decodeRecord s .slots }) ≡ contentsIn s
+    same = λ i. contents (record { set = isSet i; view = isView i; plan = decodeRecord s .plan; slots = decodeRecord s .slots })

@@ -3,7 +3,7 @@
 -- that are for every plan, tells how many are for a plan (`rowMore`).
 -- Assumes nothing.
 use Prim.Native.Nat.{ℕ, zero, suc, _+_, _-_, _*_, _≤_, _<_, max}
-use mathlib.Core.Path.{_≡_, refl, sym, _∙_, ap}
+use mathlib.Core.Path.{_≡_, refl, sym, _∙_, ap, subst₂}
 use mathlib.Core.Bool.{Bool, true, false, cond}
 use mathlib.Core.Logic.{_≢_}
 use mathlib.Core.List.{List}
@@ -11,7 +11,7 @@ use mathlib.Core.Option.{none, some}
 use native.Mathlib.Omega.{arith}
 use native.Mathlib.Decide.{ℕ-discrete, decLt}
 use lib.Dec.{leb, ltb, eqb}
-use lib.ListN.{length, getD, set}
+use lib.ListN.{length, length-set, getD, set}
 use lib.Seq.{getD-set-same, getD-set-other}
 use borrow.Author.Tests.{leb-true, leb-false, le-leb, lt-leb, lt-ltb, le-ltb, eq-eqb, ne-eqb, eqb-true}
 use Rattle.quorum.specs.Sets.{weigh}
@@ -19,7 +19,8 @@ use Rattle.quorum.proofs.Laws.{weighNone, weighMore, weighSame, outside}
 use Rattle.rules.specs.Rules.{Report, Reports, viewOf, viewFor, reach, claims, reporting}
 use Rattle.claims.specs.declared.Search.{Search}
 use Rattle.claims.specs.declared.Tally.{Tally}
-use Rattle.claims.specs.inside.Rows.{countOf, forPlan, Fits, Stance, forAll, forOne, forNone, Tells, SameBelow, tallyAt, placeAt, claimedIn, endOf, servingView}
+use Rattle.claims.specs.inside.Rows.{rowsSize, countOf, forPlan, Fits, Stance, forAll, forOne, forNone, Tells, SameBelow}
+use Rattle.claims.specs.inside.Rows.{tallyAt, placeAt, claimedIn, endOf, servingView}
 use Rattle.claims.specs.Table.{column, voteOf, reporter, reportsIn}
 
 -- ---- votes of the table
@@ -162,7 +163,7 @@ module _ (plans : List ℕ) (at k x : ℕ) (low : at + k < length plans) where
     weighed p j = weigh (λ i. 1) (reporting rs (test p)) j
 
     -- A row that tells of the first i reports tells of one more, whether that one is for every plan, for one or for none.
-    pub rowMore : Stance (λ p. reporting rs (test p) i) x every some → Tells rs i test plans at (record { every = all; some = k }) → Grown
+    rowMore : Stance (λ p. reporting rs (test p) i) x every some → Tells rs i test plans at (record { every = all; some = k }) → Grown
     rowMore (forAll e s pass) row = record { most = omega (arith, row .most); tells = λ p. tell p }
       where
         tell : (p : ℕ) → all + every + countOf after at (k + some) p ≡ weighed p (i + 1)
@@ -185,22 +186,55 @@ module _ (plans : List ℕ) (at k x : ℕ) (low : at + k < length plans) where
             let same : k + some ≡ k = omega arith in
             rw (same, kept p, grown, pass p) (omega (arith, row .tells p))
 
+-- ---- a row, written report by report
+
+-- The row at a place tells of the first r of n reports, and what lies below it is as it was at first.
+pub record Counted (rs : Reports) (test : ℕ → ℕ → Report → Bool) (view n at : ℕ) (first plans : List ℕ) (every some r : ℕ) : Type 0 where
+  pub within : r ≤ n
+  pub size : length plans ≡ rowsSize
+  pub same : SameBelow first plans at
+  pub row : Tells rs r (λ p. test p view) plans at (record { every = every; some = some })
+
 -- An empty row tells of no report.
-pub rowNone : (rs : Reports) (test : ℕ → Report → Bool) (plans : List ℕ) (at : ℕ) → Tells rs 0 test plans at (record { every = 0; some = 0 })
-rowNone rs test plans at = record { most = omega arith; tells = λ p. tell p }
+pub countedNone : (rs : Reports) (test : ℕ → ℕ → Report → Bool) (view n at : ℕ) (first : List ℕ) → length first ≡ rowsSize
+    → Counted rs test view n at first first 0 0 0
+countedNone rs test view n at first size = record {
+  within = omega arith;
+  size = size;
+  same = λ i low. refl;
+  row = record { most = omega arith; tells = λ p. tell p };
+}
   where
-    tell : (p : ℕ) → 0 + countOf plans at 0 p ≡ weigh (λ i. 1) (reporting rs (test p)) 0
-    tell p = rw (countNone plans at p, weighNone (λ i. 1) (reporting rs (test p)))
+    tell : (p : ℕ) → 0 + countOf first at 0 p ≡ weigh (λ i. 1) (reporting rs (test p view)) 0
+    tell p = rw (countNone first at p, weighNone (λ i. 1) (reporting rs (test p view)))
 
--- A report counts once at most.
-pub shareFits : (test : ℕ → Bool) (x every one : ℕ) → Stance test x every one → every + one ≤ 1
-shareFits test x every one (forAll e s pass) = omega arith
-shareFits test x every one (forOne e s pass) = omega arith
-shareFits test x every one (forNone e s pass) = omega arith
+module _ {rs : Reports} {test : ℕ → ℕ → Report → Bool} {view n at : ℕ} {first plans : List ℕ} {every some r : ℕ}
+    (c : Counted rs test view n at first plans every some r) where
+  module _ (x all one : ℕ) (share : Stance (λ p. reporting rs (test p view) r) x all one) where
+    -- A report counts once at most.
+    pub countedFits : every + all + (some + one) ≤ r + 1
+    countedFits = go share
+      where
+        go : Stance (λ p. reporting rs (test p view) r) x all one → every + all + (some + one) ≤ r + 1
+        go (forAll e s pass) = omega (arith, c .row .most)
+        go (forOne e s pass) = omega (arith, c .row .most)
+        go (forNone e s pass) = omega (arith, c .row .most)
 
--- What is written at a place leaves what lies below it.
-pub writtenAbove : (first plans : List ℕ) (at k x : ℕ) → at ≤ k → SameBelow first plans at → SameBelow first (set plans k x) at
-writtenAbove first plans at k x high same i low = getD-set-other plans k i x 0 (λ (e : i ≡ k). omega arith) ∙ same i low
+    -- The report's plan is written behind the row: what lies below it stays.
+    pub countedMore : r < n → at + some < length plans → Counted rs test view n at first (set plans (at + some) x) (every + all) (some + one) (r + 1)
+    countedMore more low = record {
+      within = omega arith;
+      size = simp length-set (c .size);
+      same = λ i below. getD-set-other plans (at + some) i x 0 (λ (e : i ≡ at + some). omega arith) ∙ c .same i below;
+      row = rowMore plans at some x low rs (λ p. test p view) r every all one share (c .row);
+    }
+
+  -- All n reports are counted, at the view that was asked for.
+  pub countedAll : (u : ℕ) → view ≡ u → n ≤ r
+      → (length plans ≡ rowsSize) × SameBelow first plans at × Tells rs n (λ p. test p u) plans at (record { every = every; some = some })
+  countedAll u same over =
+      let all : r ≡ n = omega (arith, c .within) in
+      (c .size, c .same, subst₂ (λ (k v : ℕ). Tells rs k (λ p. test p v) plans at (record { every = every; some = some })) all same (c .row))
 
 -- A row stays where what lies behind it is written.
 pub rowKept : (rs : Reports) (n : ℕ) (test : ℕ → Report → Bool) (before after : List ℕ) (at end : ℕ) (t : Tally) → SameBelow before after end

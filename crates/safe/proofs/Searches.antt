@@ -341,8 +341,8 @@ module _ (rs : Reports) (c : Search) (plans : List ℕ) (ready : Prepared rs c p
         go (inl allow) = inl (bothJoin (allowedIn plans c p) _ allow (bySafe true p allow ∙ h))
         go (inr off) = inr (bySafe false p off ∙ h)
 
-    -- A plan that does not pass is not safe.
-    pub unsafePasses : (locked : Bool) (p : ℕ) → safeIn plans c p ≡ false → passesIn plans c locked p ≡ false
+    -- A plan that is not safe does not pass.
+    unsafePasses : (locked : Bool) (p : ℕ) → safeIn plans c p ≡ false → passesIn plans c locked p ≡ false
     unsafePasses locked p never = notTrue _ (λ h. clash (safeSame p ∙ passesSafe locked p h) never)
 
     -- A lock's plan that passes stands in the row of locks: some plan is not allowed, so those without a lock at u are too few.
@@ -562,21 +562,36 @@ module _ (vs : Vaults) (rs : Reports) (v : ℕ) where
       unsafe : (x : ℕ) → ¬ Safe rule1 vs rs v x
       unsafe x s = clash (safeIff vs rs rule1 v x .0 s) (never x)
 
--- The search's numbers are those of the call.
-module _ (rs : Reports) (c : Search) (plans : List ℕ) (ready : Prepared rs c plans) (n f u v : ℕ)
-    (en : c .n ≡ n) (ef : c .f ≡ f) (eu : c .u ≡ u) (ev : c .v ≡ v) (l : Lowest (equals n f) rs v u) where
-  -- The lowest view of the call is the search's.
-  pub lowestIn : Lowest (equals (c .n) (c .f)) rs (c .v) (c .u)
-  lowestIn = rw (en, ef, eu, ev) l
+-- The rows are prepared for a call, whose numbers the search has.
+pub record Begun (rs : Reports) (n f v : ℕ) (c : Search) (plans : List ℕ) : Type 0 where
+  pub ready : Prepared rs c plans
+  pub isN : c .n ≡ n
+  pub isF : c .f ≡ f
+  pub isV : c .v ≡ v
+  pub lowest : Lowest (equals (c .n) (c .f)) rs (c .v) (c .u)
 
+-- They are, once the lowest view u is found below v and no quorum is without a lock.
+pub begins : (rs : Reports) (n f v u : ℕ) (c : Search) (plans : List ℕ) (unlocked : Bool) → unlocked ≡ free (equals n f) rs → unlocked ≡ false
+    → u ≡ lowestView (equals n f) rs v → u < v
+    → Prepared rs c plans × (c .n ≡ n) × (c .f ≡ f) × (c .u ≡ u) × (c .v ≡ v) → Begun rs n f v c plans
+begins rs n f v u c plans unlocked e locked is below (ready, en, ef, eu, ev) =
+    let l : Lowest (equals n f) rs v u = record { locked = sym e ∙ locked; below = below; is = is } in
+    record { ready = ready; isN = en; isF = ef; isV = ev; lowest = rw (en, ef, eu, ev) l }
+
+module _ {rs : Reports} {n f v : ℕ} {c : Search} {plans : List ℕ} (b : Begun rs n f v c plans) where
   -- The search's answer by Rule 1 is the call's.
-  pub oneSame : (p : ℕ) (b : Bool) → b ≡ safeIn plans c p → b ≡ safe rule1 (equals n f) rs v p
-  oneSame p b is = is ∙ safeSame rs c plans ready lowestIn p ∙ rw (en, ef, ev)
+  pub oneSame : (p : ℕ) (r : Bool) → r ≡ safeIn plans c p → r ≡ safe rule1 (equals n f) rs v p
+  oneSame p r is = is ∙ safeSame rs c plans (b .ready) (b .lowest) p ∙ rw (b .isN, b .isF, b .isV)
 
   -- The search's answer by Rule 3 is the call's.
-  pub threeSame : (p : ℕ) (b : Bool) → b ≡ safe rule3 (equals (c .n) (c .f)) rs (c .v) p → b ≡ safe rule3 (equals n f) rs v p
-  threeSame p b is = is ∙ rw (en, ef, ev)
+  pub threeSame : (p : ℕ) (r : Bool) → r ≡ safe rule3 (equals (c .n) (c .f)) rs (c .v) p → r ≡ safe rule3 (equals n f) rs v p
+  threeSame p r is = is ∙ rw (b .isN, b .isF, b .isV)
 
-  -- The plan that the search finds, where the starting plan is not safe, is the call's choice.
-  pub choiceSame : (start : ℕ) (o : Option ℕ) → safeIn plans c start ≡ false → o ≡ smallestOf plans c → o ≡ choice (equals n f) rs v start
-  choiceSame start o never is = is ∙ choiceOther rs c plans ready lowestIn start never ∙ rw (en, ef, ev)
+  module _ (start : ℕ) (never : safeIn plans c start ≡ false) where
+    -- Where the starting plan is not safe it does not pass.
+    pub startFails : (locked : Bool) → passesIn plans c locked start ≡ false
+    startFails locked = unsafePasses rs c plans (b .ready) (b .lowest) locked start never
+
+    -- The plan that the search finds then is the call's choice.
+    pub choiceSame : (o : Option ℕ) → o ≡ smallestOf plans c → o ≡ choice (equals n f) rs v start
+    choiceSame o is = is ∙ choiceOther rs c plans (b .ready) (b .lowest) start never ∙ rw (b .isN, b .isF, b .isV)

@@ -2,12 +2,16 @@
 -- Assumes nothing.
 use mathlib.Core.Path.{_∙_, ap}
 use Rattle.protocol.specs.Pass.{actB}
-use Rattle.acts.proofs.Parts.{sharedLength, seen, seat, contentsSeen, reads}
+use Rattle.acts.proofs.Parts.{Lent, lent}
 use Rattle.acts.proofs.Asked.{enters, stays}
 use borrow.Author.Needs.{needs}
 use native.Mathlib.Omega.{arith}
 use Rattle.acts.proofs.act_b.Statement.{statement}
 use Rattle.acts.proofs.act_b.Tie as tie
+
+-- The record that the step is lent.
+here : (e : tie.Start) → Lent (e .args .rec .now) (e .args .set) (e .args .view)
+here e = lent (e .args .rec .now) (e .args .set) (e .args .view) (e .pre .0) (e .pre .1) (e .pre .2)
 
 cast-n : tie.Need-cast-n
 cast-n c = search needs
@@ -26,39 +30,29 @@ cast-highest-change c = search needs
 
 sub-highest-change-2 : tie.Need-sub-highest-change-2
 sub-highest-change-2 c =
-    let e = c .before .before .before .before in
-    let set = seat (e .args .rec .now) (e .args .set) (e .args .view) (e .pre .0) (e .pre .1) (e .pre .2) in
-    let size = sharedLength (e .args .rec .now) (e .pre .0) in
+    let r = here (c .before .before .before .before) in
+    let set = r .allows in
+    let size = r .sharedLength in
     omega arith
 
 highest-change-requires : tie.Need-highest-change-requires
 highest-change-requires c κs =
-    let e = c .before .before .before .before in
-    let set = seat (e .args .rec .now) (e .args .set) (e .args .view) (e .pre .0) (e .pre .1) (e .pre .2) in
-    let size = sharedLength (e .args .rec .now) (e .pre .0) in
+    let r = here (c .before .before .before .before) in
+    let set = r .allows in
+    let size = r .sharedLength in
     (size, set .most, omega arith, omega arith)
 
 returns : tie.Need-returns
 returns c =
-    let e = c .before .before .before .before .before .before in
-    let a = e .args in
-    let s = a .rec .now in
-    let r = seen s (a .set) (a .view) in
-    let here = reads s (a .set) (a .view) (e .pre .0) (e .pre .1) (e .pre .2) in
-    let is = contentsSeen s (a .set) (a .view) (e .pre .0) (e .pre .1) (e .pre .2) in
+    let r = here (c .before .before .before .before .before .before) in
     let top = c .before .highest-change in
-    enters s r here (top .result) (top .ensures) (c .if1 .taken) ∙ ap actB is
+    enters _ _ r (top .result) (top .ensures) (c .if1 .taken) ∙ ap actB (r .spelt)
 
 returns-2 : tie.Need-returns-2
 returns-2 c =
-    let e = c .before .before .before .before .before .before in
-    let a = e .args in
-    let s = a .rec .now in
-    let r = seen s (a .set) (a .view) in
-    let here = reads s (a .set) (a .view) (e .pre .0) (e .pre .1) (e .pre .2) in
-    let is = contentsSeen s (a .set) (a .view) (e .pre .0) (e .pre .1) (e .pre .2) in
+    let r = here (c .before .before .before .before .before .before) in
     let top = c .before .highest-change in
-    stays s r here (top .result) (top .ensures) (c .if1 .left) ∙ ap actB is
+    stays _ _ r (top .result) (top .ensures) (c .if1 .left) ∙ ap actB (r .spelt)
 
 pub act-b-spec : {M : Type 1} → statement M
 act-b-spec =

@@ -1,16 +1,22 @@
 -- `acts::act_d` meets its contract: vote-1 was not sent, the leader's proposal is kept, and the search says whether it is safe.
 -- Assumes nothing.
-use mathlib.Core.Path.{sym, _∙_, ap}
-use mathlib.Core.Bool.{true, false}
-use Rattle.protocol.specs.Record.{Record}
-use Rattle.protocol.specs.Pass.{actD}
+use mathlib.Core.Path.{_≡_, sym, _∙_, ap}
+use mathlib.Core.Bool.{Bool, true, false}
+use mathlib.Core.Option.{some}
+use Rattle.protocol.specs.Record.{Record, when}
+use Rattle.protocol.specs.Pass.{cast, actD}
+use Rattle.contents.specs.Contents.{contentsIn}
 use Rattle.acts.specs.inside.Reports.{approvedBy}
-use Rattle.acts.proofs.Parts.{blockLength, seen, seat, contentsSeen, reads}
+use Rattle.acts.proofs.Parts.{Lent, lent}
 use Rattle.acts.proofs.Proposals.{votedOnce, unproposed, votesOne}
 use borrow.Author.Needs.{needs}
 use native.Mathlib.Omega.{arith}
 use Rattle.acts.proofs.act_d.Statement.{statement}
 use Rattle.acts.proofs.act_d.Tie as tie
+
+-- The record that the step is lent.
+here : (e : tie.Start) → Lent (e .args .rec .now) (e .args .set) (e .args .view)
+here e = lent (e .args .rec .now) (e .args .set) (e .args .view) (e .pre .0) (e .pre .1) (e .pre .2)
 
 sub-block : tie.Need-sub-block
 sub-block c = search needs
@@ -23,103 +29,76 @@ part-block-end c = search needs
 
 sent-requires : tie.Need-sent-requires
 sent-requires c κs =
-    let e = c .before .before in
-    let set = seat (e .args .rec .now) (e .args .set) (e .args .view) (e .pre .0) (e .pre .1) (e .pre .2) in
-    let size = blockLength (e .args .rec .now) (e .pre .0) in
+    let r = here (c .before .before) in
+    let set = r .allows in
+    let size = r .blockLength in
     (size, omega arith, omega (arith, set .most, set .own))
 
 returns : tie.Need-returns
 returns c =
     let told = c .before in
-    let e = told .before .before .before in
-    let a = e .args in
-    let s = a .rec .now in
-    let r = seen s (a .set) (a .view) in
-    let here = reads s (a .set) (a .view) (e .pre .0) (e .pre .1) (e .pre .2) in
-    let is = contentsSeen s (a .set) (a .view) (e .pre .0) (e .pre .1) (e .pre .2) in
-    votedOnce s r here (told .sent .result) (told .sent .ensures) (c .if1 .taken) ∙ ap actD is
+    let r = here (told .before .before .before) in
+    votedOnce _ _ r _ (told .sent .ensures) (c .if1 .taken) ∙ ap actD (r .spelt)
 
 cast-leader : tie.Need-cast-leader
 cast-leader c = search needs
 
 leader-requires : tie.Need-leader-requires
 leader-requires c κs =
-    let e = c .before .before .before .before .before in
-    let set = seat (e .args .rec .now) (e .args .set) (e .args .view) (e .pre .0) (e .pre .1) (e .pre .2) in
+    let set = here (c .before .before .before .before .before) .allows in
     omega (arith, set .least)
 
 cast-vote-place : tie.Need-cast-vote-place
 cast-vote-place c =
-    let e = c .before .before .before .before .before .before in
-    let set = seat (e .args .rec .now) (e .args .set) (e .args .view) (e .pre .0) (e .pre .1) (e .pre .2) in
+    let set = here (c .before .before .before .before .before .before) .allows in
     omega (arith, set .most, c .leader .ensures .1)
 
 vote-place-requires : tie.Need-vote-place-requires
 vote-place-requires c κs =
-    let e = c .before .before .before .before .before .before in
-    let set = seat (e .args .rec .now) (e .args .set) (e .args .view) (e .pre .0) (e .pre .1) (e .pre .2) in
+    let set = here (c .before .before .before .before .before .before) .allows in
     (omega arith, omega (arith, set .most, c .leader .ensures .1))
 
 is-of-view-requires : tie.Need-is-of-view-requires
 is-of-view-requires c κs =
-    let e = c .before .before .before .before .before .before .before in
-    let set = seat (e .args .rec .now) (e .args .set) (e .args .view) (e .pre .0) (e .pre .1) (e .pre .2) in
-    let size = blockLength (e .args .rec .now) (e .pre .0) in
+    let r = here (c .before .before .before .before .before .before .before) in
+    let set = r .allows in
+    let size = r .blockLength in
     omega (arith, size, set .most, c .before .leader .ensures .1, c .vote-place .ensures .1)
 
 plan-at-requires : tie.Need-plan-at-requires
 plan-at-requires c κs =
-    let midway = c .before .before .before .before .before .before .before .before in
-    let atPlace = midway .before in
-    let e = atPlace in
-    let set = seat (e .args .rec .now) (e .args .set) (e .args .view) (e .pre .0) (e .pre .1) (e .pre .2) in
-    let size = blockLength (e .args .rec .now) (e .pre .0) in
+    let r = here (c .before .before .before .before .before .before .before .before .before) in
+    let set = r .allows in
+    let size = r .blockLength in
     omega (arith, size, set .most, c .before .before .before .leader .ensures .1, c .before .before .vote-place .ensures .1)
 
 approved-requires : tie.Need-approved-requires
 approved-requires c κs = search needs
 
-returns-2 : tie.Need-returns-2
-returns-2 c =
-    let test = c .before in
-    let plan = test .before in
+-- Where it was asked whether vote-1 was sent.
+abbrev asked : tie.After-approved → tie.After-sent
+asked c = c .before .before .before .before .before .before .before .before
+
+-- The search has told whether the proposal is safe.
+told : (c : tie.After-approved) (b : Bool) → c .approved .result ≡ b
+    → when b (some (cast 1 (c .before .plan-at .result))) ≡ actD (contentsIn (asked c .before .before .before .args .rec .now))
+told c b is =
+    let plan = c .before in
     let kept = plan .before in
     let there = kept .before in
     let at = there .before in
     let l = at .before in
-    let unsent = l .before .before in
-    let told = unsent .before in
-    let e = told .before .before .before in
-    let a = e .args in
-    let s = a .rec .now in
-    let r = seen s (a .set) (a .view) in
-    let here = reads s (a .set) (a .view) (e .pre .0) (e .pre .1) (e .pre .2) in
-    let is = contentsSeen s (a .set) (a .view) (e .pre .0) (e .pre .1) (e .pre .2) in
-    let safe = sym (c .if3 .taken) ∙ test .approved .ensures ∙ ap (λ (x : Record). approvedBy x (plan .plan-at .result)) (sym is) in
-    votesOne s r here (told .sent .result) (told .sent .ensures) (l .leader .result) (at .vote-place .result) (l .leader .ensures .0) (l .leader .ensures .1)
-    (at .vote-place .ensures .0) (there .is-of-view .result) (there .is-of-view .ensures) (unsent .if1 .left) (kept .if2 .taken)
-    (plan .plan-at .result) true (plan .plan-at .ensures) safe ∙ ap actD is
+    let sent = asked c in
+    let r = here (sent .before .before .before) in
+    let safe = sym is ∙ c .approved .ensures ∙ ap (λ (x : Record). approvedBy x (plan .plan-at .result)) (sym (r .spelt)) in
+    votesOne _ _ r _ (sent .sent .ensures) _ _ (l .leader .ensures .0) (l .leader .ensures .1) (at .vote-place .ensures .0) _ (there .is-of-view .ensures)
+    (l .before .before .if1 .left) (kept .if2 .taken) _ b (plan .plan-at .ensures) safe ∙ ap actD (r .spelt)
+
+returns-2 : tie.Need-returns-2
+returns-2 c = told (c .before) true (c .if3 .taken)
 
 returns-3 : tie.Need-returns-3
-returns-3 c =
-    let test = c .before in
-    let plan = test .before in
-    let kept = plan .before in
-    let there = kept .before in
-    let at = there .before in
-    let l = at .before in
-    let unsent = l .before .before in
-    let told = unsent .before in
-    let e = told .before .before .before in
-    let a = e .args in
-    let s = a .rec .now in
-    let r = seen s (a .set) (a .view) in
-    let here = reads s (a .set) (a .view) (e .pre .0) (e .pre .1) (e .pre .2) in
-    let is = contentsSeen s (a .set) (a .view) (e .pre .0) (e .pre .1) (e .pre .2) in
-    let safe = sym (c .if3 .left) ∙ test .approved .ensures ∙ ap (λ (x : Record). approvedBy x (plan .plan-at .result)) (sym is) in
-    votesOne s r here (told .sent .result) (told .sent .ensures) (l .leader .result) (at .vote-place .result) (l .leader .ensures .0) (l .leader .ensures .1)
-    (at .vote-place .ensures .0) (there .is-of-view .result) (there .is-of-view .ensures) (unsent .if1 .left) (kept .if2 .taken)
-    (plan .plan-at .result) false (plan .plan-at .ensures) safe ∙ ap actD is
+returns-3 c = told (c .before) false (c .if3 .left)
 
 returns-4 : tie.Need-returns-4
 returns-4 c =
@@ -127,14 +106,9 @@ returns-4 c =
     let at = there .before in
     let l = at .before in
     let told = l .before .before .before in
-    let e = told .before .before .before in
-    let a = e .args in
-    let s = a .rec .now in
-    let r = seen s (a .set) (a .view) in
-    let here = reads s (a .set) (a .view) (e .pre .0) (e .pre .1) (e .pre .2) in
-    let is = contentsSeen s (a .set) (a .view) (e .pre .0) (e .pre .1) (e .pre .2) in
-    unproposed s r here (told .sent .result) (told .sent .ensures) (l .leader .result) (at .vote-place .result) (l .leader .ensures .0) (l .leader .ensures .1)
-    (at .vote-place .ensures .0) (there .is-of-view .result) (there .is-of-view .ensures) (c .if2 .left) ∙ ap actD is
+    let r = here (told .before .before .before) in
+    unproposed _ _ r _ (told .sent .ensures) _ _ (l .leader .ensures .0) (l .leader .ensures .1) (at .vote-place .ensures .0) _ (there .is-of-view .ensures)
+    (c .if2 .left) ∙ ap actD (r .spelt)
 
 pub act-d-spec : {M : Type 1} → statement M
 act-d-spec =

@@ -1,15 +1,22 @@
 -- `acts::act_h` meets its contract: something was decided, or the plan that a quorum is for is decided.
 -- Assumes nothing.
-use mathlib.Core.Path.{sym, _∙_, ap}
-use mathlib.Core.Option.{none, some}
+use Prim.Native.Nat.{ℕ}
+use mathlib.Core.Path.{_≡_, sym, _∙_, ap}
+use mathlib.Core.Option.{Option, none, some}
 use Rattle.safe.specs.Choices.{chosen}
-use Rattle.protocol.specs.Pass.{actH}
-use Rattle.acts.proofs.Parts.{blockLength, seen, seat, contentsSeen, reads}
+use Rattle.protocol.specs.Record.{each}
+use Rattle.protocol.specs.Pass.{decide, actH}
+use Rattle.contents.specs.Contents.{contentsIn}
+use Rattle.acts.proofs.Parts.{Lent, lent}
 use Rattle.acts.proofs.Agreed.{decidedAlready, decides}
 use borrow.Author.Needs.{needs}
 use native.Mathlib.Omega.{arith}
 use Rattle.acts.proofs.act_h.Statement.{statement}
 use Rattle.acts.proofs.act_h.Tie as tie
+
+-- The record that the step is lent.
+here : (e : tie.Start) → Lent (e .args .rec .now) (e .args .set) (e .args .view)
+here e = lent (e .args .rec .now) (e .args .set) (e .args .view) (e .pre .0) (e .pre .1) (e .pre .2)
 
 sub-block : tie.Need-sub-block
 sub-block c = search needs
@@ -21,29 +28,23 @@ part-block-end : tie.Need-part-block-end
 part-block-end c = search needs
 
 shared-slice-read-if1 : tie.Need-shared-slice-read-if1
-shared-slice-read-if1 c = let e = c .before .before .before in omega (arith, blockLength (e .args .rec .now) (e .pre .0))
+shared-slice-read-if1 c = omega (arith, here (c .before .before .before) .blockLength)
 
 returns : tie.Need-returns
 returns c =
-    let e = c .before .before .before .before in
-    let a = e .args in
-    let s = a .rec .now in
-    let r = seen s (a .set) (a .view) in
-    let here = reads s (a .set) (a .view) (e .pre .0) (e .pre .1) (e .pre .2) in
-    let is = contentsSeen s (a .set) (a .view) (e .pre .0) (e .pre .1) (e .pre .2) in
-    decidedAlready s r here (c .if1 .taken) ∙ ap actH is
+    let r = here (c .before .before .before .before) in
+    decidedAlready _ _ r (c .if1 .taken) ∙ ap actH (r .spelt)
 
 vote-place-requires : tie.Need-vote-place-requires
 vote-place-requires c κs =
-    let e = c .before .before .before .before in
-    let set = seat (e .args .rec .now) (e .args .set) (e .args .view) (e .pre .0) (e .pre .1) (e .pre .2) in
+    let set = here (c .before .before .before .before) .allows in
     (omega arith, omega (arith, set .most, set .own))
 
 agreed-plan-requires : tie.Need-agreed-plan-requires
 agreed-plan-requires c κs =
-    let e = c .before .before .before .before .before in
-    let set = seat (e .args .rec .now) (e .args .set) (e .args .view) (e .pre .0) (e .pre .1) (e .pre .2) in
-    let size = blockLength (e .args .rec .now) (e .pre .0) in
+    let r = here (c .before .before .before .before .before) in
+    let set = r .allows in
+    let size = r .blockLength in
     (omega (arith, set .most, set .own, size, c .vote-place .ensures .1), omega (arith, set .most), omega (arith, set .third))
 
 enum-known-p : tie.Need-enum-known-p
@@ -52,35 +53,20 @@ enum-known-p c = search needs
 enum-told : tie.Need-enum-told
 enum-told c = search needs
 
-returns-2 : tie.Need-returns-2
-returns-2 c =
-    let plan = c .before .before .before in
-    let from = plan .before in
+-- The count has told which plan a quorum is for.
+told : (c : tie.After-agreed-plan) (o : Option ℕ) → chosen (c .agreed-plan .result) ≡ o
+    → each o (λ p. some (decide p)) ≡ actH (contentsIn (c .before .before .before .before .before .before .args .rec .now))
+told c o is =
+    let from = c .before in
     let undecided = from .before in
-    let e = undecided .before .before .before .before in
-    let a = e .args in
-    let s = a .rec .now in
-    let r = seen s (a .set) (a .view) in
-    let here = reads s (a .set) (a .view) (e .pre .0) (e .pre .1) (e .pre .2) in
-    let is = contentsSeen s (a .set) (a .view) (e .pre .0) (e .pre .1) (e .pre .2) in
-    let agreed = sym (ap chosen (c .before .p .given .1)) ∙ plan .agreed-plan .ensures in
-    decides s r here (undecided .if1 .left) (from .vote-place .result) (from .vote-place .ensures .0)
-    (some (c .before .p .given .0 .0)) agreed ∙ ap actH is
+    let r = here (undecided .before .before .before .before) in
+    decides _ _ r (undecided .if1 .left) _ (from .vote-place .ensures .0) o (sym is ∙ c .agreed-plan .ensures) ∙ ap actH (r .spelt)
+
+returns-2 : tie.Need-returns-2
+returns-2 c = told (c .before .before .before) (some (c .before .p .given .0 .0)) (ap chosen (c .before .p .given .1))
 
 returns-3 : tie.Need-returns-3
-returns-3 c =
-    let plan = c .before .before in
-    let from = plan .before in
-    let undecided = from .before in
-    let e = undecided .before .before .before .before in
-    let a = e .args in
-    let s = a .rec .now in
-    let r = seen s (a .set) (a .view) in
-    let here = reads s (a .set) (a .view) (e .pre .0) (e .pre .1) (e .pre .2) in
-    let is = contentsSeen s (a .set) (a .view) (e .pre .0) (e .pre .1) (e .pre .2) in
-    let agreed = sym (ap chosen (c .enum-told .given .1)) ∙ plan .agreed-plan .ensures in
-    decides s r here (undecided .if1 .left) (from .vote-place .result) (from .vote-place .ensures .0)
-    none agreed ∙ ap actH is
+returns-3 c = told (c .before .before) none (ap chosen (c .enum-told .given .1))
 
 pub act-h-spec : {M : Type 1} → statement M
 act-h-spec =

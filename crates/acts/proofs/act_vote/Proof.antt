@@ -1,16 +1,22 @@
 -- `acts::act_vote` meets its contract: the vote was sent, or the plan that a quorum is for is voted for.
 -- Assumes nothing.
-use mathlib.Core.Path.{sym, _∙_, ap}
-use mathlib.Core.Option.{none, some}
+use Prim.Native.Nat.{ℕ, _+_}
+use mathlib.Core.Path.{_≡_, sym, _∙_, ap}
+use mathlib.Core.Option.{Option, none, some}
 use Rattle.safe.specs.Choices.{chosen}
-use Rattle.protocol.specs.Pass.{actVote}
-use Rattle.protocol.specs.Record.{Record}
-use Rattle.acts.proofs.Parts.{blockLength, seen, seat, contentsSeen, reads}
+use Rattle.protocol.specs.Record.{Record, each}
+use Rattle.protocol.specs.Pass.{cast, actVote}
+use Rattle.contents.specs.Contents.{contentsIn}
+use Rattle.acts.proofs.Parts.{Lent, lent}
 use Rattle.acts.proofs.Agreed.{voteSent, voteActs}
 use borrow.Author.Needs.{needs}
 use native.Mathlib.Omega.{arith}
 use Rattle.acts.proofs.act_vote.Statement.{statement}
 use Rattle.acts.proofs.act_vote.Tie as tie
+
+-- The record that the step is lent.
+here : (e : tie.Start) → Lent (e .args .rec .now) (e .args .set) (e .args .view)
+here e = lent (e .args .rec .now) (e .args .set) (e .args .view) (e .pre .0) (e .pre .1) (e .pre .2)
 
 sub-block : tie.Need-sub-block
 sub-block c = search needs
@@ -26,30 +32,26 @@ add-sent c = search needs
 
 sent-requires : tie.Need-sent-requires
 sent-requires c κs =
-    let e = c .before .before in
-    let set = seat (e .args .rec .now) (e .args .set) (e .args .view) (e .pre .0) (e .pre .1) (e .pre .2) in
-    let size = blockLength (e .args .rec .now) (e .pre .0) in
+    let r = here (c .before .before) in
+    let set = r .allows in
+    let size = r .blockLength in
     (size, omega arith, omega (arith, set .most, set .own))
 
 returns : tie.Need-returns
 returns c =
     let told = c .before in
     let e = told .before .before .before in
-    let a = e .args in
-    let s = a .rec .now in
-    let r = seen s (a .set) (a .view) in
-    let here = reads s (a .set) (a .view) (e .pre .0) (e .pre .1) (e .pre .2) in
-    let is = contentsSeen s (a .set) (a .view) (e .pre .0) (e .pre .1) (e .pre .2) in
-    voteSent s r here (a .k) (e .pre .4) (told .sent .result) (told .sent .ensures) (c .if1 .taken) ∙ ap (λ (x : Record). actVote x (a .k)) is
+    let r = here e in
+    voteSent _ _ r (e .args .k) (e .pre .4) _ (told .sent .ensures) (c .if1 .taken) ∙ ap (λ (x : Record). actVote x (e .args .k)) (r .spelt)
 
 vote-place-requires : tie.Need-vote-place-requires
 vote-place-requires c κs = search needs
 
 agreed-plan-requires : tie.Need-agreed-plan-requires
 agreed-plan-requires c κs =
-    let e = c .before .before .before .before .before in
-    let set = seat (e .args .rec .now) (e .args .set) (e .args .view) (e .pre .0) (e .pre .1) (e .pre .2) in
-    let size = blockLength (e .args .rec .now) (e .pre .0) in
+    let r = here (c .before .before .before .before .before) in
+    let set = r .allows in
+    let size = r .blockLength in
     (omega (arith, set .most, size, c .vote-place .ensures .1), set .most, set .third)
 
 enum-known-p : tie.Need-enum-known-p
@@ -61,37 +63,26 @@ add-t14 c = search needs
 enum-told : tie.Need-enum-told
 enum-told c = search needs
 
-returns-2 : tie.Need-returns-2
-returns-2 c =
-    let plan = c .before .before .before in
-    let at = plan .before in
+abbrev entry : tie.After-agreed-plan → tie.Start
+entry c = c .before .before .before .before .before .before
+
+-- The count has told which plan a quorum is for.
+told : (c : tie.After-agreed-plan) (o : Option ℕ) → chosen (c .agreed-plan .result) ≡ o
+    → each o (λ p. some (cast (entry c .args .k + 1) p)) ≡ actVote (contentsIn (entry c .args .rec .now)) (entry c .args .k)
+told c o is =
+    let at = c .before in
     let unsent = at .before in
-    let told = unsent .before in
-    let e = told .before .before .before in
-    let a = e .args in
-    let s = a .rec .now in
-    let r = seen s (a .set) (a .view) in
-    let here = reads s (a .set) (a .view) (e .pre .0) (e .pre .1) (e .pre .2) in
-    let is = contentsSeen s (a .set) (a .view) (e .pre .0) (e .pre .1) (e .pre .2) in
-    let agreed = sym (ap chosen (c .before .p .given .1)) ∙ plan .agreed-plan .ensures in
-    voteActs s r here (a .k) (e .pre .4) (told .sent .result) (told .sent .ensures) (unsent .if1 .left) (at .vote-place .result) (at .vote-place .ensures .0)
-    (some (c .before .p .given .0 .0)) agreed ∙ ap (λ (x : Record). actVote x (a .k)) is
+    let sent = unsent .before in
+    let e = entry c in
+    let r = here e in
+    voteActs _ _ r (e .args .k) (e .pre .4) _ (sent .sent .ensures) (unsent .if1 .left) _ (at .vote-place .ensures .0) o (sym is ∙ c .agreed-plan .ensures)
+    ∙ ap (λ (x : Record). actVote x (e .args .k)) (r .spelt)
+
+returns-2 : tie.Need-returns-2
+returns-2 c = told (c .before .before .before) (some (c .before .p .given .0 .0)) (ap chosen (c .before .p .given .1))
 
 returns-3 : tie.Need-returns-3
-returns-3 c =
-    let plan = c .before .before in
-    let at = plan .before in
-    let unsent = at .before in
-    let told = unsent .before in
-    let e = told .before .before .before in
-    let a = e .args in
-    let s = a .rec .now in
-    let r = seen s (a .set) (a .view) in
-    let here = reads s (a .set) (a .view) (e .pre .0) (e .pre .1) (e .pre .2) in
-    let is = contentsSeen s (a .set) (a .view) (e .pre .0) (e .pre .1) (e .pre .2) in
-    let agreed = sym (ap chosen (c .enum-told .given .1)) ∙ plan .agreed-plan .ensures in
-    voteActs s r here (a .k) (e .pre .4) (told .sent .result) (told .sent .ensures) (unsent .if1 .left) (at .vote-place .result) (at .vote-place .ensures .0)
-    none agreed ∙ ap (λ (x : Record). actVote x (a .k)) is
+returns-3 c = told (c .before .before) none (ap chosen (c .enum-told .given .1))
 
 pub act-vote-spec : {M : Type 1} → statement M
 act-vote-spec =

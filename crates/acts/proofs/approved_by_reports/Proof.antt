@@ -6,13 +6,17 @@ use Rattle.rules.specs.inside.Counts.{safe}
 use Rattle.claims.specs.Table.{reportsIn}
 use Rattle.settings.specs.Vaults.{vaultsOf}
 use Rattle.protocol.specs.Record.{Record}
-use Rattle.acts.proofs.Parts.{blockLength, seen, seat, contentsSeen, reads}
+use Rattle.acts.proofs.Parts.{Lent, lent}
 use Rattle.acts.specs.inside.Reports.{approvedBy}
 use Rattle.acts.proofs.Proposals.{approvedIs}
 use borrow.Author.Needs.{needs}
 use native.Mathlib.Omega.{arith}
 use Rattle.acts.proofs.approved_by_reports.Statement.{statement}
 use Rattle.acts.proofs.approved_by_reports.Tie as tie
+
+-- The record that the step is lent.
+here : (e : tie.Start) → Lent (e .args .rec .now) (e .args .set) (e .args .view)
+here e = lent (e .args .rec .now) (e .args .set) (e .args .view) (e .pre .0) (e .pre .1) (e .pre .2)
 
 sub-gather : tie.Need-sub-gather
 sub-gather c = search needs
@@ -25,9 +29,9 @@ part-gather-end c = search needs
 
 gather-requires : tie.Need-gather-requires
 gather-requires c κs =
-    let e = c .before .before in
-    let set = seat (e .args .rec .now) (e .args .set) (e .args .view) (e .pre .0) (e .pre .1) (e .pre .2) in
-    let size = blockLength (e .args .rec .now) (e .pre .0) in
+    let r = here (c .before .before) in
+    let set = r .allows in
+    let size = r .blockLength in
     (size, set .most, omega arith, omega arith)
 
 slice-aggregate-safe-by : tie.Need-slice-aggregate-safe-by
@@ -36,8 +40,7 @@ slice-aggregate-safe-by c = search needs
 safe-by-requires : tie.Need-safe-by-requires
 safe-by-requires c κs =
     let table = c .before in
-    let e = table .before .before .before in
-    let set = seat (e .args .rec .now) (e .args .set) (e .args .view) (e .pre .0) (e .pre .1) (e .pre .2) in
+    let set = here (table .before .before .before) .allows in
     (table .gather .ensures .size, set .most, omega (arith, set .third))
 
 returns : tie.Need-returns
@@ -45,12 +48,9 @@ returns c =
     let table = c .before .before in
     let e = table .before .before .before in
     let a = e .args in
-    let s = a .rec .now in
-    let r = seen s (a .set) (a .view) in
-    let here = reads s (a .set) (a .view) (e .pre .0) (e .pre .1) (e .pre .2) in
-    let is = contentsSeen s (a .set) (a .view) (e .pre .0) (e .pre .1) (e .pre .2) in
+    let r = here e in
     let told : c .safe-by .result ≡ safe rule3 (vaultsOf (a .set)) (reportsIn (table .gather .result)) (a .view) (a .p) = c .safe-by .ensures in
-    told ∙ approvedIs s r here (table .gather .result) (a .p) (table .gather .ensures) ∙ ap (λ (x : Record). approvedBy x (a .p)) is
+    told ∙ approvedIs _ _ r (table .gather .result) (a .p) (table .gather .ensures) ∙ ap (λ (x : Record). approvedBy x (a .p)) (r .spelt)
 
 pub approved-by-reports-spec : {M : Type 1} → statement M
 approved-by-reports-spec =

@@ -2,20 +2,23 @@
 -- Assumes nothing.
 use mathlib.Core.Path.{_∙_, ap}
 use Rattle.protocol.specs.Pass.{mayPropose}
-use Rattle.acts.proofs.Parts.{blockLength, seen, seat, contentsSeen, reads}
+use Rattle.acts.proofs.Parts.{Lent, lent}
 use Rattle.acts.proofs.Proposals.{leadsNot, leadsOwn}
 use borrow.Author.Needs.{needs}
 use native.Mathlib.Omega.{arith}
 use Rattle.acts.proofs.may_propose.Statement.{statement}
 use Rattle.acts.proofs.may_propose.Tie as tie
 
+-- The record that the step is lent.
+here : (e : tie.Start) → Lent (e .args .rec .now) (e .args .set) (e .args .view)
+here e = lent (e .args .rec .now) (e .args .set) (e .args .view) (e .pre .0) (e .pre .1) (e .pre .2)
+
 cast-leader : tie.Need-cast-leader
 cast-leader c = search needs
 
 leader-requires : tie.Need-leader-requires
 leader-requires c κs =
-    let e = c .before .before in
-    let set = seat (e .args .rec .now) (e .args .set) (e .args .view) (e .pre .0) (e .pre .1) (e .pre .2) in
+    let set = here (c .before .before) .allows in
     omega (arith, set .least)
 
 cast-if1 : tie.Need-cast-if1
@@ -24,13 +27,8 @@ cast-if1 c = search needs
 returns : tie.Need-returns
 returns c =
     let l = c .before .before in
-    let e = l .before .before .before in
-    let a = e .args in
-    let s = a .rec .now in
-    let r = seen s (a .set) (a .view) in
-    let here = reads s (a .set) (a .view) (e .pre .0) (e .pre .1) (e .pre .2) in
-    let is = contentsSeen s (a .set) (a .view) (e .pre .0) (e .pre .1) (e .pre .2) in
-    leadsNot s r here (l .leader .result) (l .leader .ensures .0) (c .if1 .taken) ∙ ap mayPropose is
+    let r = here (l .before .before .before) in
+    leadsNot _ _ r (l .leader .result) (l .leader .ensures .0) (c .if1 .taken) ∙ ap mayPropose (r .spelt)
 
 sub-sent : tie.Need-sub-sent
 sub-sent c = search needs
@@ -43,22 +41,17 @@ part-sent-end c = search needs
 
 sent-requires : tie.Need-sent-requires
 sent-requires c κs =
-    let e = c .before .before .before .before .before .before in
-    let set = seat (e .args .rec .now) (e .args .set) (e .args .view) (e .pre .0) (e .pre .1) (e .pre .2) in
-    let size = blockLength (e .args .rec .now) (e .pre .0) in
+    let r = here (c .before .before .before .before .before .before) in
+    let set = r .allows in
+    let size = r .blockLength in
     (size, omega arith, omega (arith, set .most, set .own))
 
 returns-2 : tie.Need-returns-2
 returns-2 c =
     let led = c .before .before in
     let l = led .before .before in
-    let e = l .before .before .before in
-    let a = e .args in
-    let s = a .rec .now in
-    let r = seen s (a .set) (a .view) in
-    let here = reads s (a .set) (a .view) (e .pre .0) (e .pre .1) (e .pre .2) in
-    let is = contentsSeen s (a .set) (a .view) (e .pre .0) (e .pre .1) (e .pre .2) in
-    leadsOwn s r here (l .leader .result) (l .leader .ensures .0) (led .if1 .left) (c .sent .result) (c .sent .ensures) ∙ ap mayPropose is
+    let r = here (l .before .before .before) in
+    leadsOwn _ _ r (l .leader .result) (l .leader .ensures .0) (led .if1 .left) (c .sent .result) (c .sent .ensures) ∙ ap mayPropose (r .spelt)
 
 pub may-propose-spec : {M : Type 1} → statement M
 may-propose-spec =

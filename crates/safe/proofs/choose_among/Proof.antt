@@ -2,14 +2,12 @@
 -- Step C: the starting plan where it is safe, else the smallest safe plan (`choiceSame`); where no view can serve a plan there is none.
 -- Assumes nothing.
 use mathlib.Core.Bool.{true, false}
-use mathlib.Core.Path.{_≡_, sym, _∙_}
+use mathlib.Core.Path.{sym, _∙_}
 use borrow.Author.Needs.{needs}
 use Rattle.claims.specs.Table.{reportsIn}
-use Rattle.quorum.specs.Sets.{equals}
 use Rattle.rules.proofs.Views.{neverSafe}
 use Rattle.rules.specs.Rules.{rule1}
-use Rattle.rules.specs.inside.Views.{Lowest}
-use Rattle.safe.proofs.Searches.{safeStart, safeFree, choiceStart, choiceNone, lowestIn, oneSame, unsafePasses, choiceSame}
+use Rattle.safe.proofs.Searches.{safeStart, safeFree, choiceStart, choiceNone, Begun, begins, oneSame, startFails, choiceSame}
 use Rattle.safe.proofs.choose_among.Statement.{statement}
 use Rattle.safe.proofs.choose_among.Tie as tie
 
@@ -31,87 +29,35 @@ prepare-requires c κs = search needs
 safe-one-requires : tie.Need-safe-one-requires
 safe-one-requires c κs = c .before .before .before .before .prepare .ensures .0 .laid
 
+-- What the search begins with.
+abbrev entry : tie.After-prepare → tie.Start
+entry c = c .before .before .before .before .before .before .before
+
+begun : (c : tie.After-prepare) → Begun (reportsIn (entry c .args .table .now)) (entry c .args .n) (entry c .args .f) (entry c .args .v)
+    (c .prepare .result .search) (c .prepare .result .plans)
+begun c =
+    let view = c .before .before in
+    let free = view .before .before in
+    begins _ _ _ _ _ _ _ _ (free .free .ensures) (view .before .if2 .left) (view .lowest-view .ensures) (c .before .if3 .taken) (c .prepare .ensures)
+
 returns-3 : tie.Need-returns-3
 returns-3 c =
-    let atPrepare = c .before .before .before .before .before .before in
-    let atIf3 = atPrepare .before in
-    let atLowestView = atIf3 .before in
-    let atIf2 = atLowestView .before in
-    let atFree = atIf2 .before in
-    let atEntry = atFree .before .before .before in
-    let a = atEntry .args in
-    let rs = reportsIn (a .table .now) in
-    let u = atLowestView .lowest-view .result in
-    let l : Lowest (equals (a .n) (a .f)) rs (a .v) u
-    = record {
-      locked = sym (atFree .free .ensures)
-          ∙ atIf2 .if2 .left;
-      below = atIf3 .if3 .taken;
-      is = atLowestView .lowest-view .ensures;
-    } in
-    let s = atPrepare .prepare in
-    let (ready, en, ef, eu, ev) = s .ensures in
-    choiceStart _ _ _ _ (oneSame rs (s .result .search) (s .result .plans) ready (a .n) (a .f) u (a .v) en ef eu ev l (a .start) true
-    (sym (c .if4 .taken) ∙ c .before .safe-one .ensures))
+    let one = c .before in
+    choiceStart _ _ _ _ (oneSame (begun (one .before .before .before .before .before)) _ true (sym (c .if4 .taken) ∙ one .safe-one .ensures))
 
 smallest-safe-requires : tie.Need-smallest-safe-requires
 smallest-safe-requires c κs =
-    let atIf4 = c .before .before .before .before in
-    let atSafeOne = atIf4 .before in
-    let atPrepare = atSafeOne .before .before .before .before .before in
-    let atIf3 = atPrepare .before in
-    let atLowestView = atIf3 .before in
-    let atIf2 = atLowestView .before in
-    let atFree = atIf2 .before in
-    let atEntry = atFree .before .before .before in
-    let a = atEntry .args in
-    let rs = reportsIn (a .table .now) in
-    let u = atLowestView .lowest-view .result in
-    let l : Lowest (equals (a .n) (a .f)) rs (a .v) u
-    = record {
-      locked = sym
-          (atFree .free .ensures)
-          ∙ atIf2 .if2 .left;
-      below = atIf3 .if3 .taken;
-      is = atLowestView .lowest-view .ensures;
-    } in
-    let s = atPrepare .prepare in
-    let (ready, en, ef, eu, ev) = s .ensures in
-    let never = sym (atSafeOne .safe-one .ensures) ∙ atIf4 .if4 .left in
-    let low = lowestIn rs (s .result .search) (s .result .plans) ready (a .n) (a .f) u (a .v) en ef eu ev l in (
-      ready .laid,
-      unsafePasses rs (s .result .search) (s .result .plans) ready low true (a .start) never,
-      unsafePasses rs (s .result .search) (s .result .plans) ready low false (a .start) never,
-    )
+    let unsafe = c .before .before .before .before in
+    let one = unsafe .before in
+    let b = begun (one .before .before .before .before .before) in
+    let never = sym (one .safe-one .ensures) ∙ unsafe .if4 .left in
+    (b .ready .laid, startFails b _ never true, startFails b _ never false)
 
 returns-4 : tie.Need-returns-4
 returns-4 c =
-    let atIf4 = c .before .before .before .before .before in
-    let atSafeOne = atIf4 .before in
-    let atPlace = atSafeOne .before .before .before in
-    let atPrepare = atPlace .before .before in
-    let atIf3 = atPrepare .before in
-    let atLowestView = atIf3 .before in
-    let atIf2 = atLowestView .before in
-    let atFree = atIf2 .before in
-    let entry = atPlace in
-    let far = entry .before .before .before .before in
-    let a = far .before .before .before .before .before .args in
-    let rs = reportsIn (a .table .now) in
-    let u = atLowestView .lowest-view .result in
-    let l : Lowest (equals (a .n) (a .f)) rs (a .v) u
-    = record {
-      locked = sym
-          (atFree .free .ensures)
-          ∙ atIf2 .if2 .left;
-      below = atIf3 .if3 .taken;
-      is = atLowestView .lowest-view .ensures;
-    } in
-    let s = atPrepare .prepare in
-    let (ready, en, ef, eu, ev) = s .ensures in
-    choiceSame rs (s .result .search) (s .result .plans) ready (a .n) (a .f) u (a .v) en ef eu ev l (a .start) _
-    (sym (atSafeOne .safe-one .ensures) ∙ atIf4 .if4 .left)
-    (c .smallest-safe .ensures)
+    let unsafe = c .before .before .before .before .before in
+    let one = unsafe .before in
+    choiceSame (begun (one .before .before .before .before .before)) _ (sym (one .safe-one .ensures) ∙ unsafe .if4 .left) _ (c .smallest-safe .ensures)
 
 returns-5 : tie.Need-returns-5
 returns-5 c =

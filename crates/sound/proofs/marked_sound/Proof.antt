@@ -1,6 +1,6 @@
 -- `sound::marked_sound` meets its contract, by the form of the kind.
 -- Assumes nothing.
-use mathlib.Core.Path.{ap, sym, _∙_}
+use mathlib.Core.Path.{_≡_, ap, sym, _∙_}
 use native.Mathlib.Omega.{arith}
 use Rattle.frame.specs.declared.Report.{Report}
 use Rattle.record.specs.Slots.{frameSlot, slotOf}
@@ -17,9 +17,7 @@ plan-sound-requires c κs = search needs
 returns : tie.Need-returns
 returns c =
     let s = c .before .before .before .before in
-    let a = s .args in
-    c .plan-sound .ensures (slotOf (decodeRecord (a .rec .now)) (frameSlot (a .head .kind) (a .head .sender)) .plan)
-    ∙ sym (keptPlan (slotOf (decodeRecord (a .rec .now))) (a .set) (a .view) (a .head) (s .pre .3) (s .pre .0 .low) (c .before .if1 .taken))
+    c .plan-sound .ensures _ ∙ sym (keptPlan _ _ _ _ (s .pre .3) (s .pre .0 .low) (c .before .if1 .taken))
 
 frame-place-requires : tie.Need-frame-place-requires
 frame-place-requires c κs = search needs
@@ -27,45 +25,37 @@ frame-place-requires c κs = search needs
 plan-at-requires : tie.Need-plan-at-requires
 plan-at-requires c κs = search needs
 
+abbrev start : tie.After-plan-at → tie.Start
+start c = c .before .before .before .before .before
+
+-- The plan that is read is that of the frame's slot.
+planRead : (c : tie.After-plan-at)
+    → c .plan-at .result ≡ slotOf (decodeRecord (start c .args .rec .now)) (frameSlot (start c .args .head .kind) (start c .args .head .sender)) .plan
+planRead c =
+    let there = frameThere _ _ _ (start c .pre .0) (c .before .frame-place .ensures .0) in
+    c .plan-at .ensures ∙ ap (λ (x : Report). x .plan) there
+
 returns-2 : tie.Need-returns-2
 returns-2 c =
     let d = c .before in
-    let s = d .before .before .before .before .before in
-    let a = s .args in
-    let at = d .before .frame-place .ensures .0 in
-    let there = frameThere (a .rec .now) (a .head .kind) (a .head .sender) (s .pre .0) at in
-    let plan = d .plan-at .ensures ∙ ap (λ (x : Report). x .plan) there in
-    sym (keptPlanned (slotOf (decodeRecord (a .rec .now))) (a .set) (a .view) (a .head) (s .pre .3)
-    (omega (arith, d .before .before .if1 .left)) (λ e. c .if2 .taken (plan ∙ e)))
+    sym (keptPlanned _ _ _ _ (start d .pre .3) (omega (arith, d .before .before .if1 .left)) (λ e. c .if2 .taken (planRead d ∙ e)))
 
 returns-3 : tie.Need-returns-3
 returns-3 c =
-    let d = c .before .before .before .before in
-    let s = d .before .before .before .before .before in
-    let a = s .args in
-    let at = d .before .frame-place .ensures .0 in
-    let there = frameThere (a .rec .now) (a .head .kind) (a .head .sender) (s .pre .0) at in
-    let plan = d .plan-at .ensures ∙ ap (λ (x : Report). x .plan) there in
-    let none = sym plan ∙ c .before .before .before .if2 .left in
+    let none = c .before .before .before in
+    let s = start (none .before) in
     let six = c .before .if3 .taken in
-    sym (keptBare (slotOf (decodeRecord (a .rec .now))) (a .set) (a .view) (a .head) (s .pre .3) six none
-    ∙ bareRows (a .set) (a .view) (a .head) six (s .pre .1))
+    sym (keptBare _ _ _ _ (s .pre .3) six (sym (planRead (none .before)) ∙ none .if2 .left) ∙ bareRows _ _ _ six (s .pre .1))
 
 told-sound-requires : tie.Need-told-sound-requires
 told-sound-requires c κs = search needs
 
 returns-4 : tie.Need-returns-4
 returns-4 c =
-    let d = c .before .before .before .before in
-    let s = d .before .before .before .before .before in
-    let a = s .args in
-    let at = d .before .frame-place .ensures .0 in
-    let there = frameThere (a .rec .now) (a .head .kind) (a .head .sender) (s .pre .0) at in
-    let plan = d .plan-at .ensures ∙ ap (λ (x : Report). x .plan) there in
-    let none = sym plan ∙ c .before .before .before .if2 .left in
-    c .told-sound .ensures
-    ∙ sym (keptTold (slotOf (decodeRecord (a .rec .now))) (a .set) (a .view) (a .head) (s .pre .3)
-    (omega (arith, d .before .before .if1 .left, c .before .if3 .left)) none)
+    let none = c .before .before .before in
+    let d = none .before in
+    c .told-sound .ensures ∙ sym (keptTold _ _ _ _ (start d .pre .3) (omega (arith, d .before .before .if1 .left, c .before .if3 .left))
+    (sym (planRead d) ∙ none .if2 .left))
 
 pub marked-sound-spec : {M : Type 1} → statement M
 marked-sound-spec =

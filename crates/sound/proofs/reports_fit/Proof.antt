@@ -1,12 +1,14 @@
 -- `sound::reports_fit` meets its contract: report by report, then the previous vote against the highest.
 -- Assumes nothing.
-use Prim.Native.Nat.{_+_, _*_}
+use Prim.Native.Nat.{ℕ, _+_, _*_, _<_}
 use mathlib.Core.Path.{_≡_, ap, sym, _∙_}
-use mathlib.Core.Bool.{not}
+use mathlib.Core.Bool.{Bool, not}
 use native.Mathlib.Omega.{arith}
 use Rattle.frame.specs.Refusal.{badPrevious}
+use Rattle.frame.specs.declared.Report.{Report}
+use Rattle.frame.specs.declared.Reports.{Reports}
 use Rattle.record.specs.Slots.{reportSlot, slotOf}
-use Rattle.layout.specs.Layout.{place, decodeRecord}
+use Rattle.layout.specs.Layout.{slotIn, decodeRecord}
 use Rattle.keeping.specs.Kept.{reportsIn}
 use Rattle.sound.specs.inside.Bulk.{groupSize, reportFits}
 use Rattle.sound.proofs.Laws.{off, on}
@@ -16,6 +18,37 @@ use borrow.Author.Needs.{needs}
 use Rattle.sound.proofs.reports_fit.Statement.{statement}
 use Rattle.sound.proofs.reports_fit.Tie as tie
 
+-- The three reports of the row, and whether one fits.
+abbrev row : tie.After-report-place → Reports
+row c = let a = c .before .before .args in reportsIn (slotOf (decodeRecord (a .rec .now))) (a .kind) (a .sender)
+
+abbrev report : tie.After-report-place → ℕ → Report
+report c w = let a = c .before .before .args in slotOf (decodeRecord (a .rec .now)) (reportSlot (a .kind) w (a .sender))
+
+abbrev fits : tie.After-report-place → ℕ → Bool
+fits c w = reportFits (c .before .before .args .view) (report c w)
+
+-- Where report w stands.
+there : (c : tie.After-report-place) (w at : ℕ) → w < 3 → at ≡ c .report-place .result + w * groupSize
+    → slotIn (c .before .before .args .rec .now) at ≡ report c w
+there c w at low is =
+    let e = c .before .before in
+    reportThere (e .args .rec .now) (e .args .kind) w (e .args .sender) (e .pre .1) low (omega (arith, is, c .report-place .ensures .0))
+
+-- What is told of the three.
+first : (c : tie.After-report-fits) → c .report-fits .result ≡ fits (c .before) 0
+first c = let k = c .before in c .report-fits .ensures ∙ ap (reportFits _) (there k 0 (k .report-place .result) (omega arith) (omega arith))
+
+second : (c : tie.After-report-fits2) → c .report-fits2 .result ≡ fits (c .before .before .before) 1
+second c =
+    let k = c .before .before .before in
+    c .report-fits2 .ensures ∙ ap (reportFits _) (there k 1 (k .report-place .result + groupSize) (omega arith) (omega arith))
+
+third : (c : tie.After-report-fits3) → c .report-fits3 .result ≡ fits (c .before .before .before .before .before) 2
+third c =
+    let k = c .before .before .before .before .before in
+    c .report-fits3 .ensures ∙ ap (reportFits _) (there k 2 (k .report-place .result + 2 * groupSize) (omega arith) (omega arith))
+
 report-place-requires : tie.Need-report-place-requires
 report-place-requires c κs = search needs
 
@@ -23,14 +56,7 @@ report-fits-requires : tie.Need-report-fits-requires
 report-fits-requires c κs = search needs
 
 returns : tie.Need-returns
-returns c =
-    let s = c .before .before .before .before in
-    let a = s .args in
-    let k = c .before .before .report-place in
-    let e₀ : k .result ≡ place (reportSlot (a .kind) 0 (a .sender)) + 0 * groupSize = omega (arith, k .ensures .0) in
-    let t₀ = reportThere (a .rec .now) (a .kind) 0 (a .sender) (s .pre .1) (omega arith) e₀ in
-    sym (fitsHighest (a .view) (reportsIn (slotOf (decodeRecord (a .rec .now))) (a .kind) (a .sender))
-    (off (c .before .report-fits .ensures ∙ ap (reportFits (a .view)) t₀) (c .if1 .taken)))
+returns c = sym (fitsHighest _ (row (c .before .before)) (off (first (c .before)) (c .if1 .taken)))
 
 add-report-fits : tie.Need-add-report-fits
 add-report-fits c = search needs
@@ -41,16 +67,7 @@ report-fits-requires-2 c κs = search needs
 returns-2 : tie.Need-returns-2
 returns-2 c =
     let d = c .before .before in
-    let s = d .before .before .before .before in
-    let a = s .args in
-    let k = d .before .before .report-place in
-    let e₀ : k .result ≡ place (reportSlot (a .kind) 0 (a .sender)) + 0 * groupSize = omega (arith, k .ensures .0) in
-    let t₀ = reportThere (a .rec .now) (a .kind) 0 (a .sender) (s .pre .1) (omega arith) e₀ in
-    let e₁ : k .result + groupSize ≡ place (reportSlot (a .kind) 0 (a .sender)) + 1 * groupSize = omega (arith, k .ensures .0) in
-    let t₁ = reportThere (a .rec .now) (a .kind) 1 (a .sender) (s .pre .1) (omega arith) e₁ in
-    sym (fitsPrevious (a .view) (reportsIn (slotOf (decodeRecord (a .rec .now))) (a .kind) (a .sender))
-    (on (d .before .report-fits .ensures ∙ ap (reportFits (a .view)) t₀) (d .if1 .left))
-    (off (c .before .report-fits2 .ensures ∙ ap (reportFits (a .view)) t₁) (c .if2 .taken)))
+    sym (fitsPrevious _ (row (d .before .before)) (on (first (d .before)) (d .if1 .left)) (off (second (c .before)) (c .if2 .taken)))
 
 mul-report-fits : tie.Need-mul-report-fits
 mul-report-fits c = search needs
@@ -65,19 +82,8 @@ returns-3 : tie.Need-returns-3
 returns-3 c =
     let c₂ = c .before .before in
     let d = c₂ .before .before in
-    let s = d .before .before .before .before in
-    let a = s .args in
-    let k = d .before .before .report-place in
-    let e₀ : k .result ≡ place (reportSlot (a .kind) 0 (a .sender)) + 0 * groupSize = omega (arith, k .ensures .0) in
-    let t₀ = reportThere (a .rec .now) (a .kind) 0 (a .sender) (s .pre .1) (omega arith) e₀ in
-    let e₁ : k .result + groupSize ≡ place (reportSlot (a .kind) 0 (a .sender)) + 1 * groupSize = omega (arith, k .ensures .0) in
-    let t₁ = reportThere (a .rec .now) (a .kind) 1 (a .sender) (s .pre .1) (omega arith) e₁ in
-    let e₂ : k .result + 2 * groupSize ≡ place (reportSlot (a .kind) 0 (a .sender)) + 2 * groupSize = omega (arith, k .ensures .0) in
-    let t₂ = reportThere (a .rec .now) (a .kind) 2 (a .sender) (s .pre .1) (omega arith) e₂ in
-    sym (fitsLock (a .view) (reportsIn (slotOf (decodeRecord (a .rec .now))) (a .kind) (a .sender))
-    (on (d .before .report-fits .ensures ∙ ap (reportFits (a .view)) t₀) (d .if1 .left))
-    (on (c₂ .before .report-fits2 .ensures ∙ ap (reportFits (a .view)) t₁) (c₂ .if2 .left))
-    (off (c .before .report-fits3 .ensures ∙ ap (reportFits (a .view)) t₂) (c .if3 .taken)))
+    sym (fitsLock _ (row (d .before .before)) (on (first (d .before)) (d .if1 .left)) (on (second (c₂ .before)) (c₂ .if2 .left))
+    (off (third (c .before)) (c .if3 .taken)))
 
 slot-at-requires : tie.Need-slot-at-requires
 slot-at-requires c κs = search needs
@@ -96,22 +102,11 @@ returns-4 c =
     let c₃ = c .before .before .before in
     let c₂ = c₃ .before .before in
     let d = c₂ .before .before in
-    let s = d .before .before .before .before in
-    let a = s .args in
-    let k = d .before .before .report-place in
-    let e₀ : k .result ≡ place (reportSlot (a .kind) 0 (a .sender)) + 0 * groupSize = omega (arith, k .ensures .0) in
-    let t₀ = reportThere (a .rec .now) (a .kind) 0 (a .sender) (s .pre .1) (omega arith) e₀ in
-    let e₁ : k .result + groupSize ≡ place (reportSlot (a .kind) 0 (a .sender)) + 1 * groupSize = omega (arith, k .ensures .0) in
-    let t₁ = reportThere (a .rec .now) (a .kind) 1 (a .sender) (s .pre .1) (omega arith) e₁ in
-    let e₂ : k .result + 2 * groupSize ≡ place (reportSlot (a .kind) 0 (a .sender)) + 2 * groupSize = omega (arith, k .ensures .0) in
-    let t₂ = reportThere (a .rec .now) (a .kind) 2 (a .sender) (s .pre .1) (omega arith) e₂ in
-    let h = c .before .before .slot-at .ensures ∙ t₀ in
-    let p = c .before .slot-at2 .ensures ∙ t₁ in
+    let k = d .before .before in
+    let h = c .before .before .slot-at .ensures ∙ there k 0 (k .report-place .result) (omega arith) (omega arith) in
+    let p = c .before .slot-at2 .ensures ∙ there k 1 (k .report-place .result + groupSize) (omega arith) (omega arith) in
     c .follows .ensures ∙ (λ i. not (badPrevious (h i) (p i)))
-    ∙ sym (fitsAll (a .view) (reportsIn (slotOf (decodeRecord (a .rec .now))) (a .kind) (a .sender))
-    (on (d .before .report-fits .ensures ∙ ap (reportFits (a .view)) t₀) (d .if1 .left))
-    (on (c₂ .before .report-fits2 .ensures ∙ ap (reportFits (a .view)) t₁) (c₂ .if2 .left))
-    (on (c₃ .before .report-fits3 .ensures ∙ ap (reportFits (a .view)) t₂) (c₃ .if3 .left)))
+    ∙ sym (fitsAll _ (row k) (on (first (d .before)) (d .if1 .left)) (on (second (c₂ .before)) (c₂ .if2 .left)) (on (third (c₃ .before)) (c₃ .if3 .left)))
 
 pub reports-fit-spec : {M : Type 1} → statement M
 reports-fit-spec =

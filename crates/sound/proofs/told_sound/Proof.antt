@@ -2,9 +2,6 @@
 -- Assumes nothing.
 use mathlib.Core.Path.{sym}
 use Rattle.frame.proofs.Laws.{told}
-use Rattle.record.specs.Slots.{slotOf}
-use Rattle.layout.specs.Layout.{decodeRecord}
-use Rattle.keeping.specs.Kept.{reportsIn}
 use Rattle.sound.proofs.Laws.{off, on}
 use Rattle.sound.proofs.Forms.{toldAbove, toldZero, toldBad, toldProof, toldSuggest}
 use borrow.Author.Needs.{needs}
@@ -17,17 +14,13 @@ above-requires c κs = search needs
 returns : tie.Need-returns
 returns c =
     let s = c .before .before .before in
-    let a = s .args in
-    sym (toldAbove (a .set) (a .view) (a .head) (reportsIn (slotOf (decodeRecord (a .rec .now))) (a .head .kind) (a .head .sender))
-    (s .pre .0) (s .pre .1 .high) (s .pre .2) (told (c .before .above .ensures) (c .if1 .taken)))
+    sym (toldAbove _ _ _ _ (s .pre .0) (s .pre .1 .high) (s .pre .2) (told (c .before .above .ensures) (c .if1 .taken)))
 
 returns-2 : tie.Need-returns-2
 returns-2 c =
     let d = c .before .before in
     let s = d .before .before .before in
-    let a = s .args in
-    sym (toldZero (a .set) (a .view) (a .head) (reportsIn (slotOf (decodeRecord (a .rec .now))) (a .head .kind) (a .head .sender))
-    (s .pre .0) (s .pre .1 .high) (s .pre .2) (told (d .before .above .ensures) (d .if1 .left)) (c .if2 .taken))
+    sym (toldZero _ _ _ _ (s .pre .0) (s .pre .1 .high) (s .pre .2) (told (d .before .above .ensures) (d .if1 .left)) (c .if2 .taken))
 
 reports-fit-requires : tie.Need-reports-fit-requires
 reports-fit-requires c κs = search needs
@@ -36,19 +29,15 @@ returns-3 : tie.Need-returns-3
 returns-3 c =
     let d = c .before .before .before .before in
     let s = d .before .before .before in
-    let a = s .args in
-    sym (toldBad (a .set) (a .view) (a .head) (reportsIn (slotOf (decodeRecord (a .rec .now))) (a .head .kind) (a .head .sender))
-    (s .pre .0) (s .pre .1 .high) (s .pre .2) (told (d .before .above .ensures) (d .if1 .left)) (c .before .before .if2 .left)
+    sym (toldBad _ _ _ _ (s .pre .0) (s .pre .1 .high) (s .pre .2) (told (d .before .above .ensures) (d .if1 .left)) (c .before .before .if2 .left)
     (off (c .before .reports-fit .ensures) (c .if3 .taken)))
 
 returns-4 : tie.Need-returns-4
 returns-4 c =
     let d = c .before .before .before .before .before .before in
     let s = d .before .before .before in
-    let a = s .args in
-    sym (toldProof (a .set) (a .view) (a .head) (reportsIn (slotOf (decodeRecord (a .rec .now))) (a .head .kind) (a .head .sender))
-    (s .pre .0) (s .pre .1 .high) (s .pre .2) (told (d .before .above .ensures) (d .if1 .left)) (c .before .before .before .before .if2 .left)
-    (on (c .before .before .before .reports-fit .ensures) (c .before .before .if3 .left)) (c .if4 .taken))
+    sym (toldProof _ _ _ _ (s .pre .0) (s .pre .1 .high) (s .pre .2) (told (d .before .above .ensures) (d .if1 .left))
+    (c .before .before .before .before .if2 .left) (on (c .before .before .before .reports-fit .ensures) (c .before .before .if3 .left)) (c .if4 .taken))
 
 cast-result : tie.Need-cast-result
 cast-result c = search needs
@@ -64,10 +53,8 @@ returns-5 c =
     let k = c .before .before .before in
     let d = k .before .before .before .before .before .before in
     let s = d .before .before .before in
-    let a = s .args in
-    sym (toldSuggest (a .set) (a .view) (a .head) (reportsIn (slotOf (decodeRecord (a .rec .now))) (a .head .kind) (a .head .sender))
-    (s .pre .0) (s .pre .1 .high) (s .pre .2) (told (d .before .above .ensures) (d .if1 .left)) (k .before .before .before .before .if2 .left)
-    (on (k .before .before .before .reports-fit .ensures) (k .before .before .if3 .left)) (k .if4 .left))
+    sym (toldSuggest _ _ _ _ (s .pre .0) (s .pre .1 .high) (s .pre .2) (told (d .before .above .ensures) (d .if1 .left))
+    (k .before .before .before .before .if2 .left) (on (k .before .before .before .reports-fit .ensures) (k .before .before .if3 .left)) (k .if4 .left))
 
 pub told-sound-spec : {M : Type 1} → statement M
 told-sound-spec =
