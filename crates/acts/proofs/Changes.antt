@@ -188,7 +188,7 @@ module _ (views : List ℕ) (need low : ℕ) where
             by : (w : ℕ) → best < w → leb need (times views (length views) w) ≡ true → Dec (w ≡ x) → times views (i + 1) w ≡ 0
             by w above enough (yes e) =
                 let least : need ≤ times views (length views) x = leb-true need (times views (length views) x) (rw e at enough) in
-                let none-yet : times views i x ≡ 0 = was .rest x over (rw e at enough) in
+                let noneYet : times views i x ≡ 0 = was .rest x over (rw e at enough) in
                 absurd (omega arith)
             by w above enough (no e) = timesOther views i w e ∙ was .rest w above enough
 
@@ -198,7 +198,7 @@ module _ (views : List ℕ) (need low : ℕ) where
       where
         by : (w : ℕ) → low < w → leb need (times views (length views) w) ≡ true → Dec (best < w) → w ≤ best
         by w above enough (yes over) =
-            let none-yet : times views i w ≡ 0 = was .rest w over enough in
+            let noneYet : times views i w ≡ 0 = was .rest w over enough in
             let least : need ≤ times views (length views) w = leb-true need (times views (length views) w) enough in
             let whole : i + (length views - i) ≡ length views = omega arith in
             let slack : times views (length views) w ≤ times views i w + (length views - i)

@@ -12,7 +12,7 @@ use lib.Dec.{eqb}
 use borrow.Author.Tests.{le-leb, lt-leb, ne-eqb}
 use Rattle.rules.specs.Rules as rules
 use Rattle.rules.specs.Rules.{Rule, rule1, rule3}
-use Rattle.claims.specs.Table.{reportsIn}
+use Rattle.claims.specs.Table.{reportsInTable}
 use Rattle.frame.specs.declared.Report.{Report}
 use Rattle.frame.specs.declared.Frame.{Frame}
 use Rattle.frame.specs.Format.{within}
@@ -46,9 +46,9 @@ votedBy v x = go (present x)
     go false = refl
 
 -- A frame with a slot's view that tells x, as a report of view v.
-toldOf : (s : Report) (f : Frame) (v : ℕ) (x : rules.Report) → f .view ≡ s .view → reportBy (f .body) ≡ some x
+reportRead : (s : Report) (f : Frame) (v : ℕ) (x : rules.Report) → f .view ≡ s .view → reportBy (f .body) ≡ some x
     → each (when (present s) (some f)) (λ g. when (eqb (g .view) v) (reportBy (g .body))) ≡ when (present s && eqb (s .view) v) (some x)
-toldOf s f v x view told = go (present s)
+reportRead s f v x view told = go (present s)
   where
     go : (b : Bool) → each (when b (some f)) (λ g. when (eqb (g .view) v) (reportBy (g .body))) ≡ when (b && eqb (s .view) v) (some x)
     go true = rw (view, told)
@@ -102,7 +102,7 @@ module _ (r : slots.Record) where
   unfolding frameIn
   reportSlots kind j low high row =
       ap (λ (o : Option Frame). each o (λ f. when (eqb (f .view) (r .view)) (reportBy (f .body)))) (frameAt kind j (omega arith) high row)
-      ∙ toldOf (slotOf r (frameSlot kind j)) (frameIn (slotOf r) kind j) (r .view) (three kind j) refl (toldBody kind j low)
+      ∙ reportRead (slotOf r (frameSlot kind j)) (frameIn (slotOf r) kind j) (r .view) (three kind j) refl (toldBody kind j low)
 
 -- ---- in the parts that are lent
 
@@ -148,7 +148,7 @@ module _ (s : List ℕ) (r : slots.Record) (reads : Reads s r) where
           below x e = reads .sound .kept kind j x e .row
 
   -- The table that is gathered has the reports kept.
-  pub tableIs : (rule : Rule) (t : List ℕ) → Filled (reportsBy (blockPart s) (kindOf rule) (r .view)) (r .set .n) t → reportsIn t ≡ reportsOf (contents r) rule
+  pub tableIs : (rule : Rule) (t : List ℕ) → Filled (reportsBy (blockPart s) (kindOf rule) (r .view)) (r .set .n) t → reportsInTable t ≡ reportsOf (contents r) rule
   unfolding contents
   tableIs rule t f =
       filledAll (reportsOf (contents r) rule) (r .set .n) t (reads .allows .most)

@@ -13,7 +13,7 @@ use borrow.Author.Tests.{eq-eqb, ne-eqb}
 use Rattle.rules.specs.Options.{isNone}
 use Rattle.rules.specs.Rules.{rule1, rule3}
 use Rattle.rules.specs.inside.Counts.{safe, choice}
-use Rattle.claims.specs.Table.{reportsIn}
+use Rattle.claims.specs.Table.{reportsInTable}
 use Rattle.frame.specs.Refusal.{leaderOf}
 use Rattle.settings.specs.Vaults.{vaultsOf}
 use Rattle.record.specs.Slots as slots
@@ -56,7 +56,7 @@ module _ (s : List ℕ) (r : slots.Record) (reads : Reads s r) where
 
   -- 'proposes its starting plan if that is safe by Rule 1, else the smallest safe plan': by the table of the suggests kept.
   pub proposalIs : (t : List ℕ) (start : ℕ) → Filled (reportsBy (blockPart s) 7 (r .view)) (r .set .n) t → start ≡ r .plan
-      → choice (vaultsOf (r .set)) (reportsIn t) (r .view) start ≡ proposalOf (contents r)
+      → choice (vaultsOf (r .set)) (reportsInTable t) (r .view) start ≡ proposalOf (contents r)
   unfolding contents
   proposalIs t start filled plan = λ i. choice (vaultsOf (r .set)) (tableIs s r reads rule1 t filled i) (r .view) (plan i)
 
@@ -64,7 +64,7 @@ module _ (s : List ℕ) (r : slots.Record) (reads : Reads s r) where
 
   -- 'safe by Rule 3': by the table of the proofs kept.
   pub approvedIs : (t : List ℕ) (p : ℕ) → Filled (reportsBy (blockPart s) 8 (r .view)) (r .set .n) t
-      → safe rule3 (vaultsOf (r .set)) (reportsIn t) (r .view) p ≡ approvedBy (contents r) p
+      → safe rule3 (vaultsOf (r .set)) (reportsInTable t) (r .view) p ≡ approvedBy (contents r) p
   unfolding contents
   approvedIs t p filled = λ i. safe rule3 (vaultsOf (r .set)) (tableIs s r reads rule3 t filled i) (r .view) p
 

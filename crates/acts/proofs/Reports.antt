@@ -15,7 +15,7 @@ use lib.Seq.{getD-set-same, getD-set-other}
 use borrow.Author.Tests.{ne-eqb, lt-ltb, le-ltb}
 use Rattle.rules.specs.Options.{isNone}
 use Rattle.rules.specs.Rules.{Vote, Report, Reports}
-use Rattle.claims.specs.Table.{column, tableSize, voteOf, voteIn, reporter, reportsIn}
+use Rattle.claims.specs.Table.{column, tableSize, voteAbove, voteIn, reporter, reportsInTable}
 use Rattle.frame.specs.declared.Report as Slot
 use Rattle.frame.specs.Refusal.{present}
 use Rattle.record.specs.Slots.{rows, frameSlot, reportSlot}
@@ -32,8 +32,8 @@ abbrev vote : ℕ → ℕ → Option Vote
 vote w p = some (record { view = w; plan = p })
 
 -- What is put is read as the vote that the slot reports.
-voteBack : (x : Slot.Report) → voteOf (aboveOf x) (x .plan) ≡ reported x
-unfolding voteOf aboveOf
+voteBack : (x : Slot.Report) → voteAbove (aboveOf x) (x .plan) ≡ reported x
+unfolding voteAbove aboveOf
 voteBack x = go (eqb (x .mark) 1)
   where
     go : (b : Bool) → cond (eqb (cond b (x .view + 1) 0) 0) none (vote (cond b (x .view + 1) 0 - 1) (x .plan)) ≡ cond b (vote (x .view) (x .plan)) none
@@ -126,7 +126,7 @@ module _ (t : List ℕ) (i : ℕ) (h p l : Slot.Report) (row : i < column) (size
         let next : column * (c + 1) + i ≡ column * c + i + column = omega arith in
         let a : getD u (column * c + i) 0 ≡ aboveOf x = above ∙ voteAbove s (column * c + i) x room in
         let b : getD u (column * (c + 1) + i) 0 ≡ x .plan = ap (λ (q : ℕ). getD u q 0) next ∙ plan ∙ votePlan s (column * c + i) x room in
-        (λ k. voteOf (a k) (b k)) ∙ voteBack x
+        (λ k. voteAbove (a k) (b k)) ∙ voteBack x
 
   -- The own row has the lock that was put last.
   ownLock : voteIn with₃ 5 i ≡ reported l
@@ -160,8 +160,8 @@ module _ (t : List ℕ) (i : ℕ) (h p l : Slot.Report) (row : i < column) (size
   told = record { highest = reported h; previous = reported p; lock = reported l }
 
   -- So the sender's row is read as what it reports.
-  pub reportOwn : reportsIn (withReport t i h p l) i ≡ some told
-  unfolding reportsIn reporter
+  pub reportOwn : reportsInTable (withReport t i h p l) i ≡ some told
+  unfolding reportsInTable reporter
   reportOwn =
       let here : (ltb i column && not (eqb (getD with₃ i 0) 0)) ≡ true = rw (lt-ltb i column row, ownMark) in
       rw here (λ k. some (record { highest = ownHighest k; previous = ownPrevious k; lock = ownLock k }))
@@ -171,18 +171,18 @@ module _ (t : List ℕ) (i : ℕ) (h p l : Slot.Report) (row : i < column) (size
   markOther j low off = let first : column * 0 + j ≡ j = omega arith in rw first at (rowOther 0 j low off)
 
   -- So what another sender reports stays.
-  pub reportOther : (j : ℕ) → j < column → j ≢ i → reportsIn (withReport t i h p l) j ≡ reportsIn t j
-  unfolding reportsIn reporter
+  pub reportOther : (j : ℕ) → j < column → j ≢ i → reportsInTable (withReport t i h p l) j ≡ reportsInTable t j
+  unfolding reportsInTable reporter
   reportOther j low off =
       let mark = markOther j low off in
-      let col : (c : ℕ) → voteIn with₃ c j ≡ voteIn t c j = λ c. (λ k. voteOf (rowOther c j low off k) (rowOther (c + 1) j low off k)) in
+      let col : (c : ℕ) → voteIn with₃ c j ≡ voteIn t c j = λ c. (λ k. voteAbove (rowOther c j low off k) (rowOther (c + 1) j low off k)) in
       λ k. cond (ltb j column && not (eqb (mark k) 0)) (some (record { highest = col 1 k; previous = col 3 k; lock = col 5 k })) none
 
 -- ---- sender by sender
 
 -- A sender whose mark is 0 has not reported.
-unreported : (t : List ℕ) (j : ℕ) → getD t j 0 ≡ 0 → reportsIn t j ≡ none
-unfolding reportsIn reporter
+unreported : (t : List ℕ) (j : ℕ) → getD t j 0 ≡ 0 → reportsInTable t j ≡ none
+unfolding reportsInTable reporter
 unreported t j off = rw off (go (ltb j column))
   where
     row : Report
@@ -193,8 +193,8 @@ unreported t j off = rw off (go (ltb j column))
     go false = refl
 
 -- A sender without a row.
-rowless : (t : List ℕ) (j : ℕ) → column ≤ j → reportsIn t j ≡ none
-unfolding reportsIn reporter
+rowless : (t : List ℕ) (j : ℕ) → column ≤ j → reportsInTable t j ≡ none
+unfolding reportsInTable reporter
 rowless t j over = rw (le-ltb j column over)
 
 module _ (reports : Reports) where
@@ -215,8 +215,8 @@ module _ (reports : Reports) where
       rest = λ j least low. was .rest j (omega arith) low;
     }
       where
-        by : (j : ℕ) → j < k + 1 → Dec (j ≡ k) → reportsIn t j ≡ reports j
-        by j low (yes e) = ap (reportsIn t) e ∙ unreported t k (was .rest k (omega arith) row) ∙ sym off ∙ ap reports (sym e)
+        by : (j : ℕ) → j < k + 1 → Dec (j ≡ k) → reportsInTable t j ≡ reports j
+        by j low (yes e) = ap (reportsInTable t) e ∙ unreported t k (was .rest k (omega arith) row) ∙ sym off ∙ ap reports (sym e)
         by j low (no e) = was .done j (omega arith)
 
     -- A sender that reports has its report put into its row.
@@ -227,8 +227,8 @@ module _ (reports : Reports) where
       rest = λ j least low. markOther t k h p l row (was .size) j low (λ (e : j ≡ k). omega arith) ∙ was .rest j (omega arith) low;
     }
       where
-        by : (j : ℕ) → j < k + 1 → Dec (j ≡ k) → reportsIn (withReport t k h p l) j ≡ reports j
-        by j low (yes e) = ap (reportsIn (withReport t k h p l)) e ∙ reportOwn t k h p l row (was .size) ∙ sym on ∙ ap reports (sym e)
+        by : (j : ℕ) → j < k + 1 → Dec (j ≡ k) → reportsInTable (withReport t k h p l) j ≡ reports j
+        by j low (yes e) = ap (reportsInTable (withReport t k h p l)) e ∙ reportOwn t k h p l row (was .size) ∙ sym on ∙ ap reports (sym e)
         by j low (no e) = reportOther t k h p l row (was .size) j (omega arith) e ∙ was .done j (omega arith)
 
 -- The same for reports that are the same below k.
@@ -236,10 +236,10 @@ pub filledSame : (a b : Reports) (k : ℕ) (t : List ℕ) → ((j : ℕ) → j <
 filledSame a b k t same f = record { size = f .size; done = λ j low. f .done j low ∙ same j low; rest = f .rest }
 
 -- The table is that of all reports, where no sender from k on reports.
-pub filledAll : (reports : Reports) (k : ℕ) (t : List ℕ) → k ≤ column → Filled reports k t → ((j : ℕ) → k ≤ j → reports j ≡ none) → reportsIn t ≡ reports
+pub filledAll : (reports : Reports) (k : ℕ) (t : List ℕ) → k ≤ column → Filled reports k t → ((j : ℕ) → k ≤ j → reports j ≡ none) → reportsInTable t ≡ reports
 filledAll reports k t most f none-else = fun-ext (λ j. by j (decLt j k) (decLt j column))
   where
-    by : (j : ℕ) → Dec (j < k) → Dec (j < column) → reportsIn t j ≡ reports j
+    by : (j : ℕ) → Dec (j < k) → Dec (j < column) → reportsInTable t j ≡ reports j
     by j (yes low) d = f .done j low
     by j (no high) (yes row) = unreported t j (f .rest j (omega arith) row) ∙ sym (none-else j (omega arith))
     by j (no high) (no over) = rowless t j (omega arith) ∙ sym (none-else j (omega arith))

@@ -293,7 +293,12 @@ fn plan_by_reports(rec: &[u8], set: Settings, view: u32) -> Choice
     requires { ⌜ Ready (now rec) × (set ≡ decodeRecord (now rec) .set) × (view ≡ decodeRecord (now rec) .view) ⌝ }
     ensures { λ c. ⌜ chosen c ≡ proposalOf (contentsIn (now (rec .entry))) ⌝ }
 {
-    let table = gather(&rec[layout::SHARED..layout::SIZE], numbers::SUGGEST, set.n, view);
+    let table = gather(
+        &rec[layout::SHARED..layout::SIZE],
+        numbers::SUGGEST,
+        set.n,
+        view,
+    );
     safe::choose(&table, set, view, layout::plan_of(rec))
 }
 
@@ -328,7 +333,12 @@ fn approved_by_reports(rec: &[u8], set: Settings, view: u32, p: u64) -> bool
     requires { ⌜ Ready (now rec) × (set ≡ decodeRecord (now rec) .set) × (view ≡ decodeRecord (now rec) .view) ⌝ }
     ensures { λ b. ⌜ b ≡ approvedBy (contentsIn (now (rec .entry))) p ⌝ }
 {
-    let table = gather(&rec[layout::SHARED..layout::SIZE], numbers::PROOF, set.n, view);
+    let table = gather(
+        &rec[layout::SHARED..layout::SIZE],
+        numbers::PROOF,
+        set.n,
+        view,
+    );
     safe::safe_by(&table, set, view, p, true)
 }
 

@@ -11,7 +11,7 @@ use lib.Dec.{leb, eqb}
 use borrow.Author.Tests.{leb-true, eqb-true, eq-eqb}
 use Rattle.quorum.proofs.Bools.{bothSplit, either}
 use Rattle.rules.specs.Options.{isNone, holds}
-use Rattle.rules.specs.Rules.{Vote, Report, unlocked, fits, allows}
+use Rattle.rules.specs.Rules.{Vote, Report, unlocked, lockAllows, allows}
 use Rattle.rules.proofs.Laws.{holdsWhere}
 
 -- Nothing is not something: the end of impossible cases.
@@ -23,8 +23,8 @@ pub isNoneNone : {A : Type 0} (o : Option A) → isNone o ≡ true → o ≡ non
 isNoneNone none e = refl
 isNoneNone (some x) e = absurd (false≢true e)
 
--- What `fits` says of a lock: it is not above u, and at u it is for p.
-fitsVote : (p u : ℕ) (x : Vote) → fits p u x ≡ true → (x .view ≤ u) × (x .view ≡ u → x .plan ≡ p)
+-- What `lockAllows` says of a lock: it is not above u, and at u it is for p.
+fitsVote : (p u : ℕ) (x : Vote) → lockAllows p u x ≡ true → (x .view ≤ u) × (x .view ≡ u → x .plan ≡ p)
 fitsVote p u x h =
     let (low, here) = bothSplit (leb (x .view) u) (not (eqb (x .view) u) || eqb (x .plan) p) h in
     (leb-true (x .view) u low, λ is. plan is (either (not (eqb (x .view) u)) (eqb (x .plan) p) here))
@@ -36,12 +36,12 @@ fitsVote p u x h =
 -- 'no lock in q above v'; every lock in q at v' is for p', of one report.
 pub allowedLock : {p u : ℕ} (r : Report) {x : Vote} → allows p u r ≡ true → r .lock ≡ some x → (x .view ≤ u) × (x .view ≡ u → x .plan ≡ p)
 unfolding allows
-allowedLock {p} {u} r {x} h e = go (either (isNone (r .lock)) (holds (fits p u) (r .lock)) h)
+allowedLock {p} {u} r {x} h e = go (either (isNone (r .lock)) (holds (lockAllows p u) (r .lock)) h)
   where
-    go : (isNone (r .lock) ≡ true) ⊎ (holds (fits p u) (r .lock) ≡ true) → (x .view ≤ u) × (x .view ≡ u → x .plan ≡ p)
+    go : (isNone (r .lock) ≡ true) ⊎ (holds (lockAllows p u) (r .lock) ≡ true) → (x .view ≤ u) × (x .view ≡ u → x .plan ≡ p)
     go (inl t) = absurd (none≢some (sym (isNoneNone (r .lock) t) ∙ e))
     go (inr t) =
-        let (y, at, ok) = holdsWhere (r .lock) (fits p u) t in
+        let (y, at, ok) = holdsWhere (r .lock) (lockAllows p u) t in
         let same : y ≡ x = cc in
         fitsVote p u x (rw same at ok)
 

@@ -15,12 +15,12 @@ use lib.Seq.{take-at}
 use Rattle.wire.specs.Digits.{numberAt}
 use Rattle.wire.specs.Fields.{Bytes}
 use Rattle.wire.specs.Placed.{placed}
-use Rattle.wire.proofs.Laws.{number-below}
+use Rattle.wire.proofs.Laws.{numberBelow}
 use Rattle.frame.specs.declared.Reading.{Reading}
 use Rattle.frame.specs.declared.Reading.the-variants.{Refused}
 use Rattle.frame.specs.Refusal.{first, formRows, readFrame}
-use Rattle.frame.proofs.Laws.{formed, head-there}
-use Rattle.frame.proofs.Steps.{by-form}
+use Rattle.frame.proofs.Laws.{formed, headIsThere}
+use Rattle.frame.proofs.Steps.{byForm}
 use Rattle.entry.specs.Layout.{layout}
 use Rattle.entry.specs.Reading.{entriesOf}
 use Rattle.layout.specs.Layout.{decodeRecord}
@@ -92,8 +92,8 @@ module _ (rec out s : List ℕ) (left : Left) where
 -- 9 or 10 is given first.
 shortRead : (s : List ℕ) (a b n own : ℕ) → length s < 2 → readFrame s a n own ≡ readFrame s b n own
 shortRead s a b n own short =
-    let given : first (formRows s) ≡ 0 → ⊥ = λ (e : first (formRows s) ≡ 0). omega (arith, head-there s (formed s e)) in
-    sym (by-form s a n own (first (formRows s)) given refl) ∙ by-form s b n own (first (formRows s)) given refl
+    let given : first (formRows s) ≡ 0 → ⊥ = λ (e : first (formRows s) ≡ 0). omega (arith, headIsThere s (formed s e)) in
+    sym (byForm s a n own (first (formRows s)) given refl) ∙ byForm s b n own (first (formRows s)) given refl
 
 -- No sender is looked at: any two leave the same.
 pub senderUnread : (rec s out : List ℕ) (a b : ℕ) → length s < 2 → frameLeft rec a s out ≡ frameLeft rec b s out
@@ -115,7 +115,7 @@ either false x y p q = q
 callInWidth : (s : List ℕ) → Bytes s → InWidthIf (callOf s)
 unfolding callOf startOf timerOf frameOf
 callInWidth s bytes =
-    either (isKind 0 s) (startOf s) (cond (isKind 9 s) (timerOf s) (frameOf s)) (either (eqb (length s) 13) (some starts) none (number-below 8 s 5 bytes) tt)
+    either (isKind 0 s) (startOf s) (cond (isKind 9 s) (timerOf s) (frameOf s)) (either (eqb (length s) 13) (some starts) none (numberBelow 8 s 5 bytes) tt)
     (either (isKind 9 s) (timerOf s) (frameOf s) (either (eqb (length s) 5) (some (timer (numberAt 4 s 1))) none tt tt) bytes)
   where
     starts : Call
@@ -144,10 +144,10 @@ calledRefused k rec out x j is = subst (λ (y : Reading). (i : ℕ) × (called k
 frameShort : (rec out s : List ℕ) (link : ℕ) → length s < 5 → (i : ℕ) × (frameLeft rec link s out ≡ gave i rec out)
 unfolding frameLeft
 frameShort rec out s link short =
-    let given : first (formRows s) ≡ 0 → ⊥ = λ (e : first (formRows s) ≡ 0). omega (arith, head-there s (formed s e)) in
+    let given : first (formRows s) ≡ 0 → ⊥ = λ (e : first (formRows s) ≡ 0). omega (arith, headIsThere s (formed s e)) in
     let n = decodeRecord rec .set .n in
     let own = decodeRecord rec .set .id in
-    calledRefused 3 rec out (readFrame s link n own) (first (formRows s)) (by-form s link n own (first (formRows s)) given refl)
+    calledRefused 3 rec out (readFrame s link n own) (first (formRows s)) (byForm s link n own (first (formRows s)) given refl)
 
 pub shortRefused : (rec out s : List ℕ) → length s < 5 → (i : ℕ) × (callLeft rec out (callOf s) ≡ gave i rec out)
 unfolding callOf frameOf

@@ -1,5 +1,5 @@
 -- Laws of entries on the page: 'Entries lie end to end', 'one output entry a line'. The size of an entry is found (crate entries), so
--- entries laid end to end are found again, one after the other (`in-entry`, `entriesReadBack`). The loop that prints
+-- entries laid end to end are found again, one after the other (`inEntry`, `entriesReadBack`). The loop that prints
 -- them keeps that what is on the page, with the lines of the rest put behind it, is the page with all the lines.
 -- Assumes nothing.
 use Prim.Native.Nat.{ℕ, _+_, _*_, _-_, _≤_, _<_}
@@ -9,9 +9,9 @@ use native.Mathlib.Omega.{arith}
 use lib.ListN.{length, take, drop, length-append, length-drop, drop-of-length-le}
 use lib.Seq.{take-all, take-at, drop-at, drop-drop, length-take-le}
 use Rattle.wire.specs.Placed.{placed}
-use Rattle.wire.proofs.Output.{placed-none, placed-more, length-placed}
-use Rattle.frame.proofs.Theorems.{encode-head}
-use Rattle.wire.proofs.Laws.{length-spell}
+use Rattle.wire.proofs.Output.{placedNone, placedMore, lengthPlaced}
+use Rattle.frame.proofs.Theorems.{encodeHead}
+use Rattle.wire.proofs.Laws.{lengthSpell}
 use Rattle.entry.specs.declared.Entry.{Entry}
 use Rattle.entry.specs.declared.Entry.the-variants.{ForAll, ForOne, Timer, Decision}
 use Rattle.entry.specs.Layout.{hostFields, entryBytes, layout}
@@ -19,7 +19,7 @@ use Rattle.entry.specs.Valid.{AllValid}
 use Rattle.entry.specs.Reading.{entriesWithin, entriesOf}
 use Rattle.entry.proofs.Theorems.{entriesReadBack}
 use Rattle.entries.specs.Walk.{sizeIn}
-use Rattle.entries.proofs.Walk.{in-entry}
+use Rattle.entries.proofs.Walk.{inEntry}
 use Rattle.lines.specs.Digits.{lineOf}
 use Rattle.lines.specs.inside.Steps.{Shown}
 use Rattle.lines.proofs.Digits.{lengthLine}
@@ -29,10 +29,10 @@ use Rattle.answers.specs.inside.Steps.{Laid}
 -- An entry has its recipient and at least the six bytes of a view-change.
 entryLeast : (e : Entry) → 7 ≤ length (entryBytes e)
 unfolding entryBytes
-entryLeast (ForAll f) = omega (arith, encode-head f)
-entryLeast (ForOne to f) = omega (arith, encode-head f)
-entryLeast (Timer view millis) = omega (arith, length-spell (hostFields 11 view 4 millis))
-entryLeast (Decision view plan) = omega (arith, length-spell (hostFields 10 view 8 plan))
+entryLeast (ForAll f) = omega (arith, encodeHead f)
+entryLeast (ForOne to f) = omega (arith, encodeHead f)
+entryLeast (Timer view millis) = omega (arith, lengthSpell (hostFields 11 view 4 millis))
+entryLeast (Decision view plan) = omega (arith, lengthSpell (hostFields 10 view 8 plan))
 
 -- ---- entries one after the other
 
@@ -47,7 +47,7 @@ record First (s : List ℕ) (e : Entry) : Type 0 where
 -- Bytes that are the entry e and then entries es.
 firstIs : (s : List ℕ) (e : Entry) (es : List Entry) → AllValid (e ∷ es) → s ≡ entryBytes e ++ layout es → entriesOf s ≡ e ∷ es → First s e
 firstIs s e es v is read =
-    let size : sizeIn s ≡ length (entryBytes e) = ap sizeIn is ∙ in-entry e (v .0) (layout es) in
+    let size : sizeIn s ≡ length (entryBytes e) = ap sizeIn is ∙ inEntry e (v .0) (layout es) in
     let next : drop (sizeIn s) s ≡ layout es =
     ap (λ (k : ℕ). drop k s) size ∙ ap (λ (l : List ℕ). drop (length (entryBytes e)) l) is
     ∙ drop-at (entryBytes e) (layout es) (length (entryBytes e)) refl in
@@ -129,14 +129,14 @@ module _ (page₀ : List ℕ) (at : ℕ) (s page : List ℕ) (i end : ℕ) (so :
       let after : end′ ≡ end + length (lineOf (entryBytes e)) = put .ends ∙ ap (λ (l : List ℕ). end + length (lineOf l)) line in
       let page″ : page′ ≡ placed page end (lineOf (entryBytes e)) = put .shown ∙ ap (λ (l : List ℕ). placed page end (lineOf l)) line in
       let length′ : length page′ ≡ length page =
-      ap length page″ ∙ length-placed page end (lineOf (entryBytes e)) (omega (arith, next .fits, next .least, next .bytes, so .room)) in
+      ap length page″ ∙ lengthPlaced page end (lineOf (entryBytes e)) (omega (arith, next .fits, next .least, next .bytes, so .room)) in
       record {
         within = next .fits;
         laid = subst Laid rest (f .rest);
         size = length′ ∙ so .size;
         room = omega (arith, next .fits, next .least, next .bytes, so .room);
         ends = omega (arith, so .ends);
-        shown = (λ k. placed (page″ k) (after k) others) ∙ placed-more page end (lineOf (entryBytes e)) others (omega (arith, so .room))
+        shown = (λ k. placed (page″ k) (after k) others) ∙ placedMore page end (lineOf (entryBytes e)) others (omega (arith, so .room))
             ∙ ap (λ (l : List ℕ). placed page end l) (sym lines) ∙ so .shown;
       }
 
@@ -149,7 +149,7 @@ putAll page₀ at s page i end so done =
     let none-left : entryLines (entriesOf (drop i s)) ≡ [] = ap (λ (l : List ℕ). entryLines (entriesOf l)) gone in
     let no-more : length (entryLines (entriesOf (drop i s))) ≡ 0 = ap length none-left in
     record {
-      shown = sym (placed-none page end) ∙ ap (λ (l : List ℕ). placed page end l) (sym none-left) ∙ so .shown;
+      shown = sym (placedNone page end) ∙ ap (λ (l : List ℕ). placed page end l) (sym none-left) ∙ so .shown;
       ends = omega (arith, so .ends);
     }
 

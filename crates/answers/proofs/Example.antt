@@ -16,7 +16,7 @@ use Rattle.rules.specs.inside.Counts.{safe, choice}
 use Rattle.frame.specs.declared.Body.the-variants.{Plan}
 use Rattle.frame.specs.declared.Frame.{Frame}
 use Rattle.frame.specs.Format.{within, lengthOf, encode, decode, bodyAs}
-use Rattle.frame.proofs.Theorems.{encode-bytes}
+use Rattle.frame.proofs.Theorems.{encodedBytes}
 use Rattle.agreement.proofs.Reports.{none≢some}
 use Rattle.frame.specs.Refusal.{readFrame, refusal, viewMissing, misled}
 use Rattle.entry.specs.Layout.{entryBytes}
@@ -115,7 +115,7 @@ printsAll = refl
 
 votedBytes : (from : ℕ) → from ≡ from % 256 → Bytes (voted from)
 unfolding encode digits
-votedBytes from low = subst (λ (k : ℕ). Bytes (2 ∷ k ∷ 0 ∷ 0 ∷ 0 ∷ 0 ∷ 0 ∷ 0 ∷ 0 ∷ 0 ∷ 0 ∷ 0 ∷ 0 ∷ 7 ∷ [])) (sym low) (encode-bytes (vote from))
+votedBytes from low = subst (λ (k : ℕ). Bytes (2 ∷ k ∷ 0 ∷ 0 ∷ 0 ∷ 0 ∷ 0 ∷ 0 ∷ 0 ∷ 0 ∷ 0 ∷ 0 ∷ 0 ∷ 7 ∷ [])) (sym low) (encodedBytes (vote from))
 
 blankAt : At blank none
 unfolding lentIs decodeRecord

@@ -21,13 +21,13 @@ use Rattle.claims.specs.declared.Search.{Search}
 use Rattle.claims.specs.declared.Tally.{Tally}
 use Rattle.claims.specs.inside.Rows.{rowsSize, countOf, forPlan, Fits, Stance, forAll, forOne, forNone, Tells, SameBelow}
 use Rattle.claims.specs.inside.Rows.{tallyAt, placeAt, claimedIn, endOf, servingView}
-use Rattle.claims.specs.Table.{column, voteOf, reporter, reportsIn}
+use Rattle.claims.specs.Table.{column, voteAbove, reporter, reportsInTable}
 
 -- ---- votes of the table
 
 -- A vote counts with its view, and as 0 where it is absent.
-pub viewIn : (above plan : ℕ) → viewOf (voteOf above plan) ≡ above - 1
-unfolding voteOf
+pub viewIn : (above plan : ℕ) → viewOf (voteAbove above plan) ≡ above - 1
+unfolding voteAbove
 viewIn above plan = go (ℕ-discrete above 0)
   where
     go : Dec (above ≡ 0) → viewOf (cond (eqb above 0) none (some (record { view = above - 1; plan = plan }))) ≡ above - 1
@@ -35,8 +35,8 @@ viewIn above plan = go (ℕ-discrete above 0)
     go (no there) = rw (ne-eqb above 0 there)
 
 -- The same of a vote that is for plan p.
-viewForIn : (p above plan : ℕ) → viewFor p (voteOf above plan) ≡ cond (eqb plan p) (above - 1) 0
-unfolding voteOf
+viewForIn : (p above plan : ℕ) → viewFor p (voteAbove above plan) ≡ cond (eqb plan p) (above - 1) 0
+unfolding voteAbove
 viewForIn p above plan = go (ℕ-discrete above 0)
   where
     nothing : (b : Bool) → above - 1 ≡ 0 → 0 ≡ cond b (above - 1) 0
@@ -71,16 +71,16 @@ module _ (t : List ℕ) (r w : ℕ) where
   previous = getD t (column * 3 + r) 0
 
   -- Where the vault has reported, its claims go by the two views.
-  claimsIn : (p : ℕ) → reporter t r ≡ true → reporting (reportsIn t) (claims p w) r ≡ leb w (max (cond (eqb plan p) (high - 1) 0) (previous - 1))
-  unfolding reportsIn claims reach
+  claimsIn : (p : ℕ) → reporter t r ≡ true → reporting (reportsInTable t) (claims p w) r ≡ leb w (max (cond (eqb plan p) (high - 1) 0) (previous - 1))
+  unfolding reportsInTable claims reach
   claimsIn p h = rw (h, viewForIn p high plan, viewIn previous (getD t (column * 4 + r) 0))
 
   -- A previous vote at w or later claims every plan; at view 0 none is needed.
-  pub claimsEvery : reporter t r ≡ true → leb w (previous - 1) ≡ true → (p : ℕ) → reporting (reportsIn t) (claims p w) r ≡ true
+  pub claimsEvery : reporter t r ≡ true → leb w (previous - 1) ≡ true → (p : ℕ) → reporting (reportsInTable t) (claims p w) r ≡ true
   claimsEvery h low p = claimsIn p h ∙ le-leb w _ (omega (arith, leb-true w (previous - 1) low))
 
   -- Without one, a highest vote at w or later claims its own plan and no other.
-  pub claimsOne : reporter t r ≡ true → leb w (previous - 1) ≡ false → leb w (high - 1) ≡ true → (p : ℕ) → reporting (reportsIn t) (claims p w) r ≡ eqb plan p
+  pub claimsOne : reporter t r ≡ true → leb w (previous - 1) ≡ false → leb w (high - 1) ≡ true → (p : ℕ) → reporting (reportsInTable t) (claims p w) r ≡ eqb plan p
   claimsOne h few low p = claimsIn p h ∙ go (eqb plan p)
     where
       go : (b : Bool) → leb w (max (cond b (high - 1) 0) (previous - 1)) ≡ b
@@ -88,7 +88,7 @@ module _ (t : List ℕ) (r w : ℕ) where
       go false = lt-leb w _ (omega (arith, leb-false w (previous - 1) few))
 
   -- Without either, nothing is claimed.
-  pub claimsNone : reporter t r ≡ true → leb w (previous - 1) ≡ false → leb w (high - 1) ≡ false → (p : ℕ) → reporting (reportsIn t) (claims p w) r ≡ false
+  pub claimsNone : reporter t r ≡ true → leb w (previous - 1) ≡ false → leb w (high - 1) ≡ false → (p : ℕ) → reporting (reportsInTable t) (claims p w) r ≡ false
   claimsNone h few less p = claimsIn p h ∙ go (eqb plan p)
     where
       go : (b : Bool) → leb w (max (cond b (high - 1) 0) (previous - 1)) ≡ false
@@ -96,8 +96,8 @@ module _ (t : List ℕ) (r w : ℕ) where
       go false = lt-leb w _ (omega (arith, leb-false w (previous - 1) few))
 
 -- A vault that has not reported passes no test.
-pub silent : (t : List ℕ) (r : ℕ) (test : Report → Bool) → reporter t r ≡ false → reporting (reportsIn t) test r ≡ false
-unfolding reportsIn
+pub silent : (t : List ℕ) (r : ℕ) (test : Report → Bool) → reporter t r ≡ false → reporting (reportsInTable t) test r ≡ false
+unfolding reportsInTable
 silent t r test h = rw h
 
 -- ---- rows

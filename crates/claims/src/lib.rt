@@ -8,7 +8,7 @@ ghost use lib.ListN.{length, getD};
 ghost use Rattle.rules.specs.Rules.{claims, reporting};
 ghost use Rattle.claims.specs.inside.Rows.{rowsSize, Fits, Stance, Tells, SameBelow, tallyAt, placeAt, claimedIn, endOf, servingView};
 ghost use Rattle.claims.specs.inside.Spans.{coveredViews, highestTo, Within};
-ghost use Rattle.claims.specs.Table.{column, tableSize, reporter, reportsIn};
+ghost use Rattle.claims.specs.Table.{column, tableSize, reporter, reportsInTable};
 
 // The places of a column, one for each vault, and of the table.
 pub const COLUMN: usize = 64;
@@ -88,7 +88,7 @@ fn is_at(above: u64, w: u64) -> bool
 // Rules 2 and 4: which plans vault r claims at view w. Its previous vote claims every plan, its highest vote its own.
 fn claim_share<'a>(table: &'a [u64], r: usize, w: u64) -> Tally
     requires { ⌜ (length (now table) ≡ tableSize) × (r < column) ⌝ }
-    ensures { λ t. ⌜ Stance (λ p. reporting (reportsIn (now (table .entry))) (claims p w) r) (getD (now (table .entry)) (column * 2 + r) 0) (t .every) (t .some) ⌝ }
+    ensures { λ t. ⌜ Stance (λ p. reporting (reportsInTable (now (table .entry))) (claims p w) r) (getD (now (table .entry)) (column * 2 + r) 0) (t .every) (t .some) ⌝ }
 {
     if reported(table, r) {
         if is_at(table[PREVIOUS + r], w) {
@@ -105,7 +105,7 @@ fn claim_share<'a>(table: &'a [u64], r: usize, w: u64) -> Tally
 // Who claims which plan at view w: the row of plans is written from place at on. A plan that does not count is written over.
 pub fn claims_at<'a>(table: &'a [u64], n: usize, w: u32, plans: &mut [u64], at: usize) -> Tally
     requires { ⌜ (length (now table) ≡ tableSize) × (n ≤ column) × (length (now plans) ≡ rowsSize) × (at + column ≤ rowsSize) ⌝ }
-    ensures { λ t. ⌜ (length (now (plans .exit)) ≡ rowsSize) × SameBelow (now (plans .entry)) (now (plans .exit)) at × Tells (reportsIn (now (table .entry))) n (λ p. claims p w) (now (plans .exit)) at t ⌝ }
+    ensures { λ t. ⌜ (length (now (plans .exit)) ≡ rowsSize) × SameBelow (now (plans .entry)) (now (plans .exit)) at × Tells (reportsInTable (now (table .entry))) n (λ p. claims p w) (now (plans .exit)) at t ⌝ }
 {
     let view = w as u64;
     let mut every: usize = 0;

@@ -20,7 +20,7 @@ use Rattle.keeping.specs.Kept.{keptIn, keptFrame, headSlot}
 use Rattle.keeping.specs.inside.Kept.{keepFrame}
 use Rattle.protocol.specs.Record.{when, reported, spelt}
 use Rattle.protocol.specs.Pass.{hasPrevious}
-use Rattle.contents.specs.Contents.{keptOf, previousOf, contents, headOf, toldOf, slotAt}
+use Rattle.contents.specs.Contents.{keptOf, previousOf, contents, headOf, reportOfFrame, slotAt}
 use Rattle.contents.specs.Lent.{Clean}
 use Rattle.contents.proofs.Kept.{Puts, putsKeep, keptPut, headStays, toldStays, keptStays, farStays, byPlace, previousBounds}
 use Rattle.contents.proofs.Places.{slotHead, slotTold, slotPrevious, slotDecision, everywhere}
@@ -28,7 +28,7 @@ use Rattle.contents.proofs.Places.{slotHead, slotTold, slotPrevious, sl
 -- Each slot holds what is read off it.
 pub record Filled (s : ℕ → Report) : Type 0 where
   pub head : (k j : ℕ) → 1 ≤ k → k ≤ kinds → j < rows → s (frameSlot k j) ≡ headOf (keptIn s k j)
-  pub told : (k w j : ℕ) → 7 ≤ k → k ≤ kinds → w < 3 → j < rows → s (reportSlot k w j) ≡ toldOf w (keptIn s k j)
+  pub told : (k w j : ℕ) → 7 ≤ k → k ≤ kinds → w < 3 → j < rows → s (reportSlot k w j) ≡ reportOfFrame w (keptIn s k j)
   pub previous : (k : ℕ) → hasPrevious k ≡ true → s (previousSlot (suc k)) ≡ spelt (reported (s (previousSlot (suc k))))
   pub decision : s decisionSlot ≡ spelt (reported (s decisionSlot))
 
@@ -60,7 +60,7 @@ module _ (r : slots.Record) where
       there : (i : ℕ) → i < slotCount → slotOf r i ≡ slotAt (contents r) i
       there = everywhere (λ (i : ℕ). slotOf r i ≡ slotAt (contents r) i)
           (λ k j low high row. h .head k j low high row ∙ ap headOf (sym (keptAt r k j low high row)) ∙ sym (slotHead (contents r) k j low high row))
-          (λ k w j low high lw row. h .told k w j low high lw row ∙ ap (toldOf w) (sym (keptAt r k j (omega arith) high row))
+          (λ k w j low high lw row. h .told k w j low high lw row ∙ ap (reportOfFrame w) (sym (keptAt r k j (omega arith) high row))
           ∙ sym (slotTold (contents r) k w j low high lw row))
           (λ k has. h .previous k has ∙ ap spelt (sym (previousAt r k has)) ∙ sym (slotPrevious (contents r) k has))
           (h .decision ∙ ap spelt (sym (decisionAt r)) ∙ sym (slotDecision (contents r)))
@@ -82,7 +82,7 @@ module _ (r : slots.Record) where
   filledOf h = record {
     head = λ k j low high row. filledAt h (frameSlot k j) (omega arith) ∙ slotHead (contents r) k j low high row ∙ ap headOf (keptAt r k j low high row);
     told = λ k w j low high lw row. filledAt h (reportSlot k w j) (omega arith) ∙ slotTold (contents r) k w j low high lw row
-        ∙ ap (toldOf w) (keptAt r k j (omega arith) high row);
+        ∙ ap (reportOfFrame w) (keptAt r k j (omega arith) high row);
     previous = λ k has. let (low, high) = previousBounds k has in filledAt h (previousSlot (suc k)) (omega arith) ∙ slotPrevious (contents r) k has
         ∙ ap spelt (previousAt r k has);
     decision = filledAt h decisionSlot (omega arith) ∙ slotDecision (contents r) ∙ ap spelt (decisionAt r);
@@ -114,12 +114,12 @@ module _ (r : slots.Record) (f : Frame) (h : Clean r) (row : f .sender < rows) (
         headStays r f row fit k j low high below ne ∙ was .head k j low high below
         ∙ ap headOf (sym (keptStays r f row fit k j low high below ne)));
     told = λ k w j low high lw below. byPlace r f row fit k j
-        (λ e ek ej. subst (λ (k : ℕ). s (reportSlot k w j) ≡ toldOf w (keptIn s k j)) ek
-        (subst (λ (j : ℕ). s (reportSlot (f .kind) w j) ≡ toldOf w (keptIn s (f .kind) j)) ej
-        (puts .told w lw (omega arith) ∙ ap (toldOf w) (sym there))))
+        (λ e ek ej. subst (λ (k : ℕ). s (reportSlot k w j) ≡ reportOfFrame w (keptIn s k j)) ek
+        (subst (λ (j : ℕ). s (reportSlot (f .kind) w j) ≡ reportOfFrame w (keptIn s (f .kind) j)) ej
+        (puts .told w lw (omega arith) ∙ ap (reportOfFrame w) (sym there))))
         (λ e ne.
         toldStays r f row fit k j (omega arith) high below ne w lw low ∙ was .told k w j low high lw below
-        ∙ ap (toldOf w) (sym (keptStays r f row fit k j (omega arith) high below ne)));
+        ∙ ap (reportOfFrame w) (sym (keptStays r f row fit k j (omega arith) high below ne)));
     previous = λ k has. let (low, high) = previousBounds k has in asWas (farStays r f row fit (previousSlot (suc k)) (omega arith)) (was .previous k has);
     decision = asWas (farStays r f row fit decisionSlot (omega arith)) (was .decision);
   }

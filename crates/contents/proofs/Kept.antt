@@ -29,7 +29,7 @@ use Rattle.keeping.proofs.Forms.{bodyPlan, bodyBare, bodyReports, keptThere, fi
 use Rattle.protocol.specs.Record.{when, reported, keeping}
 use Rattle.protocol.specs.Pass.{hasPrevious}
 use Rattle.protocol.specs.Calls.{keep}
-use Rattle.contents.specs.Contents.{keptOf, previousOf, contents, nth, toldBy}
+use Rattle.contents.specs.Contents.{keptOf, previousOf, contents, nth, reportOfBody}
 
 -- ---- what slots hold
 
@@ -53,13 +53,13 @@ module _ (s t : ℕ → Report) (k j : ℕ) (head : s (frameSlot k j) ≡ t (fra
 
 -- Slots that hold a frame's head, and its reports where it has any, hold that frame.
 module _ (s : ℕ → Report) (f : Frame) (fit : fits (f .kind) (f .body) ≡ true) (head : s (frameSlot (f .kind) (f .sender)) ≡ headSlot f)
-    (told : (w : ℕ) → w < 3 → 7 ≤ f .kind → s (reportSlot (f .kind) w (f .sender)) ≡ toldBy w (f .body)) where
+    (told : (w : ℕ) → w < 3 → 7 ≤ f .kind → s (reportSlot (f .kind) w (f .sender)) ≡ reportOfBody w (f .body)) where
   -- The body that they hold is the frame's.
   bodyIs : bodyIn s (f .kind) (f .sender) ≡ f .body
   bodyIs = go (f .body) fit (ap (λ (x : Report). x .plan) head) told
     where
       go : (b : Body) → fits (f .kind) b ≡ true → s (frameSlot (f .kind) (f .sender)) .plan ≡ planOf b
-          → ((w : ℕ) → w < 3 → 7 ≤ f .kind → s (reportSlot (f .kind) w (f .sender)) ≡ toldBy w b)
+          → ((w : ℕ) → w < 3 → 7 ≤ f .kind → s (reportSlot (f .kind) w (f .sender)) ≡ reportOfBody w b)
           → bodyIn s (f .kind) (f .sender) ≡ b
       go (Plan p) fit head told = let (low, high) = bounds 1 5 (f .kind) fit in bodyPlan s (f .kind) (f .sender) low high ∙ ap Plan head
       go Empty fit head told = bodyBare s (f .kind) (f .sender) (eqb-true (f .kind) 6 fit)
@@ -115,7 +115,7 @@ module _ (r : slots.Record) (k j : ℕ) (t : Reports) where
 -- Slots t are s with a head and a body put into the places of a kind and a sender.
 pub record Puts (k j : ℕ) (x : Report) (b : Body) (s t : ℕ → Report) : Type 0 where
   pub head : t (frameSlot k j) ≡ x
-  pub told : (w : ℕ) → w < 3 → 7 ≤ k → t (reportSlot k w j) ≡ toldBy w b
+  pub told : (w : ℕ) → w < 3 → 7 ≤ k → t (reportSlot k w j) ≡ reportOfBody w b
   pub other : (i : ℕ) → i ≢ frameSlot k j → ((w : ℕ) → w < 3 → 7 ≤ k → i ≢ reportSlot k w j) → t i ≡ s i
 
 module _ (r : slots.Record) (f : Frame) where

@@ -16,7 +16,7 @@ use Rattle.layout.specs.Size.{recordSize}
 use Rattle.layout.proofs.Laws.{fitsDecoded}
 use Rattle.sound.specs.declared.Lent.the-variants.{Blank, Unsound, Sound}
 use Rattle.sound.specs.inside.Sound.{sound, lentIs}
-use Rattle.sound.proofs.Laws.{lent-blank}
+use Rattle.sound.proofs.Laws.{lentBlank}
 use Rattle.contents.specs.Lent.{IsSound, LentIsSaid}
 use Rattle.contents.proofs.Widths.{rangedFits}
 use Rattle.contents.proofs.Ready.{readyLent, lentReady}
@@ -32,7 +32,7 @@ blankOnly false b c e = let z : _≡_ {A = ℕ} 0 1 = cc in absurd (omega arith)
 pub blankIsLent : (s : List ℕ) → ((length s ≡ recordSize) × (getD s 0 0 ≡ 0)) ↔ (lentIs s ≡ Blank)
 unfolding lentIs decodeRecord
 blankIsLent s = (
-  λ (size, n). lent-blank s size n,
+  λ (size, n). lentBlank s size n,
   λ e.
       let (size, n) = blankOnly (eqb (length s) recordSize) (eqb (decodeRecord s .set .n) 0) (sound (decodeRecord s)) e in
       (eqb-true (length s) recordSize size, eqb-true (decodeRecord s .set .n) 0 n),

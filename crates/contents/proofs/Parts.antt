@@ -26,7 +26,7 @@ use Rattle.protocol.specs.Record.{changed, when, reported, spelt}
 use Rattle.protocol.specs.Tables.{put}
 use Rattle.protocol.specs.Pass.{hasPrevious}
 use Rattle.protocol.specs.Calls as protocol
-use Rattle.contents.specs.Contents.{keptOf, previousOf, contents, headOf, toldOf}
+use Rattle.contents.specs.Contents.{keptOf, previousOf, contents, headOf, reportOfFrame}
 use Rattle.contents.specs.Lent.{Clean}
 use Rattle.contents.proofs.Kept.{keptSame, guarded, guardedNone, previousBounds}
 use Rattle.contents.proofs.Clean.{Filled, asWas, cleanOf, beyondOf, filledOf}
@@ -72,7 +72,7 @@ module _ (r : slots.Record) (at : ℕ) (x : Report) (far : firstPrevious ≤ at)
   cleanBeside h low vote = cleanOf (withSlot r at x) far′ (record {
     head = λ k j low high row. frameStays k j low high row ∙ was .head k j low high row ∙ ap headOf (sym (frameKept k j low high row));
     told = λ k w j low high lw row. reportStays k w j high lw row ∙ was .told k w j low high lw row
-        ∙ ap (toldOf w) (sym (frameKept k j (omega arith) high row));
+        ∙ ap (reportOfFrame w) (sym (frameKept k j (omega arith) high row));
     previous = λ k has. votes (previousSlot (suc k)) (was .previous k has);
     decision = votes decisionSlot (was .decision);
   })
@@ -196,7 +196,7 @@ module _ (set : Settings) (plan : ℕ) where
   pub cleanFresh : Clean (fresh set plan)
   cleanFresh = cleanOf (fresh set plan) (λ i far. slotFresh i) (record {
     head = λ k j low high row. slotFresh (frameSlot k j) ∙ ap headOf (sym (keptFresh k j));
-    told = λ k w j low high lw row. slotFresh (reportSlot k w j) ∙ ap (toldOf w) (sym (keptFresh k j));
+    told = λ k w j low high lw row. slotFresh (reportSlot k w j) ∙ ap (reportOfFrame w) (sym (keptFresh k j));
     previous = λ k has. asWas (slotFresh (previousSlot (suc k))) refl;
     decision = asWas (slotFresh decisionSlot) refl;
   })

@@ -10,7 +10,7 @@ use borrow.Author.Tests.{lt-ltb, le-ltb}
 use Rattle.record.specs.Slots.{rows, kinds, reportRows, firstReport, firstPrevious, slotCount, frameSlot, reportSlot, previousSlot, decisionSlot}
 use Rattle.protocol.specs.Record.{Record, spelt}
 use Rattle.protocol.specs.Pass.{hasPrevious}
-use Rattle.contents.specs.Contents.{headOf, toldOf, slotAt}
+use Rattle.contents.specs.Contents.{headOf, reportOfFrame, slotAt}
 use Rattle.contents.proofs.Kept.{previousBounds}
 
 -- ---- what contents put there
@@ -27,7 +27,7 @@ module _ (c : Record) where
       there ∙ (λ i. headOf (c .kept (kind i) (sender i)))
 
   -- At the place of one of its reports stands that report.
-  pub slotTold : (k w j : ℕ) → 7 ≤ k → k ≤ kinds → w < 3 → j < rows → slotAt c (reportSlot k w j) ≡ toldOf w (c .kept k j)
+  pub slotTold : (k w j : ℕ) → 7 ≤ k → k ≤ kinds → w < 3 → j < rows → slotAt c (reportSlot k w j) ≡ reportOfFrame w (c .kept k j)
   unfolding slotAt
   slotTold k w j low high lw row =
       let kind : 7 + (reportSlot k w j - firstReport) / reportRows ≡ k = omega arith in

@@ -17,7 +17,7 @@ use Rattle.layout.specs.inside.Layout.{Holds}
 use Rattle.layout.proofs.Theorems.{encodeDecode}
 use Rattle.sound.specs.declared.Lent.the-variants as lent
 use Rattle.sound.specs.inside.Sound.{lentIs}
-use Rattle.sound.proofs.Laws.{lent-other}
+use Rattle.sound.proofs.Laws.{lentOther}
 use Rattle.protocol.specs.Record.{Record}
 use Rattle.protocol.specs.inside.Sound.{Ranged}
 use Rattle.protocol.specs.Sound.{Sound}
@@ -78,7 +78,7 @@ readyLent rec bytes e =
 -- And bytes that are ready are sound when they are lent.
 pub lentReady : {rec : List ℕ} → Ready rec → lentIs rec ≡ lent.Sound
 lentReady {rec} h =
-    lent-other rec (h .size) (λ (e : decodeRecord rec .set .n ≡ 0). omega (arith, readyAllowed h .own))
+    lentOther rec (h .size) (λ (e : decodeRecord rec .set .n ≡ 0). omega (arith, readyAllowed h .own))
     ∙ ap (λ (b : Bool). cond b lent.Sound lent.Unsound) (soundContents (decodeRecord rec) (h .clean) (h .sound))
 
 -- ---- bytes that are ready are those that their contents spell

@@ -23,7 +23,7 @@ use Rattle.protocol.specs.Record.{Record, when, reported, spelt}
 use Rattle.protocol.specs.Pass.{hasPrevious}
 use Rattle.protocol.specs.Sound.{Sound}
 use Rattle.protocol.proofs.Sound.{sizeBelow}
-use Rattle.contents.specs.Contents.{keptOf, previousOf, contents, headOf, toldOf, slotAt, slotted}
+use Rattle.contents.specs.Contents.{keptOf, previousOf, contents, headOf, reportOfFrame, slotAt, slotted}
 use Rattle.contents.specs.Lent.{Clean}
 use Rattle.contents.proofs.Kept.{keptIs, guardedNone, previousBounds}
 use Rattle.contents.proofs.Places.{slotHead, slotTold, slotPrevious, slotDecision}
@@ -71,7 +71,7 @@ module _ (c : Record) (sound : Sound c) where
   headSlotted k j low high row = slotSlotted c (frameSlot k j) (omega arith) ∙ slotHead c k j low high row
 
   -- A report's slot is filled with the report.
-  toldSlotted : (k w j : ℕ) → 7 ≤ k → k ≤ kinds → w < 3 → j < rows → s (reportSlot k w j) ≡ toldOf w (c .kept k j)
+  toldSlotted : (k w j : ℕ) → 7 ≤ k → k ≤ kinds → w < 3 → j < rows → s (reportSlot k w j) ≡ reportOfFrame w (c .kept k j)
   toldSlotted k w j low high lw row = slotSlotted c (reportSlot k w j) (omega arith) ∙ slotTold c k w j low high lw row
 
   -- A previous vote's slot is filled with that vote.
@@ -94,7 +94,7 @@ module _ (c : Record) (sound : Sound c) where
           let is = sound .kept k j x e in
           subst (λ (k : ℕ). keptIn s k j ≡ some x) (is .kind) (subst (λ (j : ℕ). keptIn s (x .kind) j ≡ some x) (is .sender) (keptIs s x (is .valid .shape)
           (rw (is .kind, is .sender) (headSlotted k j low high row ∙ ap headOf e))
-          (λ w lw seven. rw (is .kind, is .sender) (toldSlotted k w j (rw (is .kind) at seven) high lw row ∙ ap (toldOf w) e))))
+          (λ w lw seven. rw (is .kind, is .sender) (toldSlotted k w j (rw (is .kind) at seven) high lw row ∙ ap (reportOfFrame w) e))))
 
   -- Every kept frame is read back, also where there are no slots: a sound record keeps none there.
   keptSlotted : (k j : ℕ) → keptOf (slotted c) k j ≡ c .kept k j
@@ -140,7 +140,7 @@ module _ (c : Record) (sound : Sound c) where
   pub cleanSlotted : Clean (slotted c)
   cleanSlotted = cleanOf (slotted c) (slotBeyond c) (record {
     head = λ k j low high row. headSlotted k j low high row ∙ ap headOf (sym (keptBack k j low high row));
-    told = λ k w j low high lw row. toldSlotted k w j low high lw row ∙ ap (toldOf w) (sym (keptBack k j (omega arith) high row));
+    told = λ k w j low high lw row. toldSlotted k w j low high lw row ∙ ap (reportOfFrame w) (sym (keptBack k j (omega arith) high row));
     previous = λ k has. votes (c .previous k) (previousSlotted k has);
     decision = votes (c .decision) decisionSlotted;
   })

@@ -19,7 +19,7 @@ use Rattle.frame.specs.declared.Report.{Report}
 use Rattle.frame.specs.declared.Frame.{Frame}
 use Rattle.frame.specs.Format.{within}
 use Rattle.frame.specs.Refusal.{first, present, badForm, badPrevious, contentRows, leaderRows}
-use Rattle.frame.proofs.Laws.{form, bounds, Positive, first-none, first-both}
+use Rattle.frame.proofs.Laws.{form, bounds, Positive, firstNone, firstBoth}
 use Rattle.settings.specs.declared.Settings.{Settings}
 use Rattle.record.specs.Slots as slots
 use Rattle.record.specs.Slots.{rows, kinds, frameSlot, previousSlot, decisionSlot, slotOf}
@@ -32,7 +32,7 @@ use Rattle.keeping.specs.Kept.{frameIn, keptFrame}
 use Rattle.keeping.proofs.Forms.{keptThere, keptNothing}
 use Rattle.sound.specs.declared.Lent.the-variants as lent
 use Rattle.sound.specs.inside.Sound.{emptyAt, noPlan, ahead, frameSound, placeSound, kindSound, rowsSound, stands, previousSound, votesSound, soundIn, sound, lentIs}
-use Rattle.sound.proofs.Laws.{place-empty, place-frame, lent-other}
+use Rattle.sound.proofs.Laws.{placeEmpty, placeOfFrame, lentOther}
 use Rattle.protocol.specs.Record.{Record, spelt, voteOf}
 use Rattle.protocol.specs.Pass.{hasPrevious}
 use Rattle.settings.specs.Settings.{settingRows}
@@ -69,7 +69,7 @@ module _ (set : Settings) (view : ℕ) (f : Frame) where
   passedOf h =
       let (a, t) = bothSplit (ltb (f .sender) (set .n)) (not (ahead set view f) && eqb (first (contentRows f ++ leaderRows f (set .n) (set .id))) 0) h in
       let (b, c) = bothSplit (not (ahead set view f)) (eqb (first (contentRows f ++ leaderRows f (set .n) (set .id))) 0) t in
-      let (d, e) = first-both (contentRows f) (leaderRows f (set .n) (set .id)) positive
+      let (d, e) = firstBoth (contentRows f) (leaderRows f (set .n) (set .id)) positive
       (eqb-true (first (contentRows f ++ leaderRows f (set .n) (set .id))) 0 c) in
       record { row = ltb-true (f .sender) (set .n) a; behind = not-true (ahead set view f) b; content = d; leader = e }
 
@@ -80,7 +80,7 @@ module _ (set : Settings) (view : ℕ) (f : Frame) where
       (lt-ltb (f .sender) (set .n) (p .row))
       (bothJoin (not (ahead set view f)) (eqb (first (contentRows f ++ leaderRows f (set .n) (set .id))) 0) (ap not (p .behind))
       (eq-eqb (first (contentRows f ++ leaderRows f (set .n) (set .id))) 0
-      (first-none (contentRows f) (leaderRows f (set .n) (set .id)) positive (p .content) ∙ p .leader)))
+      (firstNone (contentRows f) (leaderRows f (set .n) (set .id)) positive (p .content) ∙ p .leader)))
 
   -- 'no frame in its own row but the view-change is above the current view'.
   notAhead : f .sender ≡ set .id → f .kind ≢ 6 → ahead set view f ≡ false → f .view ≤ view
@@ -116,14 +116,14 @@ keptWas r k j x e =
     let (mark, same) = go is (which (present (slotOf r (frameSlot k j)))) in
     record { low = low; high = high; row = ltb-true j rows gj; mark = mark; is = same }
   where
-    some-is : {y : Frame} → some y ≡ some x → y ≡ x
-    some-is e = cc
+    someIs : {y : Frame} → some y ≡ some x → y ≡ x
+    someIs e = cc
 
     go : keptFrame r k j ≡ some x → (present (slotOf r (frameSlot k j)) ≡ true) ⊎ (present (slotOf r (frameSlot k j)) ≡ false)
         → (slotOf r (frameSlot k j) .mark ≡ 1) × (frameIn (slotOf r) k j ≡ x)
     go is (inl p) =
         let m = eqb-true (slotOf r (frameSlot k j) .mark) 1 p in
-        (m, some-is (sym (keptThere (slotOf r) k j m) ∙ is))
+        (m, someIs (sym (keptThere (slotOf r) k j m) ∙ is))
     go is (inr p) = absurd (none≢some (sym (keptNothing (slotOf r) k j (eqb-false (slotOf r (frameSlot k j) .mark) 1 p)) ∙ is))
 
 -- A previous vote stands to its highest by contents as it does in slots.
@@ -182,7 +182,7 @@ module _ (r : slots.Record) (z : layout.Fits r) (h : sound r ≡ true) where
       go (inl e) = let m = eqb-true (s (frameSlot k j) .mark) 1 e in heldThere s k j (form k low high) m (framePass k j low high row m .0)
       go (inr e) =
           let m = eqb-false (s (frameSlot k j) .mark) 1 e in
-          heldNot s k j m (sym (place-empty s (r .set) (r .view) k j m) ∙ placePass k j low high row)
+          heldNot s k j m (sym (placeEmpty s (r .set) (r .view) k j m) ∙ placePass k j low high row)
 
   -- The tests of the two previous votes and of the decision pass.
   votesPass : (previousSound s (r .set .id) 2 ≡ true) × (previousSound s (r .set .id) 3 ≡ true) × (badForm (s decisionSlot) ≡ false)
@@ -295,11 +295,11 @@ module _ (r : slots.Record) (clean : Clean r) (given : Sound (contents r)) where
       go (inl e) =
           let m = eqb-true (u (frameSlot k j) .mark) 1 e in
           let head = heldGiven k j low high row .head ∙ ap headOf (keptThere u k j m) in
-          place-frame u (r .set) (r .view) k j m (planOnly u k j (form k low high) (ap (λ (x : Report). x .plan) head))
+          placeOfFrame u (r .set) (r .view) k j m (planOnly u k j (form k low high) (ap (λ (x : Report). x .plan) head))
           ∙ passedSound (r .set) (r .view) (frameIn u k j) (passedGiven k j low high row m)
       go (inr e) =
           let m = eqb-false (u (frameSlot k j) .mark) 1 e in
-          place-empty u (r .set) (r .view) k j m ∙ emptyOf u k j m (heldGiven k j low high row)
+          placeEmpty u (r .set) (r .view) k j m ∙ emptyOf u k j m (heldGiven k j low high row)
 
   -- And all of them together.
   rowsGiven : rowsSound u (r .set) (r .view) ≡ true
@@ -381,5 +381,5 @@ module _ (c : Record) (held : Sound c) (ranged : Ranged c) (two : Placed c) wher
   -- So bytes that contents spell are sound when they are lent.
   pub lentBack : lentIs (encodeRecord (slotted c)) ≡ lent.Sound
   lentBack =
-      lent-other (encodeRecord (slotted c)) (encodeSize (slotted c)) notBlank
+      lentOther (encodeRecord (slotted c)) (encodeSize (slotted c)) notBlank
       ∙ ap (λ (b : Bool). cond b lent.Sound lent.Unsound) (ap sound decodedBack ∙ soundBack)

@@ -21,7 +21,7 @@ use Rattle.layout.specs.Size.{recordSize}
 use Rattle.layout.proofs.Theorems.{encodeBytes}
 use Rattle.sound.specs.declared.Lent.{Lent}
 use Rattle.sound.specs.inside.Sound.{lentIs}
-use Rattle.sound.proofs.Laws.{lent-blank}
+use Rattle.sound.proofs.Laws.{lentBlank}
 use Rattle.protocol.specs.Record.{Record, reported}
 use Rattle.protocol.specs.Pass.{hasPrevious, Out}
 use Rattle.protocol.specs.Calls.{Call, accepted, answer}
@@ -111,7 +111,7 @@ zerosBytes i = omega (arith, zeroAt recordSize i)
 -- They spell a blank record, as n is 0.
 zerosBlank : Spells zeros none
 unfolding decodeRecord
-zerosBlank = lent-blank zeros (length-replicate {A = ℕ} recordSize 0) (zeroAt recordSize 0)
+zerosBlank = lentBlank zeros (length-replicate {A = ℕ} recordSize 0) (zeroAt recordSize 0)
 
 -- ---- calls
 

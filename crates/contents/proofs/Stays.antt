@@ -17,7 +17,7 @@ use Rattle.protocol.specs.Record.{Record}
 use Rattle.protocol.specs.Tables.{put}
 use Rattle.settings.specs.declared.Settings.{Settings}
 use Rattle.protocol.specs.Pass.{Act, ask, enter, cast, decide, hasPrevious, does, Out, Step, taken, pass}
-use Rattle.protocol.specs.Calls.{recordRows, timerRows, fresh, started, keep, heard, wanted, rung, Call, start, frame, timer, short, accepted, answer}
+use Rattle.protocol.specs.Calls.{recordRows, timerRows, fresh, started, keep, heard, wanted, timedOut, Call, start, frame, timer, short, accepted, answer}
 use Rattle.settings.specs.Settings.{settingRows}
 use Rattle.protocol.proofs.Tables.{putOther}
 use Rattle.protocol.proofs.Good.{doesSet}
@@ -47,7 +47,7 @@ module _ (P : Record → Type 0) (acts : (r : Record) (a : Act) → P r → P (d
 
   -- And of what an accepted call leaves, as it holds through keeping a frame too.
   callStays : (b : Option Record) (a : Call) → From P b a → (o : Out) → answer b a ≡ accepted o → P (o .left)
-  unfolding answer started heard rung
+  unfolding answer started heard timedOut
   callStays none (start s p) h o e =
       let (given, same) = unlessAccepted (first (settingRows s)) (started s p) e in
       subst (λ (u : Out). P (u .left)) same (passStays sureC (fresh s p) h)
@@ -61,7 +61,7 @@ module _ (P : Record → Type 0) (acts : (r : Record) (a : Act) → P r → P (d
       let (given, same) = unlessAccepted (first (recordRows r x)) (heard r x) e in
       subst (λ (u : Out). P (u .left)) same (passStays sureA (keep x r) (keeps x r h))
   callStays (some r) (timer v) h o e =
-      let (given, same) = unlessAccepted (first (timerRows r v)) (rung r) e in
+      let (given, same) = unlessAccepted (first (timerRows r v)) (timedOut r) e in
       subst (λ (u : Out). P (u .left)) same (passStays sureA (does r (ask (wanted r))) (acts r (ask (wanted r)) h))
 
 -- An accepted call leaves a record with the settings that it began with.

@@ -26,9 +26,9 @@ use Rattle.layout.specs.inside.Layout.{Small}
 use Rattle.keeping.specs.Kept.{reportsIn, bodyIn, frameIn, keptIn, planOf}
 use Rattle.keeping.proofs.Forms.{bodyPlan, bodyBare, bodyReports, keptThere, keptNothing}
 use Rattle.sound.specs.inside.Sound.{all, reportsAbsent, emptyAt, noPlan}
-use Rattle.sound.proofs.Laws.{all-stop}
+use Rattle.sound.proofs.Laws.{allStop}
 use Rattle.protocol.specs.Record.{reported, spelt}
-use Rattle.contents.specs.Contents.{headOf, nth, toldBy, toldOf}
+use Rattle.contents.specs.Contents.{headOf, nth, reportOfBody, reportOfFrame}
 
 -- ---- a test of all numbers below n
 
@@ -38,7 +38,7 @@ allAt test n i h low = go (which (test i))
   where
     go : (test i ≡ true) ⊎ (test i ≡ false) → test i ≡ true
     go (inl e) = e
-    go (inr e) = absurd (clash h (all-stop test n i low e))
+    go (inr e) = absurd (clash h (allStop test n i low e))
 
 -- And back.
 pub allOf : (test : ℕ → Bool) (n : ℕ) → ((i : ℕ) → i < n → test i ≡ true) → all test n ≡ true
@@ -85,7 +85,7 @@ formedOf x e = ap badForm e ∙ go (reported x)
 -- They hold what is read off them.
 pub record Held (s : ℕ → Report) (k j : ℕ) : Type 0 where
   pub head : s (frameSlot k j) ≡ headOf (keptIn s k j)
-  pub told : (w : ℕ) → w < 3 → 7 ≤ k → s (reportSlot k w j) ≡ toldOf w (keptIn s k j)
+  pub told : (w : ℕ) → w < 3 → 7 ≤ k → s (reportSlot k w j) ≡ reportOfFrame w (keptIn s k j)
 
 module _ (s : ℕ → Report) (k j : ℕ) where
   -- The frame's own slot.
@@ -126,7 +126,7 @@ module _ (s : ℕ → Report) (k j : ℕ) where
       let kept = keptThere s k j e in
       record {
         head = (λ i. record { mark = e i; view = x .view; plan = p i }) ∙ ap headOf (sym kept);
-        told = λ w lw seven. nthIn w lw ∙ ap (toldBy w) (sym (bodyReports s k j seven)) ∙ ap (toldOf w) (sym kept);
+        told = λ w lw seven. nthIn w lw ∙ ap (reportOfBody w) (sym (bodyReports s k j seven)) ∙ ap (reportOfFrame w) (sym kept);
       }
 
   -- Slots that are all empty hold no frame and nothing besides.
@@ -138,7 +138,7 @@ module _ (s : ℕ → Report) (k j : ℕ) where
       record {
         head = absentIs x a ∙ ap headOf (sym kept);
         told = λ w lw seven. absentIs (s (reportSlot k w j)) (each w lw (ap (λ (b : Bool). b || reportsAbsent s k j) (sym (le-ltb k 7 (omega arith))) ∙ b))
-            ∙ ap (toldOf w) (sym kept);
+            ∙ ap (reportOfFrame w) (sym kept);
       }
     where
       each : (w : ℕ) → w < 3 → reportsAbsent s k j ≡ true → absent (s (reportSlot k w j)) ≡ true
@@ -160,7 +160,7 @@ module _ (s : ℕ → Report) (k j : ℕ) where
   emptyOf e h =
       let kept = keptNothing s k j e in
       bothJoin (absent x) (ltb k 7 || reportsAbsent s k j) (ap absent (h .head ∙ ap headOf kept))
-      (go (decLt k 7) (λ w lw seven. ap absent (h .told w lw seven ∙ ap (toldOf w) kept)))
+      (go (decLt k 7) (λ w lw seven. ap absent (h .told w lw seven ∙ ap (reportOfFrame w) kept)))
     where
       go : Dec (k < 7) → ((w : ℕ) → w < 3 → 7 ≤ k → absent (s (reportSlot k w j)) ≡ true) → (ltb k 7 || reportsAbsent s k j) ≡ true
       go (yes low) told = orLeft (ltb k 7) (reportsAbsent s k j) (lt-ltb k 7 low)

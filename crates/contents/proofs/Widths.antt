@@ -33,7 +33,7 @@ use Rattle.protocol.proofs.Tables.{whenSome}
 use Rattle.protocol.proofs.Slots.{viewFits}
 use Rattle.protocol.proofs.Went.{noneGiven, thirdOf}
 use Rattle.protocol.proofs.Sound.{idBelow, sizeBelow}
-use Rattle.contents.specs.Contents.{previousOf, contents, headOf, toldBy, toldOf, slotAt, slotted}
+use Rattle.contents.specs.Contents.{previousOf, contents, headOf, reportOfBody, reportOfFrame, slotAt, slotted}
 use Rattle.contents.proofs.Places.{slotHead, slotTold, slotPrevious, slotDecision, everywhere}
 use Rattle.contents.proofs.Slotted.{slotSlotted, slotBeyond}
 
@@ -79,10 +79,10 @@ module _ (x : Frame) (valid : Valid x) where
       go (Told t) s = omega arith
 
   -- So have its reports.
-  smallTold : (w : ℕ) → Small (toldBy w (x .body))
+  smallTold : (w : ℕ) → Small (reportOfBody w (x .body))
   smallTold w = go (x .body) (valid .sized) w
     where
-      go : (b : Body) → wire.Sized (headFields x ++ bodyFields b) → (w : ℕ) → Small (toldBy w b)
+      go : (b : Body) → wire.Sized (headFields x ++ bodyFields b) → (w : ℕ) → Small (reportOfBody w b)
       go (Plan p) s w = smallEmpty
       go Empty s w = smallEmpty
       go (Told t) s zero = let m = s .1 .1 .1 in record { mark = m .0; view = m .1 .0; plan = m .1 .1 .0 }
@@ -102,7 +102,7 @@ module _ (c : Record) (sound : Sound c) (ranged : Ranged c) where
       head none valid = smallEmpty
       head (some x) valid = smallHead x (valid x refl)
 
-      told : (w : ℕ) (o : Option Frame) → ((x : Frame) → o ≡ some x → Valid x) → Small (toldOf w o)
+      told : (w : ℕ) (o : Option Frame) → ((x : Frame) → o ≡ some x → Valid x) → Small (reportOfFrame w o)
       told w none valid = smallEmpty
       told w (some x) valid = smallTold x (valid x refl) w
 

@@ -55,21 +55,21 @@ nth (suc zero) t = t .previous
 nth (suc (suc j)) t = t .lock
 
 -- Report j of a kept suggest or proof.
-abbrev pub toldBy : ℕ → Body → Report
-toldBy j (Plan p) = emptySlot
-toldBy j Empty = emptySlot
-toldBy j (Told t) = nth j t
+abbrev pub reportOfBody : ℕ → Body → Report
+reportOfBody j (Plan p) = emptySlot
+reportOfBody j Empty = emptySlot
+reportOfBody j (Told t) = nth j t
 
-abbrev pub toldOf : ℕ → Option Frame → Report
-toldOf j none = emptySlot
-toldOf j (some f) = toldBy j (f .body)
+abbrev pub reportOfFrame : ℕ → Option Frame → Report
+reportOfFrame j none = emptySlot
+reportOfFrame j (some f) = reportOfBody j (f .body)
 
 -- What stands at a slot: the kept frames by kind and sender, from the view-changes on in a circle; the reports by kind, report and
 -- sender; two previous votes; and the decision.
 unfoldable pub slotAt : Record → ℕ → Report
 slotAt c i =
     cond (ltb i firstReport) (headOf (c .kept (suc ((i / rows + 5) % kinds)) (i % rows)))
-    (cond (ltb i firstPrevious) (toldOf ((i - firstReport) / rows % 3) (c .kept (7 + (i - firstReport) / reportRows) (i % rows)))
+    (cond (ltb i firstPrevious) (reportOfFrame ((i - firstReport) / rows % 3) (c .kept (7 + (i - firstReport) / reportRows) (i % rows)))
     (cond (ltb i decisionSlot) (spelt (c .previous (suc (i - firstPrevious)))) (spelt (c .decision))))
 
 -- What stands at a number: beyond the last slot there is nothing.

@@ -1,4 +1,4 @@
--- M1 to M11 hold of the rules (document 01, 'Marked edges'; 'The weight of each public call', 4), and the run where only the two-set
+-- M1 to M11 hold of the rules (document 01, 'Marked edges'; 'The weight of each public call', 4), and the run where only the twoSet
 -- clause serves. Each case has a test by the rules as counts (`safeIff`, `backedIff`, `countQuorum`), which computes once the comparisons
 -- of the four plans are decided; `marked` does that for the whole list at once.
 -- Assumes nothing.
@@ -40,19 +40,19 @@ three vs s m is count =
     let e : total vs - vs .f ≡ 3 = ap (λ (x : Vaults). total x - x .f) is in
     rw (e, count)
 
--- A case whose test passes holds of the rules.
-holds : (x : Case) → right x ≡ true → Holds x
+-- A case whose test passes caseHolds of the rules.
+caseHolds : (x : Case) → right x ≡ true → Holds x
 unfolding right allowed free
-holds (starting n f k) h = eqb-true _ k h
-holds (safely rule rs v p) h = safeIff four rs rule v p .1 h
-holds (unsafely rule rs v p) h = λ s. clash (safeIff four rs rule v p .0 s) (not-true _ h)
-holds (serving rule rs v p u) h =
+caseHolds (starting n f k) h = eqb-true _ k h
+caseHolds (safely rule rs v p) h = safeIff four rs rule v p .1 h
+caseHolds (unsafely rule rs v p) h = λ s. clash (safeIff four rs rule v p .0 s) (not-true _ h)
+caseHolds (serving rule rs v p u) h =
     let (low, both) = bothSplit (ltb u v) _ h in
     let (allow, back) = bothSplit (allowed four rs p u) _ both in
     (ltb-true u v low, countQuorum four (reporting rs (allows p u)) .1 allow, backedIff four rs rule v p u .1 back)
-holds (wholly rule rs v) h = λ p. noLock (countQuorum four (reporting rs unlocked) .1 h)
-holds (enough m) h = λ r k p is count. three (vaults r) _ m is count ∙ h
-holds (short m) h = λ r k p is count. three (vaults r) _ m is count ∙ not-true _ h
+caseHolds (wholly rule rs v) h = λ p. noLock (countQuorum four (reporting rs unlocked) .1 h)
+caseHolds (enough m) h = λ r k p is count. three (vaults r) _ m is count ∙ h
+caseHolds (short m) h = λ r k p is count. three (vaults r) _ m is count ∙ not-true _ h
 
 -- The first wrong case of a list, none where all are right.
 wrong : List Case → Option Case
@@ -66,7 +66,7 @@ all [] h = tt
 all (x ∷ xs) h = go (right x) refl (all xs) h
   where
     go : (b : Bool) → right x ≡ b → (wrong xs ≡ none → All xs) → cond b (wrong xs) (some x) ≡ none → Holds x × All xs
-    go true e rest h = (holds x e, rest h)
+    go true e rest h = (caseHolds x e, rest h)
     go false e rest h = absurd (none≢some (sym h))
 
 -- A plan is itself.

@@ -1,4 +1,4 @@
--- The marked edges M1 to M11 of document 01, as cases; and the run where only the two-set clause serves.
+-- The marked edges M1 to M11 of document 01, as cases; and the run where only the twoSet clause serves.
 -- 'n = 4, f = 1 unless said; (1, a) means view 1 and plan a; a, b, c, d differ; reports are proofs.'
 -- Assumes nothing.
 use Prim.Native.Nat.{ℕ, _<_}
@@ -114,7 +114,7 @@ edges r a b c d =
     ∷ unsafely rule3 (from (locked (r 0) a ∷ lockless (r 1) ∷ lockless (r 2) ∷ [])) 1 b
     -- M6 a fourth proof without lock: b safe
     ∷ safely rule3 (from (locked (r 0) a ∷ lockless (r 1) ∷ lockless (r 2) ∷ lockless (r 3) ∷ [])) 1 b
-    -- M7 c is safe by the two-set clause: not without it
+    -- M7 c is safe by the twoSet clause: not without it
     ∷ safely rule3 (halves a b c) 3 c
     ∷ unsafely rule1 (halves a b c) 3 c
     -- M8 b safe with v' = 2
@@ -126,7 +126,7 @@ edges r a b c d =
     -- M11 two votes of a kind are no quorum, three are
     ∷ short 2
     ∷ enough 3
-    -- the run with a lying leader: its next leader may propose c, at v' = 1; its vaults may vote for c, by the two-set clause alone
+    -- the run with a lying leader: its next leader may propose c, at v' = 1; its vaults may vote for c, by the twoSet clause alone
     ∷ serving rule1 (suggested a b) 6 c 1
     ∷ serving rule3 (proved a b) 6 c 1
     ∷ unsafely rule1 (proved a b) 6 c

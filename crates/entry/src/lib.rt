@@ -118,7 +118,14 @@ pub fn put_entry(out: &mut [u8], at: usize, e: Entry) -> usize
     match e {
         Entry::ForAll(f) => put_frame(out, at, numbers::TO_ALL, f),
         Entry::ForOne(to, f) => put_frame(out, at, to, f),
-        Entry::Timer { view, millis } => put_host(out, at, numbers::HOST_TIMER, view, 4, millis as u64),
+        Entry::Timer { view, millis } => put_host(
+            out,
+            at,
+            numbers::HOST_TIMER,
+            view,
+            4,
+            millis as u64,
+        ),
         Entry::Decision { view, plan } => put_host(out, at, numbers::HOST_DECISION, view, 8, plan),
     }
 }

@@ -13,11 +13,11 @@ use borrow.Author.Tests.{leb-true, ltb-true, eqb-true, lt-ltb, le-ltb}
 use Rattle.frame.specs.declared.Frame.{Frame}
 use Rattle.entry.specs.declared.Entry.the-variants.{ForAll, Timer, Decision}
 use Rattle.entry.specs.Layout.{layout}
-use Rattle.entry.proofs.Theorems.{entry-length}
+use Rattle.entry.proofs.Theorems.{entrySpan}
 use Rattle.quorum.specs.Sets.{equals}
 use Rattle.quorum.proofs.Bools.{bothSplit}
 use Rattle.rules.specs.inside.Counts.{safe, choice}
-use Rattle.claims.specs.Table.{column, tableSize, reportsIn}
+use Rattle.claims.specs.Table.{column, tableSize, reportsInTable}
 use Rattle.safe.specs.Choices.{ruleOf}
 use Rattle.for_tests.specs.inside.Answers.{left, echoEntries, laid, safePlan, proposed, choosePlan}
 
@@ -26,9 +26,9 @@ use Rattle.for_tests.specs.inside.Answers.{left, echoEntries, laid, safe
 -- The three entries have room in 138 bytes.
 pub echoShort : (f : Frame) → length (layout (echoEntries f)) ≤ 138
 echoShort f =
-    let a = entry-length (ForAll f) .1 in
-    let b = entry-length (Timer (f .view) 180) .1 in
-    let d = entry-length (Decision (f .view) (f .view)) .1 in
+    let a = entrySpan (ForAll f) .1 in
+    let b = entrySpan (Timer (f .view) 180) .1 in
+    let d = entrySpan (Decision (f .view) (f .view)) .1 in
     simp length-append (omega arith)
 
 -- So has a count of their bytes.
@@ -50,13 +50,13 @@ module _ (table : List ℕ) (n f : ℕ) where
 
     -- The search's answer as a number.
     pub safeSaid : (v p three : ℕ) (b : Bool) → laid table n f ≡ true
-        → b ≡ safe (ruleOf (not (eqb three 0))) (equals all few) (reportsIn table) v p → cond b 1 0 ≡ safePlan table n f v p three
+        → b ≡ safe (ruleOf (not (eqb three 0))) (equals all few) (reportsInTable table) v p → cond b 1 0 ≡ safePlan table n f v p three
     unfolding safePlan
     safeSaid v p three b h e = rw (h, ← is, ← too, ← e)
 
     -- The choice, told.
     pub chooseSaid : (v start : ℕ) (o : Option ℕ) (out : List ℕ) → laid table n f ≡ true → 0 < length out
-        → o ≡ choice (equals all few) (reportsIn table) v start → proposed o out ≡ choosePlan table n f v start out
+        → o ≡ choice (equals all few) (reportsInTable table) v start → proposed o out ≡ choosePlan table n f v start out
     unfolding choosePlan
     chooseSaid v start o out h room e = rw (h, lt-ltb 0 (length out) room, ← is, ← too, ← e)
 

@@ -70,65 +70,65 @@ form k a b =
     ]
 
 -- the table's column "Length", kinds 1 to 5: 14
-pub length-plan : (k : ℕ) → 1 ≤ k → k ≤ 5 → lengthOf k ≡ 14
+pub lengthPlan : (k : ℕ) → 1 ≤ k → k ≤ 5 → lengthOf k ≡ 14
 unfolding lengthOf
-length-plan k a b = simp (inside 1 5 k a b)
+lengthPlan k a b = simp (inside 1 5 k a b)
 
 -- the table's column "Length", kind 6: 6
-pub length-bare : (k : ℕ) → k ≡ 6 → lengthOf k ≡ 6
+pub lengthBare : (k : ℕ) → k ≡ 6 → lengthOf k ≡ 6
 unfolding lengthOf within
-length-bare k e = rw e
+lengthBare k e = rw e
 
 -- the table's column "Length", kinds 7 and 8: 45
-pub length-reports : (k : ℕ) → 7 ≤ k → k ≤ 8 → lengthOf k ≡ 45
+pub lengthReports : (k : ℕ) → 7 ≤ k → k ≤ 8 → lengthOf k ≡ 45
 unfolding lengthOf
-length-reports k a b = simp (over 1 5 k (omega arith) (omega arith), ne-eqb k 6 (omega arith), inside 7 8 k a b)
+lengthReports k a b = simp (over 1 5 k (omega arith) (omega arith), ne-eqb k 6 (omega arith), inside 7 8 k a b)
 
 -- kind 0 is in no row of the table, so it has no length
-pub length-low : (k : ℕ) → k < 1 → lengthOf k ≡ 0
+pub lengthLow : (k : ℕ) → k < 1 → lengthOf k ≡ 0
 unfolding lengthOf
-length-low k h = simp (under 1 5 k h, ne-eqb k 6 (omega arith), under 7 8 k (omega arith))
+lengthLow k h = simp (under 1 5 k h, ne-eqb k 6 (omega arith), under 7 8 k (omega arith))
 
 -- a kind above 8 is in no row of the table, so it has no length
-pub length-high : (k : ℕ) → 8 < k → lengthOf k ≡ 0
+pub lengthHigh : (k : ℕ) → 8 < k → lengthOf k ≡ 0
 unfolding lengthOf
-length-high k h = simp (over 1 5 k (omega arith) (omega arith), ne-eqb k 6 (omega arith), over 7 8 k (omega arith) h)
+lengthHigh k h = simp (over 1 5 k (omega arith) (omega arith), ne-eqb k 6 (omega arith), over 7 8 k (omega arith) h)
 
 -- what the bytes say after the head, by form
-pub body-plan : (k : ℕ) (s : List ℕ) → 1 ≤ k → k ≤ 5 → bodyAs k s ≡ Plan (numberAt 8 s 6)
+pub bodyOfPlan : (k : ℕ) (s : List ℕ) → 1 ≤ k → k ≤ 5 → bodyAs k s ≡ Plan (numberAt 8 s 6)
 unfolding bodyAs
-body-plan k s a b = simp (inside 1 5 k a b)
+bodyOfPlan k s a b = simp (inside 1 5 k a b)
 
 -- nothing after the head of a view-change
-pub body-bare : (k : ℕ) (s : List ℕ) → k ≡ 6 → bodyAs k s ≡ Empty
+pub bodyOfBare : (k : ℕ) (s : List ℕ) → k ≡ 6 → bodyAs k s ≡ Empty
 unfolding bodyAs within
-body-bare k s e = rw e
+bodyOfBare k s e = rw e
 
 -- three reports after the head of a suggest or a proof
-pub body-reports : (k : ℕ) (s : List ℕ) → 7 ≤ k → bodyAs k s ≡ Told (reportsAt s 6)
+pub bodyOfReports : (k : ℕ) (s : List ℕ) → 7 ≤ k → bodyAs k s ≡ Told (reportsAt s 6)
 unfolding bodyAs
-body-reports k s a = simp (over 1 5 k (omega arith) (omega arith), ne-eqb k 6 (omega arith))
+bodyOfReports k s a = simp (over 1 5 k (omega arith) (omega arith), ne-eqb k 6 (omega arith))
 
 -- a frame has at least its head
-pub length-least : (k : ℕ) → Form k → 6 ≤ lengthOf k
-length-least k (plan a b) = rw (length-plan k a b) (omega arith)
-length-least k (bare e) = rw (length-bare k e) (omega arith)
-length-least k (reports a b) = rw (length-reports k a b) (omega arith)
+pub lengthLeast : (k : ℕ) → Form k → 6 ≤ lengthOf k
+lengthLeast k (plan a b) = rw (lengthPlan k a b) (omega arith)
+lengthLeast k (bare e) = rw (lengthBare k e) (omega arith)
+lengthLeast k (reports a b) = rw (lengthReports k a b) (omega arith)
 
 -- a kind without a length is unknown, and a kind with one is known
 pub unknown : (k : ℕ) → lengthOf k ≡ 0 → within 1 8 k ≡ false
 unknown k e =
     elim (decLe 1 k) [
       | no g ↦ under 1 8 k (omega arith)
-      | yes a ↦ elim (decLe k 8) [ no g ↦ over 1 8 k a (omega arith) | yes b ↦ absurd (omega (arith, length-least k (form k a b))) ]
+      | yes a ↦ elim (decLe k 8) [ no g ↦ over 1 8 k a (omega arith) | yes b ↦ absurd (omega (arith, lengthLeast k (form k a b))) ]
     ]
 
 -- a kind with a length is one of 1 to 8: `form_refusal` tests the length where row 9 tests the kind
 pub known : (k : ℕ) → (lengthOf k ≡ 0 → ⊥) → within 1 8 k ≡ true
 known k e =
     elim (decLe 1 k) [
-      | no g ↦ absurd (e (length-low k (omega arith)))
-      | yes a ↦ elim (decLe k 8) [ no g ↦ absurd (e (length-high k (omega arith))) | yes b ↦ inside 1 8 k a b ]
+      | no g ↦ absurd (e (lengthLow k (omega arith)))
+      | yes a ↦ elim (decLe k 8) [ no g ↦ absurd (e (lengthHigh k (omega arith))) | yes b ↦ inside 1 8 k a b ]
     ]
 
 -- the number of a row is never 0: 0 says that no row is given
@@ -137,22 +137,22 @@ Positive [] = Unit {0}
 Positive (row k t ∷ rows) = (0 < k) × Positive rows
 
 -- a table in two parts: the first part gives a number, or the second part decides
-pub first-some : (rows more : List Row) → (first rows ≡ 0 → ⊥) → first (rows ++ more) ≡ first rows
-first-some [] more z = absurd (z refl)
-first-some (row k true ∷ rows) more z = refl
-first-some (row k false ∷ rows) more z = first-some rows more z
+pub firstSome : (rows more : List Row) → (first rows ≡ 0 → ⊥) → first (rows ++ more) ≡ first rows
+firstSome [] more z = absurd (z refl)
+firstSome (row k true ∷ rows) more z = refl
+firstSome (row k false ∷ rows) more z = firstSome rows more z
 
 -- where the first part gives nothing, the second part decides
-pub first-none : (rows more : List Row) → Positive rows → first rows ≡ 0 → first (rows ++ more) ≡ first more
-first-none [] more p e = refl
-first-none (row k true ∷ rows) more p e = absurd (omega arith)
-first-none (row k false ∷ rows) more p e = first-none rows more (p .1) e
+pub firstNone : (rows more : List Row) → Positive rows → first rows ≡ 0 → first (rows ++ more) ≡ first more
+firstNone [] more p e = refl
+firstNone (row k true ∷ rows) more p e = absurd (omega arith)
+firstNone (row k false ∷ rows) more p e = firstNone rows more (p .1) e
 
 -- where the whole table gives nothing, neither part does
-pub first-both : (rows more : List Row) → Positive rows → first (rows ++ more) ≡ 0 → (first rows ≡ 0) × (first more ≡ 0)
-first-both [] more p e = (refl, e)
-first-both (row k true ∷ rows) more p e = absurd (omega arith)
-first-both (row k false ∷ rows) more p e = first-both rows more (p .1) e
+pub firstBoth : (rows more : List Row) → Positive rows → first (rows ++ more) ≡ 0 → (first rows ≡ 0) × (first more ≡ 0)
+firstBoth [] more p e = (refl, e)
+firstBoth (row k true ∷ rows) more p e = absurd (omega arith)
+firstBoth (row k false ∷ rows) more p e = firstBoth rows more (p .1) e
 
 -- a row that is not given, at the head of a table that gives nothing
 pub none : (t : Bool) (k m : ℕ) → 0 < k → cond t k m ≡ 0 → (t ≡ false) × (m ≡ 0)
@@ -171,15 +171,15 @@ formed s e =
 
 module _ (s : List ℕ) (f : Formed s) where
   -- bytes that pass 9 and 10 have a kind of a known form
-  pub form-of : Form (getD s 0 0)
-  form-of = let h = bounds 1 8 (getD s 0 0) (f .kind) in form (getD s 0 0) (h .0) (h .1)
+  pub formOf : Form (getD s 0 0)
+  formOf = let h = bounds 1 8 (getD s 0 0) (f .kind) in form (getD s 0 0) (h .0) (h .1)
 
   -- bytes that pass 9 and 10 have at least a head, so its six bytes can be read
-  pub head-there : 6 ≤ length s
-  head-there = rw (f .size) (length-least (getD s 0 0) form-of)
+  pub headIsThere : 6 ≤ length s
+  headIsThere = rw (f .size) (lengthLeast (getD s 0 0) formOf)
 
   -- bytes of the form of a frame pass 9 and 10
-  pub form-passes : first (formRows s) ≡ 0
-  form-passes =
-      let e : length s ≡ 0 → ⊥ = λ z. omega (arith, head-there) in
+  pub formPasses : first (formRows s) ≡ 0
+  formPasses =
+      let e : length s ≡ 0 → ⊥ = λ z. omega (arith, headIsThere) in
       simp (ne-eqb (length s) 0 e, f .kind, eq-eqb (length s) (lengthOf (getD s 0 0)) (f .size))

@@ -13,7 +13,7 @@ use Rattle.frame.specs.declared.Frame.{Frame}
 use Rattle.frame.specs.declared.Reading.the-variants.{Accepted, Refused}
 use Rattle.frame.specs.Format.{decode}
 use Rattle.frame.specs.Refusal.{first, formRows, linkRows, contentRows, leaderRows, refusal, readFrame}
-use Rattle.frame.proofs.Laws.{first-some, first-none, none, neither}
+use Rattle.frame.proofs.Laws.{firstSome, firstNone, none, neither}
 
 module _ (s : List ℕ) (link n own : ℕ) where
   -- a table that gives a number
@@ -22,41 +22,41 @@ module _ (s : List ℕ) (link n own : ℕ) where
   refused k z e = rw e (simp (ne-eqb k 0 z))
 
   -- a number given by rows 9 and 10 is the reader's answer
-  pub by-form : (k : ℕ) → (k ≡ 0 → ⊥) → k ≡ first (formRows s) → Refused k ≡ readFrame s link n own
+  pub byForm : (k : ℕ) → (k ≡ 0 → ⊥) → k ≡ first (formRows s) → Refused k ≡ readFrame s link n own
   unfolding refusal
-  by-form k z e =
+  byForm k z e =
       refused k z
-      (first-some (formRows s) (linkRows (getD s 1 0) link n own ++ (contentRows (decode s) ++ leaderRows (decode s) n own)) (λ y. z (e ∙ y)) ∙ sym e)
+      (firstSome (formRows s) (linkRows (getD s 1 0) link n own ++ (contentRows (decode s) ++ leaderRows (decode s) n own)) (λ y. z (e ∙ y)) ∙ sym e)
 
   module _ (form : first (formRows s) ≡ 0) where
     -- where rows 9 and 10 give nothing, rows 11 to 15 decide
-    after-form : refusal s link n own ≡ first (linkRows (getD s 1 0) link n own ++ (contentRows (decode s) ++ leaderRows (decode s) n own))
+    afterForm : refusal s link n own ≡ first (linkRows (getD s 1 0) link n own ++ (contentRows (decode s) ++ leaderRows (decode s) n own))
     unfolding refusal
-    after-form = first-none (formRows s) (linkRows (getD s 1 0) link n own ++ (contentRows (decode s) ++ leaderRows (decode s) n own)) (omega arith) form
+    afterForm = firstNone (formRows s) (linkRows (getD s 1 0) link n own ++ (contentRows (decode s) ++ leaderRows (decode s) n own)) (omega arith) form
 
     -- a number given by rows 11 and 12 is the reader's answer
-    pub by-link : (k : ℕ) → (k ≡ 0 → ⊥) → k ≡ first (linkRows (getD s 1 0) link n own) → Refused k ≡ readFrame s link n own
-    by-link k z e =
+    pub byLink : (k : ℕ) → (k ≡ 0 → ⊥) → k ≡ first (linkRows (getD s 1 0) link n own) → Refused k ≡ readFrame s link n own
+    byLink k z e =
         refused k z
-        (after-form ∙ (first-some (linkRows (getD s 1 0) link n own) (contentRows (decode s) ++ leaderRows (decode s) n own) (λ y. z (e ∙ y)) ∙ sym e))
+        (afterForm ∙ (firstSome (linkRows (getD s 1 0) link n own) (contentRows (decode s) ++ leaderRows (decode s) n own) (λ y. z (e ∙ y)) ∙ sym e))
 
     module _ (linked : first (linkRows (getD s 1 0) link n own) ≡ 0) (f : Frame) (said : f ≡ decode s) where
       -- where rows 9 to 12 give nothing, rows 13 to 15 decide, on the frame that the bytes say
-      after-link : refusal s link n own ≡ first (contentRows f ++ leaderRows f n own)
-      after-link =
-          rw said (after-form ∙ first-none (linkRows (getD s 1 0) link n own) (contentRows (decode s) ++ leaderRows (decode s) n own) (omega arith) linked)
+      afterLink : refusal s link n own ≡ first (contentRows f ++ leaderRows f n own)
+      afterLink =
+          rw said (afterForm ∙ firstNone (linkRows (getD s 1 0) link n own) (contentRows (decode s) ++ leaderRows (decode s) n own) (omega arith) linked)
 
       -- a number given by rows 13 to 15 is the reader's answer
-      pub by-frame : (k : ℕ) → (k ≡ 0 → ⊥) → k ≡ first (contentRows f ++ leaderRows f n own) → Refused k ≡ readFrame s link n own
-      by-frame k z e = refused k z (after-link ∙ sym e)
+      pub byTheFrame : (k : ℕ) → (k ≡ 0 → ⊥) → k ≡ first (contentRows f ++ leaderRows f n own) → Refused k ≡ readFrame s link n own
+      byTheFrame k z e = refused k z (afterLink ∙ sym e)
 
       -- where no row gives a number, the reader accepts the frame that the bytes say
       pub accepts : 0 ≡ first (contentRows f ++ leaderRows f n own) → Accepted f ≡ readFrame s link n own
       unfolding readFrame
-      accepts e = rw (after-link ∙ sym e) (ap (λ (g : Frame). Accepted g) said)
+      accepts e = rw (afterLink ∙ sym e) (ap (λ (g : Frame). Accepted g) said)
 
 -- a link that passes 11 has a number below n
-pub link-below : (sender link n own : ℕ) → first (linkRows sender link n own) ≡ 0 → link < n
-link-below sender link n own e =
+pub linkBelow : (sender link n own : ℕ) → first (linkRows sender link n own) ≡ 0 → link < n
+linkBelow sender link n own e =
     let a = none (leb n link || eqb link own) 11 _ (omega arith) e in
     leb-false n link (neither (leb n link) (eqb link own) (a .0) .0)

@@ -12,7 +12,7 @@ use lib.Dec.{eqb}
 use lib.ListN.{length, getD}
 use Rattle.wire.specs.Fields.{Bytes}
 use Rattle.wire.specs.inside.Widths.{widths, total}
-use Rattle.wire.proofs.Laws.{length-spell, bytes-spell}
+use Rattle.wire.proofs.Laws.{lengthSpell, bytesSpell}
 use Rattle.frame.specs.declared.Body.{Body}
 use Rattle.frame.specs.declared.Body.the-variants.{Plan, Empty, Told}
 use Rattle.frame.specs.declared.Frame.{Frame}
@@ -21,14 +21,14 @@ use Rattle.frame.specs.Format.{lengthOf, bodyFields, fieldsOf, encode, d
 use Rattle.frame.specs.Valid.{Valid}
 use Rattle.frame.specs.Refusal.{first, formRows, linkRows, contentRows, leaderRows, refusal, readFrame}
 use Rattle.frame.specs.Sentences.{FramesReadBack, OneSpelling}
-use Rattle.frame.proofs.Laws.{first-none, first-both, formed, form-passes}
+use Rattle.frame.proofs.Laws.{firstNone, firstBoth, formed, formPasses}
 use Rattle.frame.proofs.Spelling as spelling
 
 -- What is known of accepted bytes: they say the frame, and no group of rows is given.
 pub record Passed (s : List ℕ) (link n own : ℕ) (f : Frame) : Type 0 where
   pub said : decode s ≡ f
   pub form : first (formRows s) ≡ 0
-  pub link-passed : first (linkRows (getD s 1 0) link n own) ≡ 0
+  pub linkPassed : first (linkRows (getD s 1 0) link n own) ≡ 0
   pub content : first (contentRows f) ≡ 0
   pub leader : first (leaderRows f n own) ≡ 0
 
@@ -44,32 +44,32 @@ passed s link n own f e =
     let g = decode s in
     let l = linkRows (getD s 1 0) link n own in
     let h = accepted (eqb (refusal s link n own) 0) (refusal s link n own) g f refl e in
-    let a = first-both (formRows s) (l ++ (contentRows g ++ leaderRows g n own)) (omega arith) (h .0) in
-    let b = first-both l (contentRows g ++ leaderRows g n own) (omega arith) (a .1) in
-    let d = first-both (contentRows g) (leaderRows g n own) (omega arith) (b .1) in
+    let a = firstBoth (formRows s) (l ++ (contentRows g ++ leaderRows g n own)) (omega arith) (h .0) in
+    let b = firstBoth l (contentRows g ++ leaderRows g n own) (omega arith) (a .1) in
+    let d = firstBoth (contentRows g) (leaderRows g n own) (omega arith) (b .1) in
     record {
       said = h .1;
       form = a .0;
-      link-passed = b .0;
+      linkPassed = b .0;
       content = subst (λ (x : Frame). first (contentRows x) ≡ 0) (h .1) (d .0);
       leader = subst (λ (x : Frame). first (leaderRows x n own) ≡ 0) (h .1) (d .1);
     }
 
 -- The bytes of a valid frame say that frame.
-pub decode-encode : (f : Frame) → Valid f → decode (encode f) ≡ f
-decode-encode = spelling.decode-encode
+pub decodeEncoded : (f : Frame) → Valid f → decode (encode f) ≡ f
+decodeEncoded = spelling.decodeEncoded
 
 -- A written frame reads back as the same frame, wherever link, content and leader pass.
 pub readBack : FramesReadBack
 unfolding readFrame refusal
 readBack f link n own v l c m =
-    let h = spelling.encode-formed f v in
-    let form : first (formRows (encode f)) ≡ 0 = form-passes (encode f) h in
+    let h = spelling.encodeFormed f v in
+    let form : first (formRows (encode f)) ≡ 0 = formPasses (encode f) h in
     let z : first (formRows (encode f) ++ (linkRows (f .sender) link n own ++ (contentRows f ++ leaderRows f n own))) ≡ 0 =
-    first-none (formRows (encode f)) (linkRows (f .sender) link n own ++ (contentRows f ++ leaderRows f n own)) (omega arith) form
-    ∙ (first-none (linkRows (f .sender) link n own) (contentRows f ++ leaderRows f n own) (omega arith) l
-    ∙ (first-none (contentRows f) (leaderRows f n own) (omega arith) c ∙ m)) in
-    rw (spelling.sender-at f v, decode-encode f v, z)
+    firstNone (formRows (encode f)) (linkRows (f .sender) link n own ++ (contentRows f ++ leaderRows f n own)) (omega arith) form
+    ∙ (firstNone (linkRows (f .sender) link n own) (contentRows f ++ leaderRows f n own) (omega arith) l
+    ∙ (firstNone (contentRows f) (leaderRows f n own) (omega arith) c ∙ m)) in
+    rw (spelling.senderAt f v, decodeEncoded f v, z)
 
 -- Accepted bytes are the only spelling of their frame.
 pub onlySpelling : OneSpelling
@@ -78,31 +78,31 @@ onlySpelling s link n own f b e =
     sym (spelling.respell s b (formed s (p .form))) ∙ ap encode (p .said)
 
 -- An accepted frame can be written: its body is one of its kind, and its fields fit.
-pub accepted-valid : (s : List ℕ) (link n own : ℕ) (f : Frame) → Bytes s → readFrame s link n own ≡ Accepted f → Valid f
-accepted-valid s link n own f b e =
+pub acceptedValid : (s : List ℕ) (link n own : ℕ) (f : Frame) → Bytes s → readFrame s link n own ≡ Accepted f → Valid f
+acceptedValid s link n own f b e =
     let p = passed s link n own f e in
-    subst Valid (p .said) (spelling.decode-valid s b (formed s (p .form)))
+    subst Valid (p .said) (spelling.decodeValid s b (formed s (p .form)))
 
 -- The bytes of a valid frame are as many as the table's column "Length" has for its kind.
-pub encode-length : (f : Frame) → Valid f → length (encode f) ≡ lengthOf (f .kind)
-encode-length = spelling.encode-length
+pub encodeLength : (f : Frame) → Valid f → length (encode f) ≡ lengthOf (f .kind)
+encodeLength = spelling.encodeLength
 
 -- No frame is longer than 45 bytes.
-pub encode-short : (f : Frame) → length (encode f) ≤ 45
+pub encodeShort : (f : Frame) → length (encode f) ≤ 45
 unfolding encode
-encode-short f = rw (length-spell (fieldsOf f)) (by-body (f .body))
+encodeShort f = rw (lengthSpell (fieldsOf f)) (byBody (f .body))
   where
-    by-body : (b : Body) → total (1 ∷ 1 ∷ 4 ∷ widths (bodyFields b)) ≤ 45
-    by-body (Plan p) = omega arith
-    by-body Empty = omega arith
-    by-body (Told r) = omega arith
+    byBody : (b : Body) → total (1 ∷ 1 ∷ 4 ∷ widths (bodyFields b)) ≤ 45
+    byBody (Plan p) = omega arith
+    byBody Empty = omega arith
+    byBody (Told r) = omega arith
 
 -- No frame is shorter than its head, 6 bytes.
-pub encode-head : (f : Frame) → 6 ≤ length (encode f)
+pub encodeHead : (f : Frame) → 6 ≤ length (encode f)
 unfolding encode
-encode-head f = omega (arith, length-spell (fieldsOf f))
+encodeHead f = omega (arith, lengthSpell (fieldsOf f))
 
 -- What is written is bytes.
-pub encode-bytes : (f : Frame) → Bytes (encode f)
+pub encodedBytes : (f : Frame) → Bytes (encode f)
 unfolding encode
-encode-bytes f = bytes-spell (fieldsOf f)
+encodedBytes f = bytesSpell (fieldsOf f)

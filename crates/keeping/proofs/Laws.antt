@@ -15,13 +15,13 @@ use Rattle.keeping.specs.inside.Keeping.{stale, outdone, keepRows, moves
 
 module _ (slots : ℕ → Report) (current sender kind view : ℕ) where
   -- a view below current (kind 6: at or below) gives 16
-  pub refused-stale : stale current kind view ≡ true → first (keepRows slots current sender kind view) ≡ 16
-  refused-stale e = rw e
+  pub refusedStale : stale current kind view ≡ true → first (keepRows slots current sender kind view) ≡ 16
+  refusedStale e = rw e
 
   -- else a frame kept at this view or a higher one gives 17
-  pub refused-outdone : stale current kind view ≡ false → outdone (slots (frameSlot kind sender)) view ≡ true
+  pub refusedOutdone : stale current kind view ≡ false → outdone (slots (frameSlot kind sender)) view ≡ true
       → first (keepRows slots current sender kind view) ≡ 17
-  refused-outdone e g = rw (e, g)
+  refusedOutdone e g = rw (e, g)
 
   -- else nothing is given, and the frame can be kept
   pub taken : stale current kind view ≡ false → outdone (slots (frameSlot kind sender)) view ≡ false
@@ -30,16 +30,16 @@ module _ (slots : ℕ → Report) (current sender kind view : ℕ) where
 
 module _ (r : Record) (kind plan : ℕ) where
   -- the own kept vote for another plan becomes the previous one
-  pub shifted-moves : moves (ownSlot r kind) kind plan ≡ true → shifted r kind plan ≡ withSlot r (previousSlot kind) (ownSlot r kind)
+  pub shiftedMoves : moves (ownSlot r kind) kind plan ≡ true → shifted r kind plan ≡ withSlot r (previousSlot kind) (ownSlot r kind)
   unfolding shifted
-  shifted-moves e = rw e
+  shiftedMoves e = rw e
 
   -- else the record stays as it is
-  pub shifted-stays : moves (ownSlot r kind) kind plan ≡ false → shifted r kind plan ≡ r
+  pub shiftedStays : moves (ownSlot r kind) kind plan ≡ false → shifted r kind plan ≡ r
   unfolding shifted
-  shifted-stays e = rw e
+  shiftedStays e = rw e
 
 -- only vote-1 and vote-2 have a previous one
-pub moves-kind : (slot : Report) (kind plan : ℕ) → moves slot kind plan ≡ true → (2 ≤ kind) × (kind ≤ 3)
+pub movesKind : (slot : Report) (kind plan : ℕ) → moves slot kind plan ≡ true → (2 ≤ kind) × (kind ≤ 3)
 unfolding moves
-moves-kind slot kind plan e = bounds 2 3 kind (both (within 2 3 kind) (present slot && not (eqb (slot .plan) plan)) e .0)
+movesKind slot kind plan e = bounds 2 3 kind (both (within 2 3 kind) (present slot && not (eqb (slot .plan) plan)) e .0)

@@ -26,8 +26,8 @@ use lib.ListN.{
 use lib.Seq.{sets, getD-set-other, getD-take, getD-drop, length-take-le, drop-cons, set-at, append-snoc}
 use Rattle.wire.specs.Digits.{numberAt, digits}
 use Rattle.wire.specs.Placed.{placed}
-use Rattle.wire.proofs.Laws.{number-digits}
-use Rattle.wire.proofs.Output.{placed-sets}
+use Rattle.wire.proofs.Laws.{numberDigits}
+use Rattle.wire.proofs.Output.{placedSets}
 
 -- ---- bytes that stay
 
@@ -41,7 +41,7 @@ setsOther (v ∷ vs) l i k h =
 -- a byte before or behind what is put
 pub placedOther : (o : List ℕ) (at : ℕ) (a : List ℕ) (k : ℕ) → at + length a ≤ length o → (at ≤ k → at + length a ≤ k)
     → getD (placed o at a) k 0 ≡ getD o k 0
-placedOther o at a k room h = rw (← placed-sets o at a room) (setsOther a o at k h)
+placedOther o at a k room h = rw (← placedSets o at a room) (setsOther a o at k h)
 
 -- ---- numbers
 
@@ -60,7 +60,7 @@ pub numberPut : (w : ℕ) (o : List ℕ) (at v : ℕ) → at + w ≤ length o �
 unfolding placed
 numberPut w o at v room small =
     let t : List ℕ = drop (at + length (digits w v)) o in
-    ap (numberAt w (take at o ++ (digits w v ++ t))) (sym (length-take-le at o (omega arith))) ∙ number-digits w v (take at o) t small
+    ap (numberAt w (take at o ++ (digits w v ++ t))) (sym (length-take-le at o (omega arith))) ∙ numberDigits w v (take at o) t small
 
 -- a number whose bytes are all 0
 pub numberZero : (w : ℕ) (s : List ℕ) (at : ℕ) → ((j : ℕ) → j < w → getD s (at + j) 0 ≡ 0) → numberAt w s at ≡ 0

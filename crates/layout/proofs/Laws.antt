@@ -16,8 +16,8 @@ use lib.Seq.{sets, length-sets, length-take-le, getD-append-seam}
 use Rattle.wire.specs.Digits.{numberAt, digits}
 use Rattle.wire.specs.Fields.{Bytes}
 use Rattle.wire.specs.Placed.{placed}
-use Rattle.wire.proofs.Laws.{number-digits, length-digits, number-below}
-use Rattle.wire.proofs.Output.{length-placed, placed-sets, placed-more, placed-next}
+use Rattle.wire.proofs.Laws.{numberDigits, lengthDigits, numberBelow}
+use Rattle.wire.proofs.Output.{lengthPlaced, placedSets, placedMore, placedNext}
 use Rattle.frame.specs.declared.Report.{Report}
 use Rattle.settings.specs.declared.Settings.{Settings}
 use Rattle.record.specs.Slots.{rows, slotCount, emptySlot}
@@ -122,17 +122,17 @@ slotSpelt x p t z =
     let e₁ : (p ++ (x .mark ∷ [])) ++ (a ++ (b ++ t)) ≡ whole =
     append-assoc p (x .mark ∷ []) (a ++ (b ++ t)) ∙ ap (λ (l : List ℕ). p ++ (x .mark ∷ l)) (sym (append-assoc a b t)) in
     let v : numberAt 4 whole (length p + 1) ≡ x .view =
-    (λ i. numberAt 4 (sym e₁ i) (sym (length-append p (x .mark ∷ [])) i)) ∙ number-digits 4 (x .view) (p ++ (x .mark ∷ [])) (b ++ t) (z .view) in
+    (λ i. numberAt 4 (sym e₁ i) (sym (length-append p (x .mark ∷ [])) i)) ∙ numberDigits 4 (x .view) (p ++ (x .mark ∷ [])) (b ++ t) (z .view) in
     let e₂ : (p ++ (x .mark ∷ a)) ++ (b ++ t) ≡ whole =
     append-assoc p (x .mark ∷ a) (b ++ t) ∙ ap (λ (l : List ℕ). p ++ (x .mark ∷ l)) (sym (append-assoc a b t)) in
-    let l₂ : length (p ++ (x .mark ∷ a)) ≡ length p + 5 = length-append p (x .mark ∷ a) ∙ ap (λ (n : ℕ). length p + suc n) (length-digits 4 (x .view)) in
+    let l₂ : length (p ++ (x .mark ∷ a)) ≡ length p + 5 = length-append p (x .mark ∷ a) ∙ ap (λ (n : ℕ). length p + suc n) (lengthDigits 4 (x .view)) in
     let q : numberAt 8 whole (length p + 5) ≡ x .plan =
-    (λ i. numberAt 8 (sym e₂ i) (sym l₂ i)) ∙ number-digits 8 (x .plan) (p ++ (x .mark ∷ a)) t (z .plan) in
+    (λ i. numberAt 8 (sym e₂ i) (sym l₂ i)) ∙ numberDigits 8 (x .plan) (p ++ (x .mark ∷ a)) t (z .plan) in
     λ i. record { mark = m i; view = v i; plan = q i }
 
 -- a slot has thirteen bytes
 pub lengthSlot : (x : Report) → length (slotBytes x) ≡ slotSize
-lengthSlot x = ap suc (length-append (digits 4 (x .view)) (digits 8 (x .plan)) ∙ (λ i. length-digits 4 (x .view) i + length-digits 8 (x .plan) i))
+lengthSlot x = ap suc (length-append (digits 4 (x .view)) (digits 8 (x .plan)) ∙ (λ i. lengthDigits 4 (x .view) i + lengthDigits 8 (x .plan) i))
 
 -- ---- a slot put at its place
 
@@ -149,13 +149,13 @@ pub slotStores : (s : List ℕ) (at : ℕ) (x : Report) → at < length s
 slotStores s at x h =
     let a : List ℕ = x .mark ∷ digits 4 (x .view) in
     let b : List ℕ = digits 8 (x .plan) in
-    ap (λ (l : List ℕ). placed l (at + 5) b) (placed-next s at (x .mark) (digits 4 (x .view)) h)
-    ∙ ap (λ (n : ℕ). placed (placed s at a) (at + suc n) b) (sym (length-digits 4 (x .view)))
-    ∙ placed-more s at a b (omega arith)
+    ap (λ (l : List ℕ). placed l (at + 5) b) (placedNext s at (x .mark) (digits 4 (x .view)) h)
+    ∙ ap (λ (n : ℕ). placed (placed s at a) (at + suc n) b) (sym (lengthDigits 4 (x .view)))
+    ∙ placedMore s at a b (omega arith)
 
 -- a slot that is put leaves the length
 pub putSize : (s : List ℕ) (at : ℕ) (x : Report) → at + slotSize ≤ length s → length (placed s at (slotBytes x)) ≡ length s
-putSize s at x room = length-placed s at (slotBytes x) (rw (lengthSlot x) room)
+putSize s at x room = lengthPlaced s at (slotBytes x) (rw (lengthSlot x) room)
 
 -- a byte outside the slot stays
 pub putByte : (s : List ℕ) (at : ℕ) (x : Report) (k : ℕ) → at + slotSize ≤ length s → (at ≤ k → at + slotSize ≤ k)
@@ -237,11 +237,11 @@ placeLow i = placeCases i (λ p. headSize ≤ p) (λ (g : i < rows). omega arith
 module _ (s : List ℕ) (v : ℕ) (l : length s ≡ recordSize) where
   -- the view's four bytes lie within the record
   viewRoom : viewPlace + length (digits 4 v) ≤ length s
-  viewRoom = rw (length-digits, l) (omega arith)
+  viewRoom = rw (lengthDigits, l) (omega arith)
 
   -- a byte outside them stays
   viewByte : (k : ℕ) → (viewPlace ≤ k → headSize ≤ k) → getD (placed s viewPlace (digits 4 v)) k 0 ≡ getD s k 0
-  viewByte k h = placedOther s viewPlace (digits 4 v) k viewRoom (rw length-digits h)
+  viewByte k h = placedOther s viewPlace (digits 4 v) k viewRoom (rw lengthDigits h)
 
   -- every slot stays, as it stands behind the head
   viewSlot : (i : ℕ) → slotIn (placed s viewPlace (digits 4 v)) (place i) ≡ slotIn s (place i)
@@ -269,7 +269,7 @@ module _ (s : List ℕ) (v : ℕ) (l : length s ≡ recordSize) where
 
   -- the bytes then hold the record at that view
   pub holdsView : v < 256 ^ 4 → Holds (placed s viewPlace (digits 4 v)) (withView (decodeRecord s) v)
-  holdsView z = record { size = length-placed s viewPlace (digits 4 v) viewRoom ∙ l; is = putView z }
+  holdsView z = record { size = lengthPlaced s viewPlace (digits 4 v) viewRoom ∙ l; is = putView z }
 
 -- ---- a fresh record
 
@@ -281,12 +281,12 @@ settingBytes z set = sets z 0 (set .n ∷ set .f ∷ set .id ∷ set .class ∷ 
 module _ (z : List ℕ) (set : Settings) (plan : ℕ) (l : length z ≡ recordSize) (zeros : (k : ℕ) → getD z k 0 ≡ 0) where
   -- the starting plan's eight bytes lie within the record
   planRoom : sharedSize + length (digits 8 plan) ≤ length (settingBytes z set)
-  planRoom = rw (length-digits, length-sets z 0 (set .n ∷ set .f ∷ set .id ∷ set .class ∷ []), l) (omega arith)
+  planRoom = rw (lengthDigits, length-sets z 0 (set .n ∷ set .f ∷ set .id ∷ set .class ∷ []), l) (omega arith)
 
   -- a byte outside them is as it was before the plan was put
   freshByte : (k : ℕ) → (sharedSize ≤ k → sharedSize + headSize ≤ k)
       → getD (placed (settingBytes z set) sharedSize (digits 8 plan)) k 0 ≡ getD (settingBytes z set) k 0
-  freshByte k h = placedOther (settingBytes z set) sharedSize (digits 8 plan) k planRoom (rw length-digits h)
+  freshByte k h = placedOther (settingBytes z set) sharedSize (digits 8 plan) k planRoom (rw lengthDigits h)
 
   -- behind the settings, all but the plan is 0
   freshZero : (k : ℕ) → 4 ≤ k → (sharedSize ≤ k → sharedSize + headSize ≤ k)
@@ -300,7 +300,7 @@ module _ (z : List ℕ) (set : Settings) (plan : ℕ) (l : length z ≡ recordSi
   unfolding placed
   freshSet k h =
       freshByte k (λ (g : sharedSize ≤ k). omega arith)
-      ∙ ap (λ (x : List ℕ). getD x k 0) (placed-sets z 0 (set .n ∷ set .f ∷ set .id ∷ set .class ∷ []) (omega arith))
+      ∙ ap (λ (x : List ℕ). getD x k 0) (placedSets z 0 (set .n ∷ set .f ∷ set .id ∷ set .class ∷ []) (omega arith))
 
   -- every slot is empty
   freshSlot : (i : ℕ) → cond (ltb i slotCount) (slotIn (placed (settingBytes z set) sharedSize (digits 8 plan)) (place i)) emptySlot ≡ emptySlot
@@ -329,7 +329,7 @@ module _ (z : List ℕ) (set : Settings) (plan : ℕ) (l : length z ≡ recordSi
       let o : List ℕ = placed (settingBytes z set) sharedSize (digits 8 plan) in
       let view = numberZero 4 o viewPlace (λ (j : ℕ) (b : j < 4).
       freshZero (viewPlace + j) (omega arith) (λ (g : sharedSize ≤ viewPlace + j). omega arith)) in
-      let room : sharedSize + headSize ≤ length (settingBytes z set) = rw (length-digits) at planRoom in
+      let room : sharedSize + headSize ≤ length (settingBytes z set) = rw (lengthDigits) at planRoom in
       let last = numberPut 8 (settingBytes z set) sharedSize plan room small in
       λ k. record {
         set = record { n = n k; f = f k; id = id k; class = class k };
@@ -341,7 +341,7 @@ module _ (z : List ℕ) (set : Settings) (plan : ℕ) (l : length z ≡ recordSi
   -- the bytes then hold that record
   pub holdsFresh : plan < 256 ^ 8 → Holds (placed (settingBytes z set) sharedSize (digits 8 plan)) (fresh set plan)
   holdsFresh small = record {
-    size = length-placed (settingBytes z set) sharedSize (digits 8 plan) planRoom
+    size = lengthPlaced (settingBytes z set) sharedSize (digits 8 plan) planRoom
         ∙ length-sets z 0 (set .n ∷ set .f ∷ set .id ∷ set .class ∷ []) ∙ l;
     is = putFresh small;
   }
@@ -350,7 +350,7 @@ module _ (z : List ℕ) (set : Settings) (plan : ℕ) (l : length z ≡ recordSi
 
 -- a slot that is read from bytes has its widths
 pub smallIn : (s : List ℕ) (at : ℕ) → Bytes s → Small (slotIn s at)
-smallIn s at b = record { mark = b at; view = number-below 4 s (at + 1) b; plan = number-below 8 s (at + 5) b }
+smallIn s at b = record { mark = b at; view = numberBelow 4 s (at + 1) b; plan = numberBelow 8 s (at + 5) b }
 
 -- what bytes spell has its widths
 pub smallSlots : (s : List ℕ) → Bytes s → (i : ℕ) → Small (decodeRecord s .slots i)
@@ -366,8 +366,8 @@ pub fitsDecoded : (s : List ℕ) → Bytes s → Fits (decodeRecord s)
 unfolding decodeRecord
 fitsDecoded s b = record {
   set = record { n = b 0; f = b 1; id = b 2; class = b 3 };
-  view = number-below 4 s viewPlace b;
-  plan = number-below 8 s sharedSize b;
+  view = numberBelow 4 s viewPlace b;
+  plan = numberBelow 8 s sharedSize b;
   slots = smallSlots s b;
   beyond = slotBeyond s;
 }

@@ -17,7 +17,7 @@ use lib.ListN.{length, getD, take, drop, length-append, length-drop, take-append
 use lib.Seq.{take-all, take-add, drop-drop, drop-cons}
 use Rattle.wire.specs.Digits.{numberAt, digits}
 use Rattle.wire.specs.Fields.{Bytes}
-use Rattle.wire.proofs.Laws.{length-digits, number-digits, digits-number, bytes-append, bytes-digits}
+use Rattle.wire.proofs.Laws.{lengthDigits, numberDigits, digitsNumber, bytesAppend, bytesDigits}
 use Rattle.frame.specs.declared.Report.{Report}
 use Rattle.record.specs.Slots.{rows, slotCount, Record}
 use Rattle.layout.specs.Layout.{headSize, slotSize, sharedSize, viewPlace, place, slotIn, slotBytes, spelledSlots, sharedOf, blockOf, encodeRecord, decodeRecord}
@@ -36,12 +36,12 @@ lengthSlots slots from (suc k) = rw (length-append, lengthSlots slots from k, le
 -- the shared part has its size
 pub lengthShared : (r : Record) → length (sharedOf r) ≡ sharedSize
 unfolding sharedOf
-lengthShared r = simp (length-append, length-digits, lengthSlots (r .slots) 0 rows)
+lengthShared r = simp (length-append, lengthDigits, lengthSlots (r .slots) 0 rows)
 
 -- the block has its size
 pub lengthBlock : (r : Record) → length (blockOf r) ≡ blockSize
 unfolding blockOf
-lengthBlock r = simp (length-append, length-digits, lengthSlots (r .slots) rows (slotCount - rows))
+lengthBlock r = simp (length-append, lengthDigits, lengthSlots (r .slots) rows (slotCount - rows))
 
 -- what is written has a record's length
 pub encodeSize : (r : Record) → length (encodeRecord r) ≡ recordSize
@@ -53,35 +53,35 @@ encodeSize r = length-append (sharedOf r) (blockOf r) ∙ (λ i. lengthShared r 
 -- a slot's bytes, where its numbers have their widths
 bytesSlot : (x : Report) → Small x → Bytes (slotBytes x)
 bytesSlot x z zero = z .mark
-bytesSlot x z (suc i) = bytes-append (digits 4 (x .view)) (digits 8 (x .plan)) (bytes-digits 4 (x .view)) (bytes-digits 8 (x .plan)) i
+bytesSlot x z (suc i) = bytesAppend (digits 4 (x .view)) (digits 8 (x .plan)) (bytesDigits 4 (x .view)) (bytesDigits 8 (x .plan)) i
 
 -- those of slots end to end
 bytesSlots : (slots : ℕ → Report) (from k : ℕ) → ((i : ℕ) → Small (slots i)) → Bytes (spelledSlots slots from k)
 unfolding spelledSlots
 bytesSlots slots from zero z i = omega arith
 bytesSlots slots from (suc k) z i =
-    bytes-append (spelledSlots slots from k) (slotBytes (slots (from + k))) (bytesSlots slots from k z) (bytesSlot (slots (from + k)) (z (from + k))) i
+    bytesAppend (spelledSlots slots from k) (slotBytes (slots (from + k))) (bytesSlots slots from k z) (bytesSlot (slots (from + k)) (z (from + k))) i
 
 -- and those of the whole record: each element that is written is below 256
 pub encodeBytes : (r : Record) → Fits r → Bytes (encodeRecord r)
 unfolding encodeRecord sharedOf blockOf
-encodeBytes r z = bytes-append (sharedOf r) (blockOf r) shared block
+encodeBytes r z = bytesAppend (sharedOf r) (blockOf r) shared block
   where
     head : Bytes (r .set .n ∷ r .set .f ∷ r .set .id ∷ r .set .class ∷ digits 4 (r .view))
     head zero = z .set .n
     head (suc zero) = z .set .f
     head (suc (suc zero)) = z .set .id
     head (suc (suc (suc zero))) = z .set .class
-    head (suc (suc (suc (suc i)))) = bytes-digits 4 (r .view) i
+    head (suc (suc (suc (suc i)))) = bytesDigits 4 (r .view) i
 
     shared : Bytes (sharedOf r)
     shared =
-        bytes-append (r .set .n ∷ r .set .f ∷ r .set .id ∷ r .set .class ∷ digits 4 (r .view)) (spelledSlots (r .slots) 0 rows) head
+        bytesAppend (r .set .n ∷ r .set .f ∷ r .set .id ∷ r .set .class ∷ digits 4 (r .view)) (spelledSlots (r .slots) 0 rows) head
         (bytesSlots (r .slots) 0 rows (z .slots))
 
     block : Bytes (blockOf r)
     block =
-        bytes-append (digits 8 (r .plan)) (spelledSlots (r .slots) rows (slotCount - rows)) (bytes-digits 8 (r .plan))
+        bytesAppend (digits 8 (r .plan)) (spelledSlots (r .slots) rows (slotCount - rows)) (bytesDigits 8 (r .plan))
         (bytesSlots (r .slots) rows (slotCount - rows) (z .slots))
 
 -- ---- written, then read
@@ -113,14 +113,14 @@ module _ (r : Record) (z : Fits r) where
   viewRead =
       let four : List ℕ = r .set .n ∷ r .set .f ∷ r .set .id ∷ r .set .class ∷ [] in
       rw (append-assoc (digits 4 (r .view)))
-      (number-digits 4 (r .view) four (spelledSlots (r .slots) 0 rows ++ blockOf r) (z .view))
+      (numberDigits 4 (r .view) four (spelledSlots (r .slots) 0 rows ++ blockOf r) (z .view))
 
   -- the starting plan is read back
   planRead : numberAt 8 (encodeRecord r) sharedSize ≡ r .plan
   unfolding encodeRecord blockOf
   planRead =
       ap (numberAt 8 (sharedOf r ++ blockOf r)) (sym (lengthShared r))
-      ∙ number-digits 8 (r .plan) (sharedOf r) (spelledSlots (r .slots) rows (slotCount - rows)) (z .plan)
+      ∙ numberDigits 8 (r .plan) (sharedOf r) (spelledSlots (r .slots) rows (slotCount - rows)) (z .plan)
 
   -- a slot of the shared part is read back
   sharedRead : (i : ℕ) → i < rows → slotIn (encodeRecord r) (place i) ≡ r .slots i
@@ -139,7 +139,7 @@ module _ (r : Record) (z : Fits r) where
       let a : sharedOf r ++ blockOf r ≡ head ++ (spelledSlots (r .slots) rows (slotCount - rows) ++ []) =
       sym (ap (λ (l : List ℕ). head ++ l) (append-nil (spelledSlots (r .slots) rows (slotCount - rows)))
       ∙ append-assoc (sharedOf r) (digits 8 (r .plan)) (spelledSlots (r .slots) rows (slotCount - rows))) in
-      let l : length head ≡ sharedSize + headSize = length-append (sharedOf r) (digits 8 (r .plan)) ∙ (λ k. lengthShared r k + length-digits 8 (r .plan) k) in
+      let l : length head ≡ sharedSize + headSize = length-append (sharedOf r) (digits 8 (r .plan)) ∙ (λ k. lengthShared r k + lengthDigits 8 (r .plan) k) in
       let at : place i ≡ length head + slotSize * j = placeBlock i low ∙ omega arith in
       let from : rows + j ≡ i = omega arith in
       (λ k. slotIn (a k) (at k)) ∙ readSlots (r .slots) rows (slotCount - rows) j head [] (z .slots) (omega arith) ∙ ap (r .slots) from
@@ -176,8 +176,8 @@ module _ (r : Record) (z : Fits r) where
 -- a slot that is read is written as its thirteen bytes stood
 slotWritten : (s : List ℕ) (at : ℕ) → Bytes s → at + slotSize ≤ length s → slotBytes (slotIn s at) ≡ take slotSize (drop at s)
 slotWritten s at b h =
-    let v : digits 4 (numberAt 4 s (at + 1)) ≡ take 4 (drop (at + 1) s) = digits-number 4 s (at + 1) b (omega arith) in
-    let p : digits 8 (numberAt 8 s (at + 5)) ≡ take 8 (drop (at + 5) s) = digits-number 8 s (at + 5) b (omega arith) in
+    let v : digits 4 (numberAt 4 s (at + 1)) ≡ take 4 (drop (at + 1) s) = digitsNumber 4 s (at + 1) b (omega arith) in
+    let p : digits 8 (numberAt 8 s (at + 5)) ≡ take 8 (drop (at + 5) s) = digitsNumber 8 s (at + 5) b (omega arith) in
     let five : at + 1 + 4 ≡ at + 5 = omega arith in
     let two : take 4 (drop (at + 1) s) ++ take 8 (drop (at + 5) s) ≡ take 12 (drop (at + 1) s) =
     sym (take-add 4 8 (drop (at + 1) s) ∙ ap (λ (l : List ℕ). take 4 (drop (at + 1) s) ++ take 8 l) (drop-drop 4 (at + 1) s ∙ ap (λ (n : ℕ). drop n s) five)) in
@@ -208,7 +208,7 @@ module _ (s : List ℕ) (b : Bytes s) (l : length s ≡ recordSize) where
       ∙ ap (λ (x : List ℕ). getD s 0 0 ∷ x)
       (drop-cons s 1 0 (omega arith)
       ∙ ap (λ (x : List ℕ). getD s 1 0 ∷ x) (drop-cons s 2 0 (omega arith) ∙ ap (λ (x : List ℕ). getD s 2 0 ∷ x) (drop-cons s 3 0 (omega arith)))) in
-      ap (λ (x : List ℕ). getD s 0 0 ∷ getD s 1 0 ∷ getD s 2 0 ∷ getD s 3 0 ∷ x) (digits-number 4 s viewPlace b (omega arith))
+      ap (λ (x : List ℕ). getD s 0 0 ∷ getD s 1 0 ∷ getD s 2 0 ∷ getD s 3 0 ∷ x) (digitsNumber 4 s viewPlace b (omega arith))
       ∙ sym (ap (take headSize) four)
 
   -- so is the shared part
@@ -229,7 +229,7 @@ module _ (s : List ℕ) (b : Bytes s) (l : length s ≡ recordSize) where
   unfolding blockOf decodeRecord
   blockWritten =
       let slots = slotsWritten s (decodeRecord s .slots) rows (sharedSize + headSize) (slotCount - rows) b (omega arith) at in
-      let head = digits-number 8 s sharedSize b (omega arith) in
+      let head = digitsNumber 8 s sharedSize b (omega arith) in
       let rest : length (drop (sharedSize + headSize) s) ≤ slotSize * (slotCount - rows) = rw length-drop (omega arith) in
       (λ i. head i ++ slots i)
       ∙ ap (λ (x : List ℕ). take headSize (drop sharedSize s) ++ x)

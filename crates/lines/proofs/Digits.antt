@@ -10,7 +10,7 @@ use borrow.Author.Tests.{lt-ltb, le-ltb, le-leb, lt-leb}
 use lib.ListN.{length, getD, set, drop, length-set, drop-of-length-le}
 use lib.Seq.{drop-cons}
 use Rattle.wire.specs.Placed.{placed}
-use Rattle.wire.proofs.Output.{placed-one, placed-next}
+use Rattle.wire.proofs.Output.{placedOne, placedNext}
 use Rattle.lines.specs.Digits.{between, valueOf, digitOf, lineOf}
 
 module _ (low high b : ℕ) where
@@ -67,13 +67,13 @@ lineStep page s to i h room =
     let two : to + 2 ≡ to + 1 + 1 = omega arith in
     let next : i + 1 ≡ suc i = omega arith in
     rw (two, next, drop-cons s i 0 h)
-    (placed-next p (to + 1) (digitOf (b % 16)) (lineOf (drop (suc i) s)) (omega arith)
-    ∙ placed-next page to (digitOf (b / 16)) (digitOf (b % 16) ∷ lineOf (drop (suc i) s)) (omega arith))
+    (placedNext p (to + 1) (digitOf (b % 16)) (lineOf (drop (suc i) s)) (omega arith)
+    ∙ placedNext page to (digitOf (b / 16)) (digitOf (b % 16) ∷ lineOf (drop (suc i) s)) (omega arith))
 
 -- The line's end stored.
 pub lineDone : (page s : List ℕ) (to i : ℕ) → length s ≤ i → to < length page → set page to 10 ≡ placed page to (lineOf (drop i s))
 unfolding lineOf
-lineDone page s to i h room = rw (drop-of-length-le s {i = i} h) (placed-one page to 10 room)
+lineDone page s to i h room = rw (drop-of-length-le s {i = i} h) (placedOne page to 10 room)
 
 -- Two digits for each byte, and the line's end.
 pub lengthLine : (s : List ℕ) → length (lineOf s) ≡ 2 * length s + 1

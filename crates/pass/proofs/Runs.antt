@@ -8,10 +8,10 @@ use native.Mathlib.Nat.{add-zero}
 use lib.ListN.{length, take, drop, length-append, drop-of-length-le}
 use lib.Seq.{take-all, take-length}
 use Rattle.wire.specs.Placed.{placed}
-use Rattle.wire.proofs.Output.{placed-none, placed-more, length-placed}
+use Rattle.wire.proofs.Output.{placedNone, placedMore, lengthPlaced}
 use Rattle.entry.specs.declared.Entry.{Entry}
 use Rattle.entry.specs.Layout.{entryBytes, layout}
-use Rattle.entry.proofs.Theorems.{layout-more}
+use Rattle.entry.proofs.Theorems.{layoutMore}
 use Rattle.layout.specs.Size.{recordSize}
 use Rattle.protocol.specs.Record.{Record}
 use Rattle.protocol.specs.Pass.{Out, Step, onward, pass}
@@ -53,12 +53,12 @@ lengthMore (x ∷ es) e =
 
 module _ (at : ℕ) (o : List ℕ) (low : at ≤ length o) where
   wroteNone : Wrote at o [] at o
-  wroteNone = (sym (add-zero at), sym (placed-none o at))
+  wroteNone = (sym (add-zero at), sym (placedNone o at))
 
   wroteMore : (es : List Entry) (e : Entry) {n m : ℕ} {o' o'' : List ℕ} → Wrote at o es n o' → Put n o' e m o''
       → Wrote at o (es ++ (e ∷ [])) m o''
   wroteMore es e (n, p) (m, q) =
-      (omega (arith, n, m, lengthMore es e), q ∙ (λ i. placed (p i) (n i) (entryBytes e)) ∙ layout-more o at es e low)
+      (omega (arith, n, m, lengthMore es e), q ∙ (λ i. placed (p i) (n i) (entryBytes e)) ∙ layoutMore o at es e low)
 
 module _ (e : Entries) (at : ℕ) (o : List ℕ) (room : at + length (layout (listOf e)) ≤ length o) where
   low : at ≤ length o
@@ -124,7 +124,7 @@ ranStored o t took at out stored =
 pub ranNothing : (o : Out) (at : ℕ) (out rec : List ℕ) → o ≡ record { left = contentsIn rec; wrote = [] } → Ready rec → Ran o at out out at rec
 ranNothing o at out rec e ready =
     subst (λ (u : Out). Ran u at out out at rec) (sym e)
-    (record { left = refl; ready = ready; count = sym (add-zero at); bytes = sym (placed-none out at) })
+    (record { left = refl; ready = ready; count = sym (add-zero at); bytes = sym (placedNone out at) })
 
 -- ---- one part of a pass after the other
 
@@ -148,7 +148,7 @@ module _ (o : Out) (rest : List Step) (at : ℕ) (out : List ℕ) where
 
   module _ (room : Room (joined o rest) at out) {out' : List ℕ} {n : ℕ} {rec : List ℕ} (one : Ran o at out out' n rec) where
     pub sizeNext : length out' ≡ length out
-    sizeNext = ap length (one .bytes) ∙ length-placed out at (layout (o .wrote)) (roomFirst room)
+    sizeNext = ap length (one .bytes) ∙ lengthPlaced out at (layout (o .wrote)) (roomFirst room)
 
     pub roomNext : Room (pass rest (contentsIn rec)) n out'
     roomNext = subst (λ (x : Record). Room (pass rest x) n out') (sym (one .left)) (omega (arith, room, size, one .count, sizeNext))
@@ -162,7 +162,7 @@ module _ (o : Out) (rest : List Step) (at : ℕ) (out : List ℕ) where
           ready = next .ready;
           count = omega (arith, next .count, one .count, size);
           bytes = next .bytes ∙ (λ i. placed (one .bytes i) (one .count i) more)
-              ∙ placed-more out at (layout (o .wrote)) more low
+              ∙ placedMore out at (layout (o .wrote)) more low
               ∙ ap (placed out at) (sym (layoutAppend (o .wrote) ((pass rest (o .left)) .wrote)));
         }
       where

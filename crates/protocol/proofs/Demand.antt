@@ -32,11 +32,11 @@ use Rattle.protocol.specs.Record.{Record}
 use Rattle.protocol.specs.Tables.{put, _∈_}
 use Rattle.settings.specs.declared.Settings.{Settings}
 use Rattle.protocol.specs.Pass.{Out}
-use Rattle.protocol.specs.Calls.{recordRows, timerRows, started, heard, rung, Call, start, frame, timer, short, Answer, refused, accepted, unless, answer}
+use Rattle.protocol.specs.Calls.{recordRows, timerRows, started, heard, timedOut, Call, start, frame, timer, short, Answer, refused, accepted, unless, answer}
 use Rattle.protocol.specs.Fed.{Readable}
 use Rattle.settings.specs.Settings.{settingRows}
 use Rattle.protocol.specs.inside.Runs.{Setting, Item, leftBy, wroteBy, recordAt, written, Sent, Fair, Run, nothingYet, andThen, Decides, Started, here, earlier}
-use Rattle.protocol.specs.inside.Claim.{Demand3}
+use Rattle.protocol.specs.inside.Claim.{Demand3ByContents}
 use Rattle.protocol.proofs.Tables.{putOther, putOwn}
 use Rattle.protocol.proofs.Past.{Past, Voted, ExactNow, Fine, Ground}
 use Rattle.protocol.proofs.Past as Past′
@@ -179,12 +179,12 @@ module _ (c : Setting) (Began : ℕ → Type 0) where
                 (heardWent c Began seed (past l) r x apart (λ keeps. sentFine v i x (sent keeps)) g)),
           )
       go (timer w) (some r) e began fair is =
-          let (given, same) = unlessAccepted (first (timerRows r w)) (rung r) is in
+          let (given, same) = unlessAccepted (first (timerRows r w)) (timedOut r) is in
           let (id, third, g) = v .good i r e in
           let room : r .view ≢ 4294967295 = eqb-false (r .view) 4294967295 (noneGiven (timerRows r w) given .1 .0) in (
             third,
             subst (λ (u : Out). Went c Began (past l) i u) same
-                (subst (λ (j : ℕ). Went c Began (past l) j (rung r)) id (rungWent c Began seed (past l) r room g)),
+                (subst (λ (j : ℕ). Went c Began (past l) j (timedOut r)) id (rungWent c Began seed (past l) r room g)),
           )
 
   -- The invariant holds before any call: all is blank.
@@ -217,15 +217,15 @@ module _ (c : Setting) (Began : ℕ → Type 0) where
       goodAt : (i : ℕ) (r : Record) → (eqb (x .at) i ≡ true) ⊎ (eqb (x .at) i ≡ false) → put (x .at) (some (o .left)) (recordAt l) i ≡ some r
           → (r .set .id ≡ i) × Third × Good c Began (past (x ∷ l)) r
       goodAt i r (inl same) e =
-          let its : o .left ≡ r = own-left (rw same at e) in (
+          let its : o .left ≡ r = ownLeft (rw same at e) in (
             ap (λ (z : Record). z .set .id) (sym its) ∙ w .id ∙ eqb-true (x .at) i same,
             third,
             subst (λ (h : Past). Good c Began h r) (sym (pastAccepted l x o is))
                 (subst (λ (z : Record). Good c Began (onto (past l) (x .at) o) z) its (w .good)),
           )
         where
-          own-left : some (o .left) ≡ some r → o .left ≡ r
-          own-left e = cc
+          ownLeft : some (o .left) ≡ some r → o .left ≡ r
+          ownLeft e = cc
       goodAt i r (inr other) e =
           let (id, third, g) = v .good i r (rw other at e) in
           let apart : x .at ≡ r .set .id → ⊥ = λ (z : x .at ≡ r .set .id). eqb-false (x .at) i other (z ∙ id) in (
@@ -313,5 +313,5 @@ runsValid c l run all i p a =
     v = invariant c (λ p. Started p l) (chosenSeed c (λ p. Started p l)) run (λ p s. s)
 
 -- Demand 3 by contents: agreement and validity together.
-pub demand3 : Demand3
-demand3 c l run = record { agreement = runsAgree c l run; validity = runsValid c l run }
+pub demand3ByContents : Demand3ByContents
+demand3ByContents c l run = record { agreement = runsAgree c l run; validity = runsValid c l run }

@@ -510,20 +510,20 @@ module _ (c : Setting) (Began : ℕ → Type 0) where
     actGood seed = record {
       vaults = ap vaultsOf (doesSet r a) ∙ g .vaults;
       plan = subst Began (sym (doesStart r a)) (g .plan);
-      now = at-own (λ (j : ℕ). h′ .at j ≡ (does r a) .view) (putSame i ((does r a) .view) (h .at));
-      below = at-own (λ (j : ℕ). (k u p : ℕ) → Voted h′ j k u p → u ≤ (does r a) .view)
+      now = atOwn (λ (j : ℕ). h′ .at j ≡ (does r a) .view) (putSame i ((does r a) .view) (h .at));
+      below = atOwn (λ (j : ℕ). (k u p : ℕ) → Voted h′ j k u p → u ≤ (does r a) .view)
           (λ k u p at. ⊎-elim (λ old. omega (arith, doesView r a may, g .below k u p old)) (λ new. omega (arith, doesView r a may, new .1))
           (votedSplit k u p at));
-      once = at-own (λ (j : ℕ). (k v p q : ℕ) → Voted h′ j k v p → Voted h′ j k v q → p ≡ q) onceNow;
-      highest = at-own (λ (j : ℕ). (k : ℕ) → k < 5 → Tops (Voted h′ j k) (voteOf (does r a) k j)) highestNow;
-      previous = at-own (λ (j : ℕ). (k : ℕ) → hasPrevious k ≡ true → Tops (Other (Voted h′ j k) (voteOf (does r a) k j)) ((does r a) .previous k)) previousNow;
+      once = atOwn (λ (j : ℕ). (k v p q : ℕ) → Voted h′ j k v p → Voted h′ j k v q → p ≡ q) onceNow;
+      highest = atOwn (λ (j : ℕ). (k : ℕ) → k < 5 → Tops (Voted h′ j k) (voteOf (does r a) k j)) highestNow;
+      previous = atOwn (λ (j : ℕ). (k : ℕ) → hasPrevious k ≡ true → Tops (Other (Voted h′ j k) (voteOf (does r a) k j)) ((does r a) .previous k)) previousNow;
       kept = keptNow a refl;
-      told = at-own (λ (j : ℕ). (e : Entry) → e ∈ h′ .wrote j → Past′.Told c Began h′ j e)
+      told = atOwn (λ (j : ℕ). (e : Entry) → e ∈ h′ .wrote j → Past′.Told c Began h′ j e)
           (λ e at. ⊎-elim (λ old. toldOn c Began actLater i e (g .told e old)) (toldNow seed a refl e) (entrySplit e at));
     }
       where
-        at-own : (P : ℕ → Type 0) → P i → P ((does r a) .set .id)
-        at-own P t = subst P (sym (ap (λ (s : Settings). s .id) (doesSet r a))) t
+        atOwn : (P : ℕ → Type 0) → P i → P ((does r a) .set .id)
+        atOwn P t = subst P (sym (ap (λ (s : Settings). s .id) (doesSet r a))) t
 
   -- ---- others act, or a frame is kept
 
@@ -558,14 +558,14 @@ module _ (c : Setting) (Began : ℕ → Type 0) where
     now = g .now;
     below = g .below;
     once = g .once;
-    highest = λ k low. subst (Tops (Voted h (r .set .id) k)) (sym (own-row k)) (g .highest k low);
-    previous = λ k has. subst (λ (o : Option Vote). Tops (Other (Voted h (r .set .id) k) o) (r .previous k)) (sym (own-row k)) (g .previous k has);
+    highest = λ k low. subst (Tops (Voted h (r .set .id) k)) (sym (ownsRow k)) (g .highest k low);
+    previous = λ k has. subst (λ (o : Option Vote). Tops (Other (Voted h (r .set .id) k) o) (r .previous k)) (sym (ownsRow k)) (g .previous k has);
     kept = keptBy h x (r .kept) fine (g .kept);
     told = g .told;
   }
     where
-      own-row : (k : ℕ) → voteOf (keep x r) k (r .set .id) ≡ voteOf r k (r .set .id)
-      own-row k = ap (λ (o : Option Frame). each o (λ y. voteBy (y .view) (y .body))) (keepOtherSender x (r .kept) (suc k) (r .set .id) other)
+      ownsRow : (k : ℕ) → voteOf (keep x r) k (r .set .id) ≡ voteOf r k (r .set .id)
+      ownsRow k = ap (λ (o : Option Frame). each o (λ y. voteBy (y .view) (y .body))) (keepOtherSender x (r .kept) (suc k) (r .set .id) other)
 
 -- Where all plans count as begun, every proposal is reasoned.
 pub anySeed : (c : Setting) → Seed c (λ p. Unit {0})

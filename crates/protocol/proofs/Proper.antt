@@ -22,7 +22,7 @@ use Rattle.entry.proofs.Theorems.{entriesReadBack}
 use Rattle.protocol.specs.Record.{Record, each, spelt, voteBy, voteOf}
 use Rattle.settings.specs.declared.Settings.{Settings}
 use Rattle.protocol.specs.Pass.{Act, ask, does, writes, Out, Step, taken, pass, fromA}
-use Rattle.protocol.specs.Calls.{recordRows, timerRows, fresh, started, keep, heard, wanted, rung, Call, start, frame, timer, short, accepted, answer}
+use Rattle.protocol.specs.Calls.{recordRows, timerRows, fresh, started, keep, heard, wanted, timedOut, Call, start, frame, timer, short, accepted, answer}
 use Rattle.protocol.specs.Fed.{Readable, Fed}
 use Rattle.settings.specs.Settings.{settingRows}
 use Rattle.protocol.specs.inside.Sound.{Ranged, AlwaysProper}
@@ -98,7 +98,7 @@ heardWhole r x read w = record {
 -- So every accepted call leaves a sound record and writes entries that have bytes.
 callWhole : (b : Option Record) (a : Call) → ((r : Record) → b ≡ some r → Sound r × Ranged r) → Fed b a → (o : Out) → answer b a ≡ accepted o
     → Whole (o .left) × AllValid (o .wrote)
-unfolding answer started heard rung
+unfolding answer started heard timedOut
 callWhole b short was fed o e = let z : _≡_ {A = ℕ} 0 1 = cc in absurd (omega arith)
 callWhole none (frame x) was fed o e = let z : _≡_ {A = ℕ} 0 1 = cc in absurd (omega arith)
 callWhole none (timer v) was fed o e = let z : _≡_ {A = ℕ} 0 1 = cc in absurd (omega arith)
@@ -114,7 +114,7 @@ callWhole (some r) (frame (Accepted x)) was fed o e =
     subst (λ (u : Out). Whole (u .left) × AllValid (u .wrote)) same
     (passWhole sureA (keep x r) (heardWhole r x fed (record { sound = sound; ranged = ranged })))
 callWhole (some r) (timer v) was fed o e =
-    let (given, same) = unlessAccepted (first (timerRows r v)) (rung r) e in
+    let (given, same) = unlessAccepted (first (timerRows r v)) (timedOut r) e in
     let (sound, ranged) = was r refl in
     let room : r .view ≢ 4294967295 = eqb-false (r .view) 4294967295 (noneGiven (timerRows r v) given .1 .0) in
     let w : Whole r = record { sound = sound; ranged = ranged } in

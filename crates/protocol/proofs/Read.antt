@@ -12,7 +12,7 @@ use Rattle.frame.specs.declared.Frame.{Frame}
 use Rattle.frame.specs.declared.Reading.the-variants.{Accepted}
 use Rattle.frame.specs.Format.{encode, decode}
 use Rattle.frame.specs.Refusal.{first, linkRows, readFrame}
-use Rattle.frame.proofs.Theorems.{passed, accepted-valid, readBack}
+use Rattle.frame.proofs.Theorems.{passed, acceptedValid, readBack}
 use Rattle.protocol.specs.Fed.{Readable}
 use Rattle.protocol.proofs.Went.{noneGiven}
 
@@ -27,14 +27,14 @@ acceptedReadable s link n own x bytes e =
     let p = passed s link n own x e in
     let said : getD s 1 0 ≡ x .sender = senderSaid s ∙ ap (λ (y : Frame). y .sender) (p .said) in
     let same : getD s 1 0 ≡ link = eqb-true (getD s 1 0) link
-    (not-false (eqb (getD s 1 0) link) (noneGiven (linkRows (getD s 1 0) link n own) (p .link-passed) .1 .0)) in
+    (not-false (eqb (getD s 1 0) link) (noneGiven (linkRows (getD s 1 0) link n own) (p .linkPassed) .1 .0)) in
     let own-link : x .sender ≡ link = sym said ∙ same in (
       own-link,
       record {
-        valid = accepted-valid s link n own x bytes e;
+        valid = acceptedValid s link n own x bytes e;
         link =
             subst (λ (j : ℕ). first (linkRows (x .sender) j n own) ≡ 0) (sym own-link)
-            (subst (λ (j : ℕ). first (linkRows j link n own) ≡ 0) said (p .link-passed));
+            (subst (λ (j : ℕ). first (linkRows j link n own) ≡ 0) said (p .linkPassed));
         content = p .content;
         leader = p .leader;
       },

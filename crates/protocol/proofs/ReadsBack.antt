@@ -25,7 +25,7 @@ use Rattle.settings.specs.declared.Settings.{Settings}
 use Rattle.settings.specs.Settings.{settingRows}
 use Rattle.protocol.specs.Record.{Record, leader, leads, changeFrame, voteFrame, reportFrame}
 use Rattle.protocol.specs.Pass.{Act, ask, enter, cast, decide, does, timerEntry, suggestEntry, writes, Out, Step, taken, onward, pass}
-use Rattle.protocol.specs.Calls.{recordRows, timerRows, fresh, started, keep, heard, wanted, rung, Call, start, frame, timer, short, accepted, answer}
+use Rattle.protocol.specs.Calls.{recordRows, timerRows, fresh, started, keep, heard, wanted, timedOut, Call, start, frame, timer, short, accepted, answer}
 use Rattle.protocol.specs.Fed.{Readable, Fed}
 use Rattle.protocol.specs.inside.Sound.{Ranged}
 use Rattle.protocol.specs.Sound.{Sound}
@@ -175,7 +175,7 @@ ownRight {s} {o} same k =
 -- What an accepted call writes passes at whom it is for.
 pub callRight : (b : Option Record) (a : Call) → ((r : Record) → b ≡ some r → Sound r × Ranged r) → Fed b a
     → (o : Out) → answer b a ≡ accepted o → OwnRight (o .left .set) (o .wrote)
-unfolding answer started heard rung
+unfolding answer started heard timedOut
 callRight b short was fed o e = let z : _≡_ {A = ℕ} 0 1 = cc in absurd (omega arith)
 callRight none (frame x) was fed o e = let z : _≡_ {A = ℕ} 0 1 = cc in absurd (omega arith)
 callRight none (timer v) was fed o e = let z : _≡_ {A = ℕ} 0 1 = cc in absurd (omega arith)
@@ -189,7 +189,7 @@ callRight (some r) (frame (Accepted x)) was fed o e =
     let (sound, ranged) = was r refl in
     ownRight same (passKeeps sureA (keep x r) (heardWhole r x fed (record { sound = sound; ranged = ranged })))
 callRight (some r) (timer v) was fed o e =
-    let (given, same) = unlessAccepted (first (timerRows r v)) (rung r) e in
+    let (given, same) = unlessAccepted (first (timerRows r v)) (timedOut r) e in
     let (sound, ranged) = was r refl in
     let may : May r (ask (wanted r)) = wantedMay r (eqb-false (r .view) 4294967295 (noneGiven (timerRows r v) given .1 .0)) in
     let w : Whole r = record { sound = sound; ranged = ranged } in

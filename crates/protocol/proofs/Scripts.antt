@@ -19,7 +19,7 @@ use Rattle.frame.specs.declared.Reading.{Reading}
 use Rattle.frame.specs.declared.Reading.the-variants.{Accepted, Refused}
 use Rattle.frame.specs.Format.{encode}
 use Rattle.frame.specs.Refusal.{readFrame}
-use Rattle.frame.proofs.Theorems.{encode-bytes}
+use Rattle.frame.proofs.Theorems.{encodedBytes}
 use Rattle.entry.specs.declared.Entry.{Entry}
 use Rattle.entry.specs.declared.Entry.the-variants.{ForAll, ForOne, Timer, Decision}
 use Rattle.settings.specs.declared.Settings.{Settings}
@@ -135,7 +135,7 @@ module _ (keeps : Set) (most : total (equals 4 1) - 1 ≤ size (equals 4 1) keep
         go : (y : Reading) → readFrame (encode x) (x .sender) 4 i ≡ y → Next l (record { at = i; call = frame y })
         go (Refused k) read = record { called = rules; fair = tt; brings = tt }
         go (Accepted y) read =
-            let (own, can) = acceptedReadable (encode x) (x .sender) 4 i y (encode-bytes x) read in
+            let (own, can) = acceptedReadable (encode x) (x .sender) 4 i y (encodedBytes x) read in
             record { called = rules; fair = (can, λ bad. absurd (clash (subst (λ (j : ℕ). keeps j ≡ true) own bad) lies)); brings = tt }
 
     -- A fair move makes a call with which the run can go on.

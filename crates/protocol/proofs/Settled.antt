@@ -24,7 +24,7 @@ use Rattle.frame.specs.Refusal.{first}
 use Rattle.protocol.specs.Record.{Record, when, each, highest, keeping, changeOf, planNow, sentNow, changeFrame, voteFrame, reportFrame, vaults, leader, leads}
 use Rattle.settings.specs.declared.Settings.{Settings}
 use Rattle.protocol.specs.Pass.{Act, ask, enter, cast, decide, entered, does, asked, isNews, actA, canEnter, actB, mayPropose, chosen, actC, approves, actD, agreed, actVote, actH, Out, Step, taken, onward, pass, stepA, stepB, stepC, stepD, stepVote, stepH, fromC, fromA}
-use Rattle.protocol.specs.Calls.{recordRows, timerRows, fresh, started, keep, heard, wanted, rung, start, frame, timer, short, answer}
+use Rattle.protocol.specs.Calls.{recordRows, timerRows, fresh, started, keep, heard, wanted, timedOut, start, frame, timer, short, answer}
 use Rattle.settings.specs.Settings.{settingRows}
 use Rattle.protocol.specs.Settled.{AlwaysSettled}
 use Rattle.protocol.proofs.Tables.{keepSame, keepOtherKind, keepWas, eachSome, eachNone, eachWas, whenSome, whenNone, whenFalse, highestHas, highestMost, highestNone}
@@ -381,10 +381,10 @@ doneC r q = climbH _ (climbVote 2 (omega arith) _ (climbVote 1 (omega arith) _ (
 -- After a pass from A nothing is left to do.
 doneA : (r : Record) → Done 8 ((pass fromA r) .left)
 unfolding pass
-doneA r = doneC _ (climbB _ (climbA r none-yet))
+doneA r = doneC _ (climbB _ (climbA r noneYet))
   where
-    none-yet : Done 0 r
-    none-yet =
+    noneYet : Done 0 r
+    noneYet =
         record {
           a = λ le. absurd (omega arith);
           b = λ le. absurd (omega arith);
@@ -424,7 +424,7 @@ quietPass r q =
 
 -- After every accepted call a further pass does nothing.
 pub callSettles : AlwaysSettled
-unfolding answer started heard rung
+unfolding answer started heard timedOut
 callSettles b short o e = let z : _≡_ {A = ℕ} 0 1 = cc in absurd (omega arith)
 callSettles none (frame x) o e = let z : _≡_ {A = ℕ} 0 1 = cc in absurd (omega arith)
 callSettles none (timer v) o e = let z : _≡_ {A = ℕ} 0 1 = cc in absurd (omega arith)
@@ -437,5 +437,5 @@ callSettles (some r) (frame (Accepted x)) o e =
     let (given, same) = unlessAccepted (first (recordRows r x)) (heard r x) e in
     subst (λ (u : Out). pass fromA (u .left) ≡ record { left = u .left; wrote = [] }) same (quietPass _ (doneA (keep x r)))
 callSettles (some r) (timer v) o e =
-    let (given, same) = unlessAccepted (first (timerRows r v)) (rung r) e in
+    let (given, same) = unlessAccepted (first (timerRows r v)) (timedOut r) e in
     subst (λ (u : Out). pass fromA (u .left) ≡ record { left = u .left; wrote = [] }) same (quietPass _ (doneA (does r (ask (wanted r)))))

@@ -24,7 +24,7 @@ use Rattle.entry.specs.declared.Entry.the-variants.{Decision}
 use Rattle.settings.specs.Settings.{delayOf}
 use Rattle.protocol.specs.Record.{Record, highest}
 use Rattle.protocol.specs.Pass.{does, writes, agreed, pass, stepA, stepB, stepC, stepD, stepVote, stepH}
-use Rattle.protocol.specs.Calls.{answer, started, keep, heard, rung}
+use Rattle.protocol.specs.Calls.{answer, started, keep, heard, timedOut}
 use Rattle.protocol.specs.inside.Runs.{recordAt, written}
 use Rattle.protocol.proofs.Scripts.{Move, begin, hear, ring, lie, pick, calls, allFair}
 
@@ -74,7 +74,7 @@ pub plainDecides : (wrote plain 0 6 ≡ some (Decision 0 7))
     × (wrote plain 1 5 ≡ some (Decision 0 7))
     × (wrote plain 2 5 ≡ some (Decision 0 7))
     × (wrote plain 3 5 ≡ some (Decision 0 7))
-unfolding delayOf answer started keep heard rung pass stepA stepB stepC stepD stepVote stepH does writes agreed highest safe free allowed claimed
+unfolding delayOf answer started keep heard timedOut pass stepA stepB stepC stepD stepVote stepH does writes agreed highest safe free allowed claimed
     twoSets backed choice smallest any weigh isQuorum isBlocking reach claims unlocked allows recordAt written calls
 plainDecides = (refl, refl, refl, refl)
 
@@ -99,14 +99,14 @@ liedFair = refl
 
 -- Vaults 0 and 2 keep different votes of vault 3.
 pub liedKept : (keptIn (recordAt (calls lied) 0) 2 3 ≡ some (voteOf3 7)) × (keptIn (recordAt (calls lied) 2) 2 3 ≡ some (voteOf3 9))
-unfolding delayOf answer started keep heard rung pass stepA stepB stepC stepD stepVote stepH does writes agreed highest safe free allowed claimed
+unfolding delayOf answer started keep heard timedOut pass stepA stepB stepC stepD stepVote stepH does writes agreed highest safe free allowed claimed
     twoSets backed choice smallest any weigh isQuorum isBlocking reach claims unlocked allows recordAt written calls within lengthOf encode
     bodyAs decode badForm tooHigh badPrevious viewMissing misled refusal readFrame numberAt digits
 liedKept = (refl, refl)
 
 -- The three others decide 7 all the same.
 pub liedDecides : (wrote lied 0 6 ≡ some (Decision 0 7)) × (wrote lied 1 5 ≡ some (Decision 0 7)) × (wrote lied 2 5 ≡ some (Decision 0 7))
-unfolding delayOf answer started keep heard rung pass stepA stepB stepC stepD stepVote stepH does writes agreed highest safe free allowed claimed
+unfolding delayOf answer started keep heard timedOut pass stepA stepB stepC stepD stepVote stepH does writes agreed highest safe free allowed claimed
     twoSets backed choice smallest any weigh isQuorum isBlocking reach claims unlocked allows recordAt written calls within lengthOf encode
     bodyAs decode badForm tooHigh badPrevious viewMissing misled refusal readFrame numberAt digits
 liedDecides = (refl, refl, refl)
@@ -130,6 +130,6 @@ pub laterDecides : (wrote later 0 13 ≡ some (Decision 1 7))
     × (wrote later 1 12 ≡ some (Decision 1 7))
     × (wrote later 2 12 ≡ some (Decision 1 7))
     × (wrote later 3 12 ≡ some (Decision 1 7))
-unfolding delayOf answer started keep heard rung pass stepA stepB stepC stepD stepVote stepH does writes agreed highest safe free allowed claimed
+unfolding delayOf answer started keep heard timedOut pass stepA stepB stepC stepD stepVote stepH does writes agreed highest safe free allowed claimed
     twoSets backed choice smallest any weigh isQuorum isBlocking reach claims unlocked allows recordAt written calls
 laterDecides = (refl, refl, refl, refl)

@@ -11,7 +11,7 @@ use lib.ListN.{length, length-append}
 use Rattle.quorum.specs.Quorums.{isBlocking}
 use Rattle.rules.specs.Options.{isNone}
 use Rattle.wire.specs.inside.Widths.{widths, total}
-use Rattle.wire.proofs.Laws.{length-spell}
+use Rattle.wire.proofs.Laws.{lengthSpell}
 use Rattle.frame.specs.declared.Reading.the-variants.{Accepted, Refused}
 use Rattle.frame.specs.Format.{fieldsOf, encode}
 use Rattle.frame.specs.Refusal.{first}
@@ -20,7 +20,7 @@ use Rattle.entry.specs.declared.Entry.the-variants.{ForAll, ForOne, Timer, Deci
 use Rattle.entry.specs.Layout.{hostFields, entryBytes, layout}
 use Rattle.protocol.specs.Record.{Record, when, each, highest, leads, changeOf, planNow, leader, sentNow}
 use Rattle.protocol.specs.Pass.{Act, ask, enter, cast, decide, does, suggestEntry, writes, asked, isNews, actA, canEnter, actB, mayPropose, chosen, actC, approves, actD, agreed, actVote, actH, Out, Step, taken, pass, stepA, stepB, stepC, stepD, stepVote, stepH, fromC, fromA}
-use Rattle.protocol.specs.Calls.{recordRows, timerRows, fresh, started, keep, heard, wanted, rung, Call, start, frame, timer, short, accepted, answer}
+use Rattle.protocol.specs.Calls.{recordRows, timerRows, fresh, started, keep, heard, wanted, timedOut, Call, start, frame, timer, short, accepted, answer}
 use Rattle.settings.specs.Settings.{settingRows}
 use Rattle.protocol.proofs.Tables.{eachSome, whenSome}
 use Rattle.protocol.proofs.Went.{unlessAccepted}
@@ -42,10 +42,10 @@ sizes (e ∷ es) = size e + sizes es
 -- An entry's bytes are as many as `size` says.
 entryLength : (e : Entry) → length (entryBytes e) ≡ size e
 unfolding entryBytes encode
-entryLength (ForAll x) = omega (arith, length-spell (fieldsOf x))
-entryLength (ForOne i x) = omega (arith, length-spell (fieldsOf x))
-entryLength (Timer v ms) = length-spell (hostFields 11 v 4 ms)
-entryLength (Decision v p) = length-spell (hostFields 10 v 8 p)
+entryLength (ForAll x) = omega (arith, lengthSpell (fieldsOf x))
+entryLength (ForOne i x) = omega (arith, lengthSpell (fieldsOf x))
+entryLength (Timer v ms) = lengthSpell (hostFields 11 v 4 ms)
+entryLength (Decision v p) = lengthSpell (hostFields 10 v 8 p)
 
 -- So are those of entries end to end.
 layoutLength : (es : List Entry) → length (layout es) ≡ sizes es
@@ -156,7 +156,7 @@ sizeA = passSize stepA _ 7 191 (takenSize actA 7 costA) (passSize stepB fromC 10
 
 -- The longest output is a timer's: its own view-change adds 7 bytes to a pass from A.
 callSize : (b : Option Record) (a : Call) (o : Out) → answer b a ≡ accepted o → sizes (o .wrote) ≤ 205
-unfolding answer started heard rung
+unfolding answer started heard timedOut
 callSize b short o e = let z : _≡_ {A = ℕ} 0 1 = cc in absurd (omega arith)
 callSize none (start s p) o e =
     let (given, same) = unlessAccepted (first (settingRows s)) (started s p) e in
@@ -169,7 +169,7 @@ callSize (some r) (frame (Accepted x)) o e =
     let (given, same) = unlessAccepted (first (recordRows r x)) (heard r x) e in
     subst (λ (u : Out). sizes (u .wrote) ≤ 205) same (omega (arith, sizeA (keep x r)))
 callSize (some r) (timer v) o e =
-    let (given, same) = unlessAccepted (first (timerRows r v)) (rung r) e in
+    let (given, same) = unlessAccepted (first (timerRows r v)) (timedOut r) e in
     subst (λ (u : Out). sizes (u .wrote) ≤ 205) same
     (omega (
       arith,

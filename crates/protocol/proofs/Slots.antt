@@ -93,12 +93,12 @@ shiftStands v p (some z) old low s x is = go (which (eqb (z .plan) p))
         let differs : z .plan ≢ x .plan = rw (← zy) at other in
         (record { view = v; plan = p }, refl, omega arith, λ (e : p ≡ x .plan). differs (zp ∙ e))
     go (inr other) =
-        let zx : z ≡ x = some-is (rw other at is) in
+        let zx : z ≡ x = someIs (rw other at is) in
         let above : z .view < v = low z refl in
         (record { view = v; plan = p }, refl, rw (← zx) above, λ (e : p ≡ x .plan). eqb-false (z .plan) p other (ap (λ (y : Vote). y .plan) zx ∙ sym e))
       where
-        some-is : {y : Vote} → some z ≡ some y → z ≡ y
-        some-is e = cc
+        someIs : {y : Vote} → some z ≡ some y → z ≡ y
+        someIs e = cc
 
 -- ---- the frames sent
 

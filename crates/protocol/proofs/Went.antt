@@ -22,7 +22,7 @@ use Rattle.protocol.specs.Record.{Record, changeOf}
 use Rattle.protocol.specs.Tables.{put, _∈_}
 use Rattle.settings.specs.declared.Settings.{Settings}
 use Rattle.protocol.specs.Pass.{Act, ask, timerEntry, does, Out, Step, taken, onward, pass, fromC, fromA}
-use Rattle.protocol.specs.Calls.{fresh, started, keep, heard, wantedFrom, wanted, rung, accepted, unless}
+use Rattle.protocol.specs.Calls.{fresh, started, keep, heard, wantedFrom, wanted, timedOut, accepted, unless}
 use Rattle.settings.specs.Settings.{settingRows}
 use Rattle.settings.specs.Vaults.{vaultsOf}
 use Rattle.protocol.specs.inside.Runs.{Setting}
@@ -140,13 +140,13 @@ module _ (c : Setting) (Began : ℕ → Type 0) (seed : Seed c Began) where
   pub startWent : (h : Past) (s : Settings) (p : ℕ) → vaultsOf s ≡ c .vaults → Began p → h .wrote (s .id) ≡ [] → h .at (s .id) ≡ 0
       → Went c Began h (s .id) (started s p)
   unfolding started
-  startWent h s p same began blank zero-view = further c Began first-out (pass fromC (fresh s p)) later (passWent sureC h₁ (fresh s p) good)
+  startWent h s p same began blank zero-view = further c Began firstOut (pass fromC (fresh s p)) later (passWent sureC h₁ (fresh s p) good)
     where
-      first-out : Out
-      first-out = record { left = fresh s p; wrote = timerEntry (fresh s p) 0 ∷ [] }
+      firstOut : Out
+      firstOut = record { left = fresh s p; wrote = timerEntry (fresh s p) 0 ∷ [] }
 
       h₁ : Past
-      h₁ = onto h (s .id) first-out
+      h₁ = onto h (s .id) firstOut
 
       only : (e : Entry) → e ∈ h₁ .wrote (s .id) → e ≡ timerEntry (fresh s p) 0
       only e at =
@@ -195,8 +195,8 @@ module _ (c : Setting) (Began : ℕ → Type 0) (seed : Seed c Began) where
   heardWent h r x other fine g = passWent sureA h (keep x r) (heardGood c Began x other fine g)
 
   -- So does an accepted timer: its view-change is an act, and then comes the pass.
-  pub rungWent : (h : Past) (r : Record) → r .view ≢ 4294967295 → Good c Began h r → Went c Began h (r .set .id) (rung r)
-  unfolding rung does
+  pub rungWent : (h : Past) (r : Record) → r .view ≢ 4294967295 → Good c Began h r → Went c Began h (r .set .id) (timedOut r)
+  unfolding timedOut does
   rungWent h r room g =
       further c Began (taken r (some (ask (wanted r)))) (pass fromA (does r (ask (wanted r)))) (actLater c Began g (ask (wanted r)) (wantedMay r room))
       (passWent sureA (onto h (r .set .id) (taken r (some (ask (wanted r))))) (does r (ask (wanted r)))

@@ -1,4 +1,4 @@
--- Worked calls, by computation: document 01's example, each step, the timer, the leader's choices, the two-set vote.
+-- Worked calls, by computation: document 01's example, each step, the timer, the leader's choices, the twoSet vote.
 -- Assumes nothing.
 use Prim.Native.Nat.{ℕ, suc}
 use mathlib.Core.Path.{_≡_, refl}
@@ -18,7 +18,7 @@ use Rattle.entry.specs.declared.Entry.the-variants.{ForAll, ForOne, Timer, Deci
 use Rattle.settings.specs.Settings.{delayOf}
 use Rattle.protocol.specs.Record.{Record, highest, spelt, kindOf}
 use Rattle.protocol.specs.Pass.{does, writes, agreed, pass, stepA, stepB, stepC, stepD, stepVote, stepH}
-use Rattle.protocol.specs.Calls.{Call, start, frame, timer, short, Answer, refused, accepted, started, keep, heard, rung, answer}
+use Rattle.protocol.specs.Calls.{Call, start, frame, timer, short, Answer, refused, accepted, started, keep, heard, timedOut, answer}
 
 -- ---- a script of calls at one vault, and what it replies
 
@@ -136,7 +136,7 @@ lockedVote = replies (
     ≡ wrote (timed 0 ∷ []) ∷ wrote [] ∷ wrote (ForAll (change 3 1) ∷ timed 1 ∷ ForAll (silent rule3 3 1) ∷ ForOne 1 (silent rule1 3 1) ∷ [])
     ∷ wrote [] ∷ wrote [] ∷ wrote [] ∷ wrote (ForAll (vote 3 1 1 6) ∷ []) ∷ []
 
--- M7 in a run: vault 0 voted-1 for 4 and voted-4 for 6 in view 1; in view 3 plan 6 is safe by the two-set clause alone.
+-- M7 in a run: vault 0 voted-1 for 4 and voted-4 for 6 in view 1; in view 3 plan 6 is safe by the twoSet clause alone.
 abbrev twoSetVote : Type 0
 twoSetVote = replies (
     starts 0 7 ∷ hears (change 1 1) ∷ hears (change 2 1) ∷ hears (vote 1 0 1 4) ∷ hears (silent rule3 1 1) ∷ hears (silent rule3 2 1)
@@ -191,5 +191,5 @@ refusals = replies (
 -- All of them hold by computation.
 worked : document × allVotes × lateVote × viewChanges × timerRepeats × timerBeyond × ownPlan × lockedPlan × lockedVote × twoSetVote × previousStays
     × decidesOnce × laterReplaces × refusals
-unfolding delayOf replies answer started keep heard rung pass stepA stepB stepC stepD stepVote stepH does writes agreed highest safe free allowed claimed twoSets backed choice smallest any weigh isQuorum isBlocking reach claims unlocked allows
+unfolding delayOf replies answer started keep heard timedOut pass stepA stepB stepC stepD stepVote stepH does writes agreed highest safe free allowed claimed twoSets backed choice smallest any weigh isQuorum isBlocking reach claims unlocked allows
 worked = (refl, refl, refl, refl, refl, refl, refl, refl, refl, refl, refl, refl, refl, refl)

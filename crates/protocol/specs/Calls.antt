@@ -53,8 +53,8 @@ abbrev pub wanted : Record → ℕ
 wanted r = wantedFrom (r .view) (changeOf r (r .set .id))
 
 -- 'An accepted timer broadcasts view-change .., then goes from A.'
-unfoldable pub rung : Record → Out
-rung r = onward (writes r (ask (wanted r))) (pass fromA (does r (ask (wanted r))))
+unfoldable pub timedOut : Record → Out
+timedOut r = onward (writes r (ask (wanted r))) (pass fromA (does r (ask (wanted r))))
 
 -- A call: start with settings and a plan; a frame call, with what the frame reader answers; a timer for a view; and any
 -- call with output space below 256 bytes.
@@ -82,4 +82,4 @@ answer none (timer v) = refused 2
 answer (some r) (start s p) = refused 4
 answer (some r) (frame (Refused k)) = refused k
 answer (some r) (frame (Accepted f)) = unless (first (recordRows r f)) (heard r f)
-answer (some r) (timer v) = unless (first (timerRows r v)) (rung r)
+answer (some r) (timer v) = unless (first (timerRows r v)) (timedOut r)

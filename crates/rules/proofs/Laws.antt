@@ -1,6 +1,6 @@
 -- The rules by sets are the rules by counting (document 01, 'When a plan is safe'; step C).
 -- A set of reporters that pass a test is enough exactly if all that pass are (`counted`), so only the views and the plans are
--- left to search. Views: those below v. Plans of the two-set clause: a plan that no highest vote is for is claimed only where
+-- left to search. Views: those below v. Plans of the twoSet clause: a plan that no highest vote is for is claimed only where
 -- every plan is, so the highest votes' plans and any two others will do. Plans of step C: for the same reason a plan that no
 -- report names is safe only if every plan is, so where the starting plan is not, the smallest safe plan is named by a report.
 -- Assumes nothing.
@@ -74,7 +74,7 @@ module _ (vs : Vaults) (rs : Reports) where
       (λ i low r is. claimsUnnamed r p q u (notTrue _
       (λ (at : holds (λ x. eqb (x .plan) p) (r .highest) ≡ true). clash (anyAt (votes rs p) (vs .n) i low (rw is at)) unvoted))) h
 
-  -- ---- the two-set clause
+  -- ---- the twoSet clause
 
   -- p is one of the plans that the clause tries.
   abbrev Tried : ℕ → Type 0
@@ -112,7 +112,7 @@ module _ (vs : Vaults) (rs : Reports) where
   another zero = (1, omega arith, λ (e : _≡_ {A = ℕ} 0 1). omega arith)
   another (suc p) = (0, omega arith, λ (e : suc p ≡ 0). omega arith)
 
-  -- The two-set clause by sets is the one by counting: plans that no highest vote is for are replaced by 0 and 1.
+  -- The twoSet clause by sets is the one by counting: plans that no highest vote is for are replaced by 0 and 1.
   pub twoIff : (v u : ℕ) → TwoSets vs rs v u ↔ (twoSets vs rs v u ≡ true)
   unfolding twoSets
   twoIff v u = (to, from)

@@ -13,7 +13,7 @@ use native.Mathlib.Decide.{decLe}
 use borrow.Author.Tests.{leb-true, le-leb, eqb-true, eq-eqb, ne-eqb}
 use Rattle.quorum.proofs.Bools.{which, clash, notTrue, bothSplit, bothJoin, orLeft, orRight, either}
 use Rattle.rules.specs.Options.{isNone, holds}
-use Rattle.rules.specs.Rules.{Vote, Report, viewOf, viewFor, reach, claims, fits, allows}
+use Rattle.rules.specs.Rules.{Vote, Report, viewOf, viewFor, reach, claims, lockAllows, allows}
 use Rattle.rules.specs.inside.Counts.{names}
 use Rattle.rules.specs.inside.Views.{under}
 use Rattle.rules.specs.Sentences.{Says, always, forIt, forAny, ClaimIsSaid}
@@ -66,7 +66,7 @@ pub allowsUnder : (r : Report) (p u : ℕ) → allows p u r ≡ true → under u
 unfolding allows under
 allowsUnder r p u h = go (r .lock) h
   where
-    go : (o : Option Vote) → (isNone o || holds (fits p u) o) ≡ true → leb (viewOf o) u ≡ true
+    go : (o : Option Vote) → (isNone o || holds (lockAllows p u) o) ≡ true → leb (viewOf o) u ≡ true
     go none e = le-leb 0 u (omega arith)
     go (some x) e = bothSplit (leb (x .view) u) (not (eqb (x .view) u) || eqb (x .plan) p) e .0
 
@@ -75,7 +75,7 @@ pub underAllows : (r : Report) (p u w : ℕ) → u < w → under u r ≡ true �
 unfolding allows under
 underAllows r p u w less h = go (r .lock) h
   where
-    go : (o : Option Vote) → leb (viewOf o) u ≡ true → (isNone o || holds (fits p w) o) ≡ true
+    go : (o : Option Vote) → leb (viewOf o) u ≡ true → (isNone o || holds (lockAllows p w) o) ≡ true
     go none e = refl
     go (some x) e =
         let low : x .view ≤ u = leb-true (x .view) u e in
@@ -106,7 +106,7 @@ pub allowsUnnamed : (r : Report) (p q u : ℕ) → holds (λ x. eqb (x .plan) p)
 unfolding allows
 allowsUnnamed r p q u other h = go (r .lock) other h
   where
-    go : (o : Option Vote) → holds (λ x. eqb (x .plan) p) o ≡ false → (isNone o || holds (fits p u) o) ≡ true → (isNone o || holds (fits q u) o) ≡ true
+    go : (o : Option Vote) → holds (λ x. eqb (x .plan) p) o ≡ false → (isNone o || holds (lockAllows p u) o) ≡ true → (isNone o || holds (lockAllows q u) o) ≡ true
     go none f e = refl
     go (some x) f e =
         let (low, at) = bothSplit (leb (x .view) u) _ e in

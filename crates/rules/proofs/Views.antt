@@ -79,7 +79,7 @@ module _ (test : ℕ → Bool) (falls : Falls test) where
 module _ (vs : Vaults) (rs : Reports) (v : ℕ) where
   -- ---- the views that back a plan
 
-  -- The two-set clause, if it passes at a view, passes at earlier ones.
+  -- The twoSet clause, if it passes at a view, passes at earlier ones.
   twoFalls : Falls (twoSets vs rs v)
   twoFalls u w le h =
       let t : TwoSets vs rs v u = twoIff vs rs v u .1 h in
@@ -93,13 +93,13 @@ module _ (vs : Vaults) (rs : Reports) (v : ℕ) where
       ⊎-elim (λ c. orLeft (claimed vs rs p w) _ (claimedFalls vs rs p u w le c)) (λ t. orRight (claimed vs rs p w) _ (twoFalls u w le t))
       (either (claimed vs rs p u) _ h)
 
-  -- ---- the two-set clause at view u
+  -- ---- the twoSet clause at view u
 
-  -- The two-set clause needs a view between u and v.
+  -- The twoSet clause needs a view between u and v.
   pub twoLate : (u : ℕ) → v ≤ u + 1 → twoSets vs rs v u ≡ false
   twoLate u late = notTrue _ (λ h. let t : TwoSets vs rs v u = twoIff vs rs v u .1 h in omega arith)
 
-  -- Where the two-set clause passes, one plan is claimed at u and another at the next view.
+  -- Where the twoSet clause passes, one plan is claimed at u and another at the next view.
   twoClaims : (u : ℕ) → twoSets vs rs v u ≡ true → (p₁ p₂ : ℕ) × (p₂ ≢ p₁) × (claimed vs rs p₁ u ≡ true) × (claimed vs rs p₂ (u + 1) ≡ true)
   twoClaims u h =
       let t : TwoSets vs rs v u = twoIff vs rs v u .1 h in (

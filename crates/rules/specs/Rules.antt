@@ -63,12 +63,12 @@ unfoldable pub unlocked : Report → Bool
 unlocked r = isNone (r .lock)
 
 -- 'no lock above v'' and 'every lock at v' is for p': what both ask of one lock.
-abbrev pub fits : ℕ → ℕ → Vote → Bool
-fits p u x = leb (x .view) u && (not (eqb (x .view) u) || eqb (x .plan) p)
+abbrev pub lockAllows : ℕ → ℕ → Vote → Bool
+lockAllows p u x = leb (x .view) u && (not (eqb (x .view) u) || eqb (x .plan) p)
 
 -- The report has no lock that stands against p at view u.
 unfoldable pub allows : ℕ → ℕ → Report → Bool
-allows p u r = isNone (r .lock) || holds (fits p u) (r .lock)
+allows p u r = isNone (r .lock) || holds (lockAllows p u) (r .lock)
 
 -- The vaults that reported, and whose report passes the test.
 abbrev pub reporting : Reports → (Report → Bool) → Set

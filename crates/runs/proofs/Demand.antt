@@ -19,7 +19,7 @@ use Rattle.frame.specs.declared.Reading.the-variants.{Accepted, Refused}
 use Rattle.frame.specs.Format.{decode}
 use Rattle.frame.specs.Valid.{Valid}
 use Rattle.frame.specs.Refusal.{readFrame}
-use Rattle.frame.proofs.Theorems.{passed, decode-encode}
+use Rattle.frame.proofs.Theorems.{passed, decodeEncoded}
 use Rattle.entry.specs.declared.Entry.{Entry}
 use Rattle.entry.specs.declared.Entry.the-variants.{ForAll, ForOne, Decision}
 use Rattle.entry.specs.Valid.{ValidEntry, AllValid}
@@ -134,7 +134,7 @@ module _ (c : Setting) where
         there e = subst (λ (es : List Entry). e ∈ es) (v .same link .agree)
 
         frameIs : Valid y → y ≡ x
-        frameIs valid = sym (decode-encode y valid) ∙ ap decode (sym spelt) ∙ is
+        frameIs valid = sym (decodeEncoded y valid) ∙ ap decode (sym spelt) ∙ is
 
         toAll : ForAll y ∈ written l link → ForAll x ∈ model.written (v .items) link
         toAll a =
@@ -331,11 +331,11 @@ demand3By law c l run = record {
     v = carry c law run
 
     claim : whole.Claim (plain c) (v .items)
-    claim = protocol.demand3 (plain c) (v .items) (v .run)
+    claim = protocol.demand3ByContents (plain c) (v .items) (v .run)
 
     decided : (i p : ℕ) → Decides l i p → model.Decides (v .items) i p
     decided i p (w, at) = (w, subst (λ (es : List Entry). Decision w p ∈ es) (v .same i .agree) at)
 
 -- Demand 3 of the calls that the paper fixes.
-pub demand3 : Demand3 Fixed
-demand3 = demand3By (λ rec a out left e. e)
+pub demand3Fixed : Demand3 Fixed
+demand3Fixed = demand3By (λ rec a out left e. e)

@@ -15,7 +15,7 @@ use lib.ListN.{length, take, drop}
 use lib.Seq.{take-at, drop-at}
 use Rattle.wire.specs.Fields.{Bytes}
 use Rattle.wire.specs.Placed.{placed}
-use Rattle.wire.proofs.Output.{length-placed}
+use Rattle.wire.proofs.Output.{lengthPlaced}
 use Rattle.entry.specs.declared.Entry.{Entry}
 use Rattle.entry.specs.Layout.{layout}
 use Rattle.entry.specs.Valid.{AllValid}
@@ -63,7 +63,7 @@ keptBy out es rec′ room few valid read sound = record {
   valid = subst AllValid (sym read) valid;
   entries = ap layout read ∙ sym (placedTake out (layout es));
   few = few;
-  size = length-placed out 0 (layout es) (omega arith);
+  size = lengthPlaced out 0 (layout es) (omega arith);
   beyond = placedDrop out (layout es);
 }
 

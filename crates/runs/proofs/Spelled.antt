@@ -15,7 +15,7 @@ use Rattle.quorum.specs.Sets.{Vaults}
 use Rattle.frame.specs.declared.Reading.the-variants.{Accepted, Refused}
 use Rattle.frame.specs.Format.{encode}
 use Rattle.frame.specs.Refusal.{readFrame}
-use Rattle.frame.proofs.Theorems.{encode-bytes}
+use Rattle.frame.proofs.Theorems.{encodedBytes}
 use Rattle.entry.specs.declared.Entry.{Entry}
 use Rattle.protocol.specs.Record.{Record}
 use Rattle.protocol.specs.Pass.{Out}
@@ -131,7 +131,7 @@ module _ (c : model.Setting) where
     spellWidth (by.start s p) low = low
     spellWidth (by.timer w) low = tt
     spellWidth (by.frame (Refused k)) low = tt
-    spellWidth (by.frame (Accepted x)) low = encode-bytes x
+    spellWidth (by.frame (Accepted x)) low = encodedBytes x
     spellWidth by.short low = tt
 
     -- The call is one that the run over bytes lets come: a frame that was sent there was sent here.

@@ -1,4 +1,4 @@
--- Demand 3, over bytes: 'a single claim about the whole list, and not one for each call'. Proved as `demand3` in proofs/Demand.
+-- Demand 3, over bytes: 'a single claim about the whole list, and not one for each call'. Proved as `demand3` and `demand3OfExports` in crate shipped.
 -- Assumes nothing.
 use Prim.Native.Nat.{ℕ, _<_}
 use mathlib.Core.Path.{_≡_}

@@ -18,14 +18,14 @@ use Rattle.quorum.specs.Quorums.{isQuorum}
 use Rattle.quorum.proofs.Bools.{which, clash, notTrue, bothSplit, either}
 use Rattle.quorum.proofs.Laws.{blockingRest, quorumByWeight}
 use Rattle.rules.specs.Options.{isNone, holds}
-use Rattle.rules.specs.Rules.{Vote, Report, Reports, viewOf, fits, allows, unlocked, reporting}
+use Rattle.rules.specs.Rules.{Vote, Report, Reports, viewOf, lockAllows, allows, unlocked, reporting}
 use Rattle.rules.specs.inside.Counts.{free, allowed, planOr, planBy}
 use Rattle.rules.specs.inside.Views.{under, cleared, lockSpan, lowestView, Lowest}
 use Rattle.rules.proofs.Single.{underRises}
 use Rattle.rules.proofs.Laws.{enoughReports}
 use Rattle.rules.proofs.Views.{Falls, viewsIff, clearedSpans}
 use Rattle.claims.specs.inside.Spans.{AreSpans, coveredViews}
-use Rattle.claims.specs.Table.{column, voteOf, reporter, reportsIn}
+use Rattle.claims.specs.Table.{column, voteAbove, reporter, reportsInTable}
 use Rattle.claims.proofs.Rows.{viewIn}
 use Rattle.claims.proofs.Spans.{spansReach}
 
@@ -56,37 +56,37 @@ module _ (t : List ℕ) (r : ℕ) (reports : reporter t r ≡ true) where
   plan = getD t (column * 6 + r) 0
 
   -- Its span goes by its view.
-  pub spanIn : (v : ℕ) → lockSpan v (reportsIn t r) ≡ min (above - 1) v
-  unfolding reportsIn
+  pub spanIn : (v : ℕ) → lockSpan v (reportsInTable t r) ≡ min (above - 1) v
+  unfolding reportsInTable
   spanIn v = rw (reports, viewIn above plan)
 
   -- It allows p at view u where it is absent or does not stand against p.
   module _ (u p : ℕ) where
     -- Whether the report allows p, by its two columns of the table.
-    allowsIn : reporting (reportsIn t) (allows p u) r ≡ (isNone (voteOf above plan) || holds (fits p u) (voteOf above plan))
-    unfolding reportsIn allows
+    allowsIn : reporting (reportsInTable t) (allows p u) r ≡ (isNone (voteAbove above plan) || holds (lockAllows p u) (voteAbove above plan))
+    unfolding reportsInTable allows
     allowsIn = rw reports
 
     -- Where it has a lock, that lock alone decides.
-    there : above ≢ 0 → reporting (reportsIn t) (allows p u) r ≡ fits p u (record { view = above - 1; plan = plan })
-    unfolding voteOf
+    there : above ≢ 0 → reporting (reportsInTable t) (allows p u) r ≡ lockAllows p u (record { view = above - 1; plan = plan })
+    unfolding voteAbove
     there is = allowsIn ∙ rw (ne-eqb above 0 is)
 
     -- It is absent or below u.
-    pub allowsEvery : above ≤ u → reporting (reportsIn t) (allows p u) r ≡ true
-    unfolding voteOf
+    pub allowsEvery : above ≤ u → reporting (reportsInTable t) (allows p u) r ≡ true
+    unfolding voteAbove
     allowsEvery low = go (ℕ-discrete above 0)
       where
-        go : Dec (above ≡ 0) → reporting (reportsIn t) (allows p u) r ≡ true
+        go : Dec (above ≡ 0) → reporting (reportsInTable t) (allows p u) r ≡ true
         go (yes absent) = allowsIn ∙ rw (eq-eqb above 0 absent)
         go (no is) = there is ∙ rw (le-leb (above - 1) u (omega arith), ne-eqb (above - 1) u (λ (e : above - 1 ≡ u). omega arith))
 
     -- It is at view u.
-    pub allowsOne : u < above → above - 1 ≡ u → reporting (reportsIn t) (allows p u) r ≡ eqb plan p
+    pub allowsOne : u < above → above - 1 ≡ u → reporting (reportsInTable t) (allows p u) r ≡ eqb plan p
     allowsOne high at = there (λ (e : above ≡ 0). omega arith) ∙ rw (le-leb (above - 1) u (omega arith), eq-eqb (above - 1) u at)
 
     -- It is above view u.
-    pub allowsNone : u < above → above - 1 ≢ u → reporting (reportsIn t) (allows p u) r ≡ false
+    pub allowsNone : u < above → above - 1 ≢ u → reporting (reportsInTable t) (allows p u) r ≡ false
     allowsNone high off = there (λ (e : above ≡ 0). omega arith) ∙ rw (lt-leb (above - 1) u (over off))
       where
         over : above - 1 ≢ u → u < above - 1
@@ -115,7 +115,7 @@ freshAbove rs (suc k) i low = go (ℕ-discrete i k) (freshAbove rs k i)
     go (no differ) rest = omega (arith, rest (omega arith))
 
 -- A lock for another plan allows p at view u only below it.
-otherLock : (o : Option Vote) (p u : ℕ) → planOr 0 o < p → (isNone o || holds (fits p u) o) ≡ true → (isNone o ≡ true) ⊎ (viewOf o < u)
+otherLock : (o : Option Vote) (p u : ℕ) → planOr 0 o < p → (isNone o || holds (lockAllows p u) o) ≡ true → (isNone o ≡ true) ⊎ (viewOf o < u)
 otherLock none p u less h = inl refl
 otherLock (some x) p u less h =
     let (low, at) = bothSplit (leb (x .view) u) _ h in

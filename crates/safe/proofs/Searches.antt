@@ -1,5 +1,5 @@
 -- What the search finds by its rows is what the rules say (document 01, 'When a plan is safe'; step C).
--- One plan: the views that serve it are u, where the locks there allow it, or the next. The two-set clause: one plan that is claimed at
+-- One plan: the views that serve it are u, where the locks there allow it, or the next. The twoSet clause: one plan that is claimed at
 -- the next view will do, and a plan in no row is claimed only where every plan is. Step C: a safe plan is a lock's that view u serves or a
 -- vote's that the next view serves, so each stands in its row; and trying a plan twice changes nothing.
 -- Assumes nothing.
@@ -258,13 +258,13 @@ module _ (rs : Reports) (c : Search) (plans : List ℕ) (ready : Prepared rs c p
             rw (allowedSame p ∙ off) (servedNext plans c p (l .below) ∙ ap (λ (b : Bool). ltb (c .u + 1) (c .v) && b) (claimedNext p)
             ∙ sym (nextServes vs rs (c .v) rule1 p (c .u) l off))
 
-    -- By Rule 3 the two-set clause backs a plan where the claims do not.
+    -- By Rule 3 the twoSet clause backs a plan where the claims do not.
     module _ (p : ℕ) (never : safeIn plans c p ≡ false) where
       -- The plan is not safe by Rule 1, so neither view's claims back it.
       unsafe : safe rule1 vs rs (c .v) p ≡ false
       unsafe = sym (safeSame p) ∙ never
 
-      -- Where the locks at u allow the plan, the two-set clause at u decides.
+      -- Where the locks at u allow the plan, the twoSet clause at u decides.
       pub threeFirst : (b : Bool) → allowedIn plans c p ≡ true → b ≡ twoSets vs rs (c .v) (c .u) → b ≡ safe rule3 vs rs (c .v) p
       unfolding backed
       threeFirst b allow is =
@@ -272,7 +272,7 @@ module _ (rs : Reports) (c : Search) (plans : List ℕ) (ready : Prepared rs c p
           is ∙ sym (ap (λ (t : Bool). t || twoSets vs rs (c .v) (c .u)) (sym (firstServes vs rs (c .v) rule1 p (c .u) l at) ∙ unsafe))
           ∙ sym (firstServes vs rs (c .v) rule3 p (c .u) l at)
 
-      -- Where they do not, the two-set clause at the next view decides.
+      -- Where they do not, the twoSet clause at the next view decides.
       pub threeNext : (b : Bool) → allowedIn plans c p ≡ false → c .u + 1 < c .v → b ≡ twoSets vs rs (c .v) (c .u + 1) → b ≡ safe rule3 vs rs (c .v) p
       unfolding backed
       threeNext b block low is =

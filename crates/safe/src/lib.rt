@@ -16,7 +16,7 @@ ghost use Rattle.rules.specs.inside.Counts.{free, twoSets, safe, smaller, choic
 ghost use Rattle.rules.specs.inside.Views.{lockSpan, lowestView, Lowest};
 ghost use Rattle.claims.specs.inside.Rows.{rowsSize, Stance, Tells, SameBelow, claimedIn, endOf};
 ghost use Rattle.claims.specs.inside.Spans.{AreSpans};
-ghost use Rattle.claims.specs.Table.{column, tableSize, reportsIn};
+ghost use Rattle.claims.specs.Table.{column, tableSize, reportsInTable};
 ghost use Rattle.safe.specs.Choices.{ruleOf, chosen};
 ghost use Rattle.safe.specs.inside.Choices.{better, apart, Found};
 ghost use Rattle.safe.specs.inside.Searches.{lockRow, allowedIn, servedFrom, safeIn, passesIn, triedAt, triedCount, smallestFrom, smallestOf, Pair, Falling, Laid, Prepared};
@@ -31,7 +31,7 @@ const ROOM: usize = 3 * claims::COLUMN;
 // What vault r adds to the reporters that have no lock.
 fn unlocked_share<'a>(table: &'a [u64], r: usize) -> usize
     requires { ⌜ (length (now table) ≡ tableSize) × (r < column) ⌝ }
-    ensures { λ c. ⌜ c ≡ cond (reporting (reportsIn (now (table .entry))) unlocked r) 1 0 ⌝ }
+    ensures { λ c. ⌜ c ≡ cond (reporting (reportsInTable (now (table .entry))) unlocked r) 1 0 ⌝ }
 {
     if claims::reported(table, r) {
         if table[claims::LOCK + r] == 0 {
@@ -45,7 +45,7 @@ fn unlocked_share<'a>(table: &'a [u64], r: usize) -> usize
 // Whether 'some quorum q of reporters has no lock at all'.
 fn free<'a>(table: &'a [u64], n: usize, f: usize) -> bool
     requires { ⌜ (length (now table) ≡ tableSize) × (n ≤ column) × (f < n) ⌝ }
-    ensures { λ b. ⌜ b ≡ free (equals n f) (reportsIn (now (table .entry))) ⌝ }
+    ensures { λ b. ⌜ b ≡ free (equals n f) (reportsInTable (now (table .entry))) ⌝ }
 {
     let mut count: usize = 0;
     let mut r: usize = 0;
@@ -59,7 +59,7 @@ fn free<'a>(table: &'a [u64], n: usize, f: usize) -> bool
 // In how many views below v vault r has a lock above the view: in all where it has not reported.
 fn lock_span<'a>(table: &'a [u64], r: usize, v: u32) -> u32
     requires { ⌜ (length (now table) ≡ tableSize) × (r < column) ⌝ }
-    ensures { λ t. ⌜ t ≡ lockSpan v (reportsIn (now (table .entry)) r) ⌝ }
+    ensures { λ t. ⌜ t ≡ lockSpan v (reportsInTable (now (table .entry)) r) ⌝ }
 {
     if claims::reported(table, r) {
         let above = table[claims::LOCK + r];
@@ -77,7 +77,7 @@ fn lock_span<'a>(table: &'a [u64], r: usize, v: u32) -> u32
 // These spans of the first n vaults.
 fn lock_spans<'a>(table: &'a [u64], n: usize, v: u32) -> [u32; claims::COLUMN]
     requires { ⌜ (length (now table) ≡ tableSize) × (n ≤ column) ⌝ }
-    ensures { λ t. ⌜ AreSpans t n (λ i. lockSpan v (reportsIn (now (table .entry)) i)) ⌝ }
+    ensures { λ t. ⌜ AreSpans t n (λ i. lockSpan v (reportsInTable (now (table .entry)) i)) ⌝ }
 {
     let mut spans = [0u32; claims::COLUMN];
     let mut r: usize = 0;
@@ -92,7 +92,7 @@ fn lock_spans<'a>(table: &'a [u64], n: usize, v: u32) -> [u32; claims::COLUMN]
 // Below it no plan is allowed, above it every plan is.
 fn lowest_view<'a>(table: &'a [u64], n: usize, f: usize, v: u32) -> u32
     requires { ⌜ (length (now table) ≡ tableSize) × (n ≤ column) ⌝ }
-    ensures { λ u. ⌜ u ≡ lowestView (equals n f) (reportsIn (now (table .entry))) v ⌝ }
+    ensures { λ u. ⌜ u ≡ lowestView (equals n f) (reportsInTable (now (table .entry))) v ⌝ }
 {
     let spans = lock_spans(table, n, v);
     claims::lowest_cleared(&spans, n, f, v)
@@ -101,7 +101,7 @@ fn lowest_view<'a>(table: &'a [u64], n: usize, f: usize, v: u32) -> u32
 // Which plans the lock of vault r allows at view u: every plan where it has none or a lower one, its own where it is at view u.
 fn allow_share<'a>(table: &'a [u64], r: usize, u: u64) -> Tally
     requires { ⌜ (length (now table) ≡ tableSize) × (r < column) ⌝ }
-    ensures { λ t. ⌜ Stance (λ p. reporting (reportsIn (now (table .entry))) (allows p u) r) (getD (now (table .entry)) (column * 6 + r) 0) (t .every) (t .some) ⌝ }
+    ensures { λ t. ⌜ Stance (λ p. reporting (reportsInTable (now (table .entry))) (allows p u) r) (getD (now (table .entry)) (column * 6 + r) 0) (t .every) (t .some) ⌝ }
 {
     if claims::reported(table, r) {
         let above = table[claims::LOCK + r];
@@ -119,7 +119,7 @@ fn allow_share<'a>(table: &'a [u64], r: usize, u: u64) -> Tally
 // Whose lock allows which plan at view u: the row of locks is written.
 fn locks_at<'a>(table: &'a [u64], n: usize, u: u32, plans: &mut [u64]) -> Tally
     requires { ⌜ (length (now table) ≡ tableSize) × (n ≤ column) × (length (now plans) ≡ rowsSize) ⌝ }
-    ensures { λ t. ⌜ (length (now (plans .exit)) ≡ rowsSize) × SameBelow (now (plans .entry)) (now (plans .exit)) lockRow × Tells (reportsIn (now (table .entry))) n (λ p. allows p u) (now (plans .exit)) lockRow t ⌝ }
+    ensures { λ t. ⌜ (length (now (plans .exit)) ≡ rowsSize) × SameBelow (now (plans .entry)) (now (plans .exit)) lockRow × Tells (reportsInTable (now (table .entry))) n (λ p. allows p u) (now (plans .exit)) lockRow t ⌝ }
 {
     let view = u as u64;
     let mut every: usize = 0;
@@ -148,7 +148,7 @@ struct Parts {
 // All rows, for the search that starts at view u.
 fn prepare<'a>(table: &'a [u64], n: usize, f: usize, u: u32, v: u32) -> Parts
     requires { ⌜ (length (now table) ≡ tableSize) × (n ≤ column) × (f < n) × (u < v) ⌝ }
-    ensures { λ r. ⌜ Prepared (reportsIn (now (table .entry))) (r .search) (r .plans) × (r .search .n ≡ n) × (r .search .f ≡ f) × (r .search .u ≡ u) × (r .search .v ≡ v) ⌝ }
+    ensures { λ r. ⌜ Prepared (reportsInTable (now (table .entry))) (r .search) (r .plans) × (r .search .n ≡ n) × (r .search .f ≡ f) × (r .search .u ≡ u) × (r .search .v ≡ v) ⌝ }
 {
     let mut plans = [0u64; ROOM];
     let here = claims::claims_at(table, n, u, &mut plans, 0);
@@ -204,7 +204,7 @@ fn safe_one<'a>(plans: &'a [u64], c: Search, p: u64) -> bool
     served(plans, c, c.u + 1, p)
 }
 
-// ---- the two-set clause
+// ---- the twoSet clause
 
 // A plan, or none.
 pub enum Choice {
@@ -276,7 +276,7 @@ fn find_claimed<'a>(plans: &'a [u64], c: Search, w: u32, spare: Choice) -> Choic
     Choice::Nothing
 }
 
-// The two-set clause at view u: a plan that is claimed at the next view, and another plan that is claimed at u.
+// The twoSet clause at view u: a plan that is claimed at the next view, and another plan that is claimed at u.
 fn two_sets<'a>(plans: &'a [u64], c: Search) -> bool
     requires { ⌜ Laid c (now plans) × Falling (now plans) c × (c .u + 1 < c .v) ⌝ }
     ensures { λ b. ⌜ Pair (λ x. claimedIn (now (plans .entry)) c x (c .u + 1)) (λ x. claimedIn (now (plans .entry)) c x (c .u)) b ⌝ }
@@ -291,7 +291,7 @@ fn two_sets<'a>(plans: &'a [u64], c: Search) -> bool
 // The same at the next view, where that is below v.
 fn two_sets_after<'a>(table: &'a [u64], c: Search) -> bool
     requires { ⌜ (length (now table) ≡ tableSize) × (c .n ≤ column) × (c .f < c .n) × (c .u + 1 < c .v) ⌝ }
-    ensures { λ b. ⌜ b ≡ twoSets (equals (c .n) (c .f)) (reportsIn (now (table .entry))) (c .v) (c .u + 1) ⌝ }
+    ensures { λ b. ⌜ b ≡ twoSets (equals (c .n) (c .f)) (reportsInTable (now (table .entry))) (c .v) (c .u + 1) ⌝ }
 {
     let low = c.u + 1;
     if low + 1 < c.v {
@@ -303,10 +303,10 @@ fn two_sets_after<'a>(table: &'a [u64], c: Search) -> bool
 
 // ---- Rules 1 and 3
 
-// Whether p is safe by Rule 3, which also accepts the two-set clause at the view that Rule 1 goes by.
+// Whether p is safe by Rule 3, which also accepts the twoSet clause at the view that Rule 1 goes by.
 fn safe_three<'a>(table: &'a [u64], plans: &'a [u64], c: Search, p: u64) -> bool
-    requires { ⌜ (length (now table) ≡ tableSize) × (c .n ≤ column) × Prepared (reportsIn (now table)) c (now plans) × Lowest (equals (c .n) (c .f)) (reportsIn (now table)) (c .v) (c .u) ⌝ }
-    ensures { λ b. ⌜ b ≡ safe rule3 (equals (c .n) (c .f)) (reportsIn (now (table .entry))) (c .v) p ⌝ }
+    requires { ⌜ (length (now table) ≡ tableSize) × (c .n ≤ column) × Prepared (reportsInTable (now table)) c (now plans) × Lowest (equals (c .n) (c .f)) (reportsInTable (now table)) (c .v) (c .u) ⌝ }
+    ensures { λ b. ⌜ b ≡ safe rule3 (equals (c .n) (c .f)) (reportsInTable (now (table .entry))) (c .v) p ⌝ }
 {
     if safe_one(plans, c, p) {
         return true;
@@ -323,7 +323,7 @@ fn safe_three<'a>(table: &'a [u64], plans: &'a [u64], c: Search, p: u64) -> bool
 // Whether p is safe in view v: by Rule 3 where three is set, by Rule 1 where not.
 fn safe_among<'a>(table: &'a [u64], n: usize, f: usize, v: u32, p: u64, three: bool) -> bool
     requires { ⌜ (length (now table) ≡ tableSize) × (n ≤ column) × (f < n) ⌝ }
-    ensures { λ b. ⌜ b ≡ safe (ruleOf three) (equals n f) (reportsIn (now (table .entry))) v p ⌝ }
+    ensures { λ b. ⌜ b ≡ safe (ruleOf three) (equals n f) (reportsInTable (now (table .entry))) v p ⌝ }
 {
     if v == 0 {
         return true;
@@ -344,7 +344,7 @@ fn safe_among<'a>(table: &'a [u64], n: usize, f: usize, v: u32, p: u64, three: b
 
 pub fn safe_by<'a>(table: &'a [u64], set: Settings, v: u32, p: u64, three: bool) -> bool
     requires { ⌜ (length (now table) ≡ tableSize) × (set .n ≤ 64) × (set .f < set .n) ⌝ }
-    ensures { λ b. ⌜ b ≡ safe (ruleOf three) (vaultsOf set) (reportsIn (now (table .entry))) v p ⌝ }
+    ensures { λ b. ⌜ b ≡ safe (ruleOf three) (vaultsOf set) (reportsInTable (now (table .entry))) v p ⌝ }
 {
     safe_among(table, set.n as usize, set.f as usize, v, p, three)
 }
@@ -443,7 +443,7 @@ fn smallest_safe<'a>(plans: &'a [u64], c: Search, start: u64) -> Choice
 // Step C: 'proposes its starting plan if that is safe by Rule 1, else the smallest safe plan, else waits'.
 fn choose_among<'a>(table: &'a [u64], n: usize, f: usize, v: u32, start: u64) -> Choice
     requires { ⌜ (length (now table) ≡ tableSize) × (n ≤ column) × (f < n) ⌝ }
-    ensures { λ c. ⌜ chosen c ≡ choice (equals n f) (reportsIn (now (table .entry))) v start ⌝ }
+    ensures { λ c. ⌜ chosen c ≡ choice (equals n f) (reportsInTable (now (table .entry))) v start ⌝ }
 {
     if v == 0 {
         return Choice::Plan(start);
@@ -464,7 +464,7 @@ fn choose_among<'a>(table: &'a [u64], n: usize, f: usize, v: u32, start: u64) ->
 
 pub fn choose<'a>(table: &'a [u64], set: Settings, v: u32, start: u64) -> Choice
     requires { ⌜ (length (now table) ≡ tableSize) × (set .n ≤ 64) × (set .f < set .n) ⌝ }
-    ensures { λ c. ⌜ chosen c ≡ choice (vaultsOf set) (reportsIn (now (table .entry))) v start ⌝ }
+    ensures { λ c. ⌜ chosen c ≡ choice (vaultsOf set) (reportsInTable (now (table .entry))) v start ⌝ }
 {
     choose_among(table, set.n as usize, set.f as usize, v, start)
 }

@@ -6,14 +6,14 @@ use native.Mathlib.Omega.{arith}
 use Rattle.settings.specs.Settings.{delayOf}
 
 -- At most 5000, so `timer_millis` can multiply by 9 without overflow.
-pub delay-below : (class : ℕ) → delayOf class ≤ 5000
+pub delayBelow : (class : ℕ) → delayOf class ≤ 5000
 unfolding delayOf
-delay-below zero = omega arith
-delay-below (suc zero) = omega arith
-delay-below (suc (suc zero)) = omega arith
-delay-below (suc (suc (suc zero))) = omega arith
-delay-below (suc (suc (suc (suc zero)))) = omega arith
-delay-below (suc (suc (suc (suc (suc zero))))) = omega arith
-delay-below (suc (suc (suc (suc (suc (suc zero)))))) = omega arith
-delay-below (suc (suc (suc (suc (suc (suc (suc zero))))))) = omega arith
-delay-below (suc (suc (suc (suc (suc (suc (suc (suc class)))))))) = omega arith
+delayBelow zero = omega arith
+delayBelow (suc zero) = omega arith
+delayBelow (suc (suc zero)) = omega arith
+delayBelow (suc (suc (suc zero))) = omega arith
+delayBelow (suc (suc (suc (suc zero)))) = omega arith
+delayBelow (suc (suc (suc (suc (suc zero))))) = omega arith
+delayBelow (suc (suc (suc (suc (suc (suc zero)))))) = omega arith
+delayBelow (suc (suc (suc (suc (suc (suc (suc zero))))))) = omega arith
+delayBelow (suc (suc (suc (suc (suc (suc (suc (suc class)))))))) = omega arith

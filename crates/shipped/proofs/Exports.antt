@@ -9,7 +9,7 @@ use native.Mathlib.Omega.{arith}
 use lib.Dec.{ltb}
 use borrow.Author.Tests.{lt-ltb, le-ltb}
 use Rattle.vault_c.specs.Numbers.{Seen, seen, numbered}
-use Rattle.vault_c.proofs.Small.{Small, small-start, small-frame, small-timer}
+use Rattle.vault_c.proofs.Small.{Small, smallStart, smallFrame, smallTimer}
 use Rattle.contents.specs.Left.{Left, wrote, gave}
 use Rattle.runs.specs.Runs.{Call, start, frame, timer}
 use Rattle.runs.specs.Fixed.{leaves, Fixed}
@@ -24,9 +24,9 @@ use Rattle.shipped.proofs.Demand.{lent}
 
 -- Every call leaves little: a refusal of the table, or a count of at most 205.
 smallLeft : (rec : List ℕ) (a : Call) (out : List ℕ) → Small (leaves rec a out)
-smallLeft rec (start set plan) out = small-start rec set plan out
-smallLeft rec (frame link bytes) out = small-frame rec link bytes out
-smallLeft rec (timer view) out = small-timer rec view out
+smallLeft rec (start set plan) out = smallStart rec set plan out
+smallLeft rec (frame link bytes) out = smallFrame rec link bytes out
+smallLeft rec (timer view) out = smallTimer rec view out
 
 -- Of a refusal, being small says that its number is in the table.
 smallNumber : (left : Left) → Small left → InTable left
@@ -61,8 +61,8 @@ exportFixed rec a out left (byFrame κs r s o link number rec′ out′ learnt) 
 exportFixed rec a out left (byTimer κs r o view number rec′ out′ learnt) = ap leftOf learnt ∙ numbersTell rec a out
 
 -- The theorem of the exports.
-pub demand3 : Demand3 ExportContract
-demand3 = demand3By exportFixed
+pub demand3OfExports : Demand3 ExportContract
+demand3OfExports = demand3By exportFixed
 
 -- ---- and back: what the paper fixes is what the contracts let be
 

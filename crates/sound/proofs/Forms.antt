@@ -12,7 +12,7 @@ use Rattle.frame.specs.declared.Report.{Report}
 use Rattle.frame.specs.declared.Reports.{Reports}
 use Rattle.frame.specs.Format.{within, threeReports}
 use Rattle.frame.specs.Refusal.{row, first, absent, badForm, tooHigh, badPrevious, reportRows, leaderOf, viewMissing, misled}
-use Rattle.frame.proofs.Laws.{both, bounds, under, inside, first-some, first-none}
+use Rattle.frame.proofs.Laws.{both, bounds, under, inside, firstSome, firstNone}
 use Rattle.settings.specs.declared.Settings.{Settings}
 use Rattle.record.specs.Slots.{frameSlot}
 use Rattle.keeping.specs.Kept.{reportsIn, frameIn}
@@ -20,7 +20,7 @@ use Rattle.keeping.proofs.Forms.{bodyPlan, bodyBare, bodyReports}
 use Rattle.sound.specs.declared.Head.{Head}
 use Rattle.sound.specs.inside.Sound.{noPlan, ahead, frameSound, placeSound}
 use Rattle.sound.specs.inside.Bulk.{Marked, planFrame, bareFrame, toldFrame, reportFits}
-use Rattle.sound.proofs.Laws.{place-plan, place-frame, formed-other}
+use Rattle.sound.proofs.Laws.{placePlan, placeOfFrame, formedOther}
 use Rattle.sound.proofs.All.{andTrue, andFalse}
 
 -- a row that is not given leaves 0
@@ -136,7 +136,7 @@ module _ (view : ℕ) (t : Reports) where
 -- a report without a mark fits where all its bytes are zero
 pub reportAbsent : (view : ℕ) (r : Report) → (r .mark ≡ 1 → ⊥) → reportFits view r ≡ absent r
 unfolding reportFits tooHigh
-reportAbsent view r h = rw (formed-other r h, ne-eqb (r .mark) 1 h) (andTrue (absent r))
+reportAbsent view r h = rw (formedOther r h, ne-eqb (r .mark) 1 h) (andTrue (absent r))
 
 -- a marked report fits where it is below the frame's view
 pub reportPresent : (view : ℕ) (r : Report) → r .mark ≡ 1 → reportFits view r ≡ ltb (r .view) view
@@ -181,7 +181,7 @@ module _ (set : Settings) (view : ℕ) (head : Head) (t : Reports) (low : 7 ≤ 
         toldRows ∙ rw (
           e,
           ne-eqb (head .view) 0 z,
-          first-some (reportRows (head .view) (threeReports t)) (row 15 (eqb (head .kind) 7 && not (eqb (leaderOf (head .view) (set .n)) (set .id))) ∷ [])
+          firstSome (reportRows (head .view) (threeReports t)) (row 15 (eqb (head .kind) 7 && not (eqb (leaderOf (head .view) (set .n)) (set .id))) ∷ [])
               (eqb-false (first (reportRows (head .view) (threeReports t))) 0 b),
         ) b
 
@@ -192,7 +192,7 @@ module _ (set : Settings) (view : ℕ) (head : Head) (t : Reports) (low : 7 ≤ 
         toldRows ∙ rw (
           e,
           ne-eqb (head .view) 0 z,
-          first-none (reportRows (head .view) (threeReports t)) (row 15 (eqb (head .kind) 7 && not (eqb (leaderOf (head .view) (set .n)) (set .id))) ∷ [])
+          firstNone (reportRows (head .view) (threeReports t)) (row 15 (eqb (head .kind) 7 && not (eqb (leaderOf (head .view) (set .n)) (set .id))) ∷ [])
               (omega arith, (omega arith, (omega arith, tt))) (eqb-true (first (reportRows (head .view) (threeReports t))) 0 b),
         )
         (cond15 (eqb (head .kind) 7 && not (eqb (leaderOf (head .view) (set .n)) (set .id))))
@@ -217,7 +217,7 @@ module _ (slots : ℕ → Report) (set : Settings) (view : ℕ) (head : Head) (m
   keptPlan low high =
       let d = sym (m .view) in
       let body = bodyPlan slots (head .kind) (head .sender) low high in
-      place-frame slots set view (head .kind) (head .sender) (m .mark) (rw (lt-ltb (head .kind) 6 (omega arith)))
+      placeOfFrame slots set view (head .kind) (head .sender) (m .mark) (rw (lt-ltb (head .kind) 6 (omega arith)))
       ∙ (λ i. frameSound set view (record { kind = head .kind; sender = head .sender; view = d i; body = body i }))
 
   -- a plan beside a view-change, a suggest or a proof is unsound
@@ -225,7 +225,7 @@ module _ (slots : ℕ → Report) (set : Settings) (view : ℕ) (head : Head) (m
       → placeSound slots set view (head .kind) (head .sender) ≡ false
   unfolding noPlan
   keptPlanned low p =
-      place-plan slots set view (head .kind) (head .sender) (m .mark)
+      placePlan slots set view (head .kind) (head .sender) (m .mark)
       (rw (le-ltb (head .kind) 6 low) (ne-eqb (slots (frameSlot (head .kind) (head .sender)) .plan) 0 p))
 
   -- without a plan there, the frame alone decides
@@ -241,7 +241,7 @@ module _ (slots : ℕ → Report) (set : Settings) (view : ℕ) (head : Head) (m
   keptBare k p =
       let d = sym (m .view) in
       let body = bodyBare slots (head .kind) (head .sender) k in
-      place-frame slots set view (head .kind) (head .sender) (m .mark) (none (omega arith) p)
+      placeOfFrame slots set view (head .kind) (head .sender) (m .mark) (none (omega arith) p)
       ∙ (λ i. frameSound set view (record { kind = head .kind; sender = head .sender; view = d i; body = body i }))
 
   -- a marked place of kinds 7 and 8 without a plan is sound where the suggest or proof with its three reports is
@@ -252,7 +252,7 @@ module _ (slots : ℕ → Report) (set : Settings) (view : ℕ) (head : Head) (m
   keptTold low p =
       let d = sym (m .view) in
       let body = bodyReports slots (head .kind) (head .sender) low in
-      place-frame slots set view (head .kind) (head .sender) (m .mark) (none (omega arith) p)
+      placeOfFrame slots set view (head .kind) (head .sender) (m .mark) (none (omega arith) p)
       ∙ (λ i. frameSound set view (record { kind = head .kind; sender = head .sender; view = d i; body = body i }))
 
 -- a vote in a row that is not the own one

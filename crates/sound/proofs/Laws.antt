@@ -34,124 +34,124 @@ pub on : {b x : Bool} → b ≡ x → not b ≡ false → x ≡ true
 on {b} p q = sym p ∙ not-false b q
 
 -- a test denied twice is the test
-not-not : (b : Bool) → not (not b) ≡ b
-not-not true = refl
-not-not false = refl
+notNot : (b : Bool) → not (not b) ≡ b
+notNot true = refl
+notNot false = refl
 
 -- ---- slots
 
 -- without a mark, well formed means absent
-pub formed-other : (slot : Report) → (slot .mark ≡ 1 → ⊥) → not (badForm slot) ≡ absent slot
+pub formedOther : (slot : Report) → (slot .mark ≡ 1 → ⊥) → not (badForm slot) ≡ absent slot
 unfolding badForm
-formed-other slot h = rw (ne-eqb (slot .mark) 1 h) (not-not (absent slot))
+formedOther slot h = rw (ne-eqb (slot .mark) 1 h) (notNot (absent slot))
 
 -- a test that holds may be left out
-and-true : (b : Bool) → (b && true) ≡ b
-and-true true = refl
-and-true false = refl
+andTrueRight : (b : Bool) → (b && true) ≡ b
+andTrueRight true = refl
+andTrueRight false = refl
 
 -- ---- conjunctions
 
 module _ (slots : ℕ → Report) (kind sender : ℕ) where
   -- the highest report is not absent: so not all three are
-  pub reports-highest : absent (slots (reportSlot kind 0 sender)) ≡ false → reportsAbsent slots kind sender ≡ false
+  pub reportsHighest : absent (slots (reportSlot kind 0 sender)) ≡ false → reportsAbsent slots kind sender ≡ false
   unfolding reportsAbsent
-  reports-highest a = rw a
+  reportsHighest a = rw a
 
   -- the highest is absent, the previous is not: so not all three are
-  pub reports-previous : absent (slots (reportSlot kind 0 sender)) ≡ true → absent (slots (reportSlot kind 1 sender)) ≡ false
+  pub reportsPrevious : absent (slots (reportSlot kind 0 sender)) ≡ true → absent (slots (reportSlot kind 1 sender)) ≡ false
       → reportsAbsent slots kind sender ≡ false
   unfolding reportsAbsent
-  reports-previous a b = rw (a, b)
+  reportsPrevious a b = rw (a, b)
 
   -- both are absent: the lock decides
-  pub reports-lock : absent (slots (reportSlot kind 0 sender)) ≡ true → absent (slots (reportSlot kind 1 sender)) ≡ true
+  pub reportsLock : absent (slots (reportSlot kind 0 sender)) ≡ true → absent (slots (reportSlot kind 1 sender)) ≡ true
       → reportsAbsent slots kind sender ≡ absent (slots (reportSlot kind 2 sender))
   unfolding reportsAbsent
-  reports-lock a b = rw (a, b)
+  reportsLock a b = rw (a, b)
 
   -- a frame's slot that is not absent: something is kept
-  pub empty-frame : absent (slots (frameSlot kind sender)) ≡ false → emptyAt slots kind sender ≡ false
+  pub emptyFrame : absent (slots (frameSlot kind sender)) ≡ false → emptyAt slots kind sender ≡ false
   unfolding emptyAt
-  empty-frame a = rw a
+  emptyFrame a = rw a
 
   -- an absent slot of kinds 1 to 6: nothing is kept, as they have no reports
-  pub empty-short : absent (slots (frameSlot kind sender)) ≡ true → kind < 7 → emptyAt slots kind sender ≡ true
+  pub emptyShort : absent (slots (frameSlot kind sender)) ≡ true → kind < 7 → emptyAt slots kind sender ≡ true
   unfolding emptyAt
-  empty-short a h = rw (a, lt-ltb kind 7 h)
+  emptyShort a h = rw (a, lt-ltb kind 7 h)
 
   -- an absent slot of kinds 7 and 8: the reports decide
-  pub empty-reports : absent (slots (frameSlot kind sender)) ≡ true → 7 ≤ kind → emptyAt slots kind sender ≡ reportsAbsent slots kind sender
+  pub emptyReports : absent (slots (frameSlot kind sender)) ≡ true → 7 ≤ kind → emptyAt slots kind sender ≡ reportsAbsent slots kind sender
   unfolding emptyAt
-  empty-reports a h = rw (a, le-ltb kind 7 h)
+  emptyReports a h = rw (a, le-ltb kind 7 h)
 
 module _ (set : Settings) (view : ℕ) (f : Frame) where
   -- a row at n or above: unsound, by 11
-  pub frame-row : set .n ≤ f .sender → frameSound set view f ≡ false
+  pub frameRow : set .n ≤ f .sender → frameSound set view f ≡ false
   unfolding frameSound
-  frame-row h = rw (le-ltb (f .sender) (set .n) h)
+  frameRow h = rw (le-ltb (f .sender) (set .n) h)
 
 module _ (slots : ℕ → Report) (set : Settings) (view kind sender : ℕ) where
   -- no mark: the place is sound where nothing is kept
-  pub place-empty : (slots (frameSlot kind sender) .mark ≡ 1 → ⊥) → placeSound slots set view kind sender ≡ emptyAt slots kind sender
+  pub placeEmpty : (slots (frameSlot kind sender) .mark ≡ 1 → ⊥) → placeSound slots set view kind sender ≡ emptyAt slots kind sender
   unfolding placeSound
-  place-empty h = rw (ne-eqb (slots (frameSlot kind sender) .mark) 1 h)
+  placeEmpty h = rw (ne-eqb (slots (frameSlot kind sender) .mark) 1 h)
 
   -- a mark, and a plan that the kind has not: unsound
-  pub place-plan : slots (frameSlot kind sender) .mark ≡ 1 → noPlan kind (slots (frameSlot kind sender) .plan) ≡ false
+  pub placePlan : slots (frameSlot kind sender) .mark ≡ 1 → noPlan kind (slots (frameSlot kind sender) .plan) ≡ false
       → placeSound slots set view kind sender ≡ false
   unfolding placeSound
-  place-plan h a = rw (eq-eqb (slots (frameSlot kind sender) .mark) 1 h, a)
+  placePlan h a = rw (eq-eqb (slots (frameSlot kind sender) .mark) 1 h, a)
 
   -- a mark, and no such plan: the frame decides
-  pub place-frame : slots (frameSlot kind sender) .mark ≡ 1 → noPlan kind (slots (frameSlot kind sender) .plan) ≡ true
+  pub placeOfFrame : slots (frameSlot kind sender) .mark ≡ 1 → noPlan kind (slots (frameSlot kind sender) .plan) ≡ true
       → placeSound slots set view kind sender ≡ frameSound set view (frameIn slots kind sender)
   unfolding placeSound
-  place-frame h a = rw (eq-eqb (slots (frameSlot kind sender) .mark) 1 h, a)
+  placeOfFrame h a = rw (eq-eqb (slots (frameSlot kind sender) .mark) 1 h, a)
 
 module _ (slots : ℕ → Report) (id : ℕ) where
   -- the previous vote-1 does not stand to its highest
-  pub votes-first : previousSound slots id 2 ≡ false → votesSound slots id ≡ false
+  pub votesFirst : previousSound slots id 2 ≡ false → votesSound slots id ≡ false
   unfolding votesSound
-  votes-first a = rw a
+  votesFirst a = rw a
 
   -- the previous vote-2 does not
-  pub votes-second : previousSound slots id 2 ≡ true → previousSound slots id 3 ≡ false → votesSound slots id ≡ false
+  pub votesSecond : previousSound slots id 2 ≡ true → previousSound slots id 3 ≡ false → votesSound slots id ≡ false
   unfolding votesSound
-  votes-second a b = rw (a, b)
+  votesSecond a b = rw (a, b)
 
   -- both do: the form of the decision decides
-  pub votes-decision : previousSound slots id 2 ≡ true → previousSound slots id 3 ≡ true → votesSound slots id ≡ not (badForm (slots decisionSlot))
+  pub votesDecision : previousSound slots id 2 ≡ true → previousSound slots id 3 ≡ true → votesSound slots id ≡ not (badForm (slots decisionSlot))
   unfolding votesSound
-  votes-decision a b = rw (a, b)
+  votesDecision a b = rw (a, b)
 
 module _ (slots : ℕ → Report) (set : Settings) (view : ℕ) where
   -- settings that 5 to 8 refuse
-  pub sound-settings : (first (settingRows set) ≡ 0 → ⊥) → soundIn slots set view ≡ false
+  pub soundSettings : (first (settingRows set) ≡ 0 → ⊥) → soundIn slots set view ≡ false
   unfolding soundIn
-  sound-settings h = rw (ne-eqb (first (settingRows set)) 0 h)
+  soundSettings h = rw (ne-eqb (first (settingRows set)) 0 h)
 
   -- settings that pass, and a fault in the rows
-  pub sound-rows : first (settingRows set) ≡ 0 → rowsSound slots set view ≡ false → soundIn slots set view ≡ false
+  pub soundRows : first (settingRows set) ≡ 0 → rowsSound slots set view ≡ false → soundIn slots set view ≡ false
   unfolding soundIn
-  sound-rows h a = rw (eq-eqb (first (settingRows set)) 0 h, a)
+  soundRows h a = rw (eq-eqb (first (settingRows set)) 0 h, a)
 
   -- both pass: the own votes and the decision decide
-  pub sound-votes : first (settingRows set) ≡ 0 → rowsSound slots set view ≡ true → soundIn slots set view ≡ votesSound slots (set .id)
+  pub soundVotes : first (settingRows set) ≡ 0 → rowsSound slots set view ≡ true → soundIn slots set view ≡ votesSound slots (set .id)
   unfolding soundIn
-  sound-votes h a = rw (eq-eqb (first (settingRows set)) 0 h, a)
+  soundVotes h a = rw (eq-eqb (first (settingRows set)) 0 h, a)
 
 -- ---- loops
 
 -- before the first turn there is no fault
-pub all-none : (test : ℕ → Bool) → all test 0 ≡ true
+pub allNone : (test : ℕ → Bool) → all test 0 ≡ true
 unfolding all
-all-none test = refl
+allNone test = refl
 
 -- a turn without a fault
-pub all-more : (test : ℕ → Bool) (n : ℕ) → all test n ≡ true → test n ≡ true → all test (n + 1) ≡ true
+pub allMore : (test : ℕ → Bool) (n : ℕ) → all test n ≡ true → test n ≡ true → all test (n + 1) ≡ true
 unfolding all
-all-more test n h k = rw (add-one, h, k)
+allMore test n h k = rw (add-one, h, k)
 
 -- a test that fails decides
 and-false : (b : Bool) → (b && false) ≡ false
@@ -159,28 +159,28 @@ and-false true = refl
 and-false false = refl
 
 -- a fault ends the loop, whatever follows
-pub all-stop : (test : ℕ → Bool) (n i : ℕ) → i < n → test i ≡ false → all test n ≡ false
+pub allStop : (test : ℕ → Bool) (n i : ℕ) → i < n → test i ≡ false → all test n ≡ false
 unfolding all
-all-stop test zero i h e = absurd (not-suc-le-zero h)
-all-stop test (suc n) i h e = ⊎-elim
+allStop test zero i h e = absurd (not-suc-le-zero h)
+allStop test (suc n) i h e = ⊎-elim
     (λ (s : i ≡ n). ap (λ (b : Bool). all test n && b) (subst (λ (k : ℕ). test k ≡ false) s e) ∙ and-false (all test n))
-    (λ (k : i < n). ap (λ (b : Bool). b && test n) (all-stop test n i k e))
+    (λ (k : i < n). ap (λ (b : Bool). b && test n) (allStop test n i k e))
     (eq-or-lt-of-le (le-of-suc-le-suc h))
 
 -- ---- lent bytes
 
 module _ (s : List ℕ) where
   -- another length: unsound
-  pub lent-length : (length s ≡ recordSize → ⊥) → lentIs s ≡ Unsound
+  pub lentLength : (length s ≡ recordSize → ⊥) → lentIs s ≡ Unsound
   unfolding lentIs
-  lent-length h = rw (ne-eqb (length s) recordSize h)
+  lentLength h = rw (ne-eqb (length s) recordSize h)
 
   -- a record's length and n = 0: blank
-  pub lent-blank : length s ≡ recordSize → decodeRecord s .set .n ≡ 0 → lentIs s ≡ Blank
+  pub lentBlank : length s ≡ recordSize → decodeRecord s .set .n ≡ 0 → lentIs s ≡ Blank
   unfolding lentIs
-  lent-blank h k = rw (eq-eqb (length s) recordSize h, eq-eqb (decodeRecord s .set .n) 0 k)
+  lentBlank h k = rw (eq-eqb (length s) recordSize h, eq-eqb (decodeRecord s .set .n) 0 k)
 
   -- a record's length and another n: sound or unsound, as the record is
-  pub lent-other : length s ≡ recordSize → (decodeRecord s .set .n ≡ 0 → ⊥) → lentIs s ≡ cond (sound (decodeRecord s)) Sound Unsound
+  pub lentOther : length s ≡ recordSize → (decodeRecord s .set .n ≡ 0 → ⊥) → lentIs s ≡ cond (sound (decodeRecord s)) Sound Unsound
   unfolding lentIs
-  lent-other h k = rw (eq-eqb (length s) recordSize h, ne-eqb (decodeRecord s .set .n) 0 k)
+  lentOther h k = rw (eq-eqb (length s) recordSize h, ne-eqb (decodeRecord s .set .n) 0 k)

@@ -14,7 +14,7 @@ use Rattle.record.specs.Slots.{rows, frameSlot, reportSlot}
 use Rattle.keeping.specs.Kept.{frameIn}
 use Rattle.sound.specs.inside.Sound.{all, reportsAbsent, emptyAt, noPlan, placeSound, kindSound}
 use Rattle.sound.specs.inside.Bulk.{absentFrom, toldAbsent, emptyFrom}
-use Rattle.sound.proofs.Laws.{place-empty, place-plan, place-frame, empty-frame, frame-row}
+use Rattle.sound.proofs.Laws.{placeEmpty, placePlan, placeOfFrame, emptyFrame, frameRow}
 use Rattle.sound.proofs.All.{allSame, allBoth, allSplit, allAt, andTrue, andFalse}
 
 -- ---- rows where nothing may be kept
@@ -30,18 +30,18 @@ module _ (slots : ℕ → Report) (set : Settings) (view kind sender : ℕ) wher
   placeBeyond h = go (eqb (slots (frameSlot kind sender) .mark) 1) refl
     where
       marked : slots (frameSlot kind sender) .mark ≡ 1 → emptyAt slots kind sender ≡ false
-      marked m = empty-frame slots kind sender (rw m)
+      marked m = emptyFrame slots kind sender (rw m)
 
       at : slots (frameSlot kind sender) .mark ≡ 1 → (b : Bool) → noPlan kind (slots (frameSlot kind sender) .plan) ≡ b
           → placeSound slots set view kind sender ≡ false
-      at m true e = place-frame slots set view kind sender m e ∙ frame-row set view (frameIn slots kind sender) (own h)
-      at m false e = place-plan slots set view kind sender m e
+      at m true e = placeOfFrame slots set view kind sender m e ∙ frameRow set view (frameIn slots kind sender) (own h)
+      at m false e = placePlan slots set view kind sender m e
 
       go : (b : Bool) → eqb (slots (frameSlot kind sender) .mark) 1 ≡ b → placeSound slots set view kind sender ≡ emptyAt slots kind sender
       go true e =
           let m = eqb-true (slots (frameSlot kind sender) .mark) 1 e in
           at m (noPlan kind (slots (frameSlot kind sender) .plan)) refl ∙ sym (marked m)
-      go false e = place-empty slots set view kind sender
+      go false e = placeEmpty slots set view kind sender
           (λ (m : slots (frameSlot kind sender) .mark ≡ 1). let z : true ≡ false = sym (eq-eqb (slots (frameSlot kind sender) .mark) 1 m) ∙ e in
           let y : _≡_ {A = ℕ} 0 1 = cc in omega arith)
 
@@ -51,7 +51,7 @@ module _ (slots : ℕ → Report) (set : Settings) (view kind sender : ℕ) wher
   unfolding emptyAt
   placeAbsent e =
       let z = eqb-true (slots (frameSlot kind sender) .mark) 0 (both (eqb (slots (frameSlot kind sender) .mark) 0) _ e .0) in
-      place-empty slots set view kind sender (λ (g : slots (frameSlot kind sender) .mark ≡ 1). omega (arith, z, g))
+      placeEmpty slots set view kind sender (λ (g : slots (frameSlot kind sender) .mark ≡ 1). omega (arith, z, g))
       ∙ ap (λ (b : Bool). b && (ltb kind 7 || reportsAbsent slots kind sender)) e
 
 -- ---- a kind without a frame

@@ -56,7 +56,7 @@ use Rattle.acts.specs.inside.Acts.{asAct, actAt}
 use Rattle.steps.specs.declared.Entries.{Entries}
 use Rattle.steps.specs.declared.Entries.the-variants.{Zero, Sent, Decided, Led, Followed}
 use Rattle.steps.specs.declared.Record as by
-use Rattle.steps.specs.inside.Steps.{listOf, OfView, OfPlan, toldOf, Did, Took}
+use Rattle.steps.specs.inside.Steps.{listOf, OfView, OfPlan, ownReports, Did, Took}
 use Rattle.steps.specs.inside.Order.{stepAt}
 
 -- ---- what an act does
@@ -125,21 +125,21 @@ module _ (rec : List ℕ) (h : Ready rec) where
   didNothing = record { size = h .size; left = refl; clean = h .clean; wrote = refl }
 
   -- To enter a view: the frames that are told, the timer and the leader as the code has them.
-  module _ (set : Settings) (own : set ≡ r .set) (w : ℕ) (proofs suggests : Reports) (ep : proofs ≡ toldOf (slotOf r) (set .id) 2 5)
-      (es : suggests ≡ toldOf (slotOf r) (set .id) 3 4) where
+  module _ (set : Settings) (own : set ≡ r .set) (w : ℕ) (proofs suggests : Reports) (ep : proofs ≡ ownReports (slotOf r) (set .id) 2 5)
+      (es : suggests ≡ ownReports (slotOf r) (set .id) 3 4) where
     abbrev proof : Frame
     proof = told 8 (set .id) w proofs
 
     abbrev suggest : Frame
     suggest = told 7 (set .id) w suggests
 
-    tells : (rule : Rule) {t : Reports} → t ≡ toldOf (slotOf r) (set .id) (suc (claimVote rule)) (suc (lockVote rule))
+    tells : (rule : Rule) {t : Reports} → t ≡ ownReports (slotOf r) (set .id) (suc (claimVote rule)) (suc (lockVote rule))
         → told (kindOf rule) (set .id) w t ≡ reportFrame c rule w
     unfolding contents
     tells rule e =
         let there = tellsAt r rule (h .clean) row in
         (λ i. told (kindOf rule) (set .id) w (e i))
-        ∙ (λ i. told (kindOf rule) (own i .id) w (toldOf (slotOf r) (own i .id) (suc (claimVote rule)) (suc (lockVote rule))))
+        ∙ (λ i. told (kindOf rule) (own i .id) w (ownReports (slotOf r) (own i .id) (suc (claimVote rule)) (suc (lockVote rule))))
         ∙ (λ i. told (kindOf rule) (r .set .id) w (sym there i))
 
     proofTold : proof ≡ reportFrame c rule3 w

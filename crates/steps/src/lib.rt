@@ -18,7 +18,7 @@ ghost use Rattle.protocol.specs.Pass.{actA, actB, actC, actD, actVote, actH, st
 ghost use Rattle.contents.specs.Contents.{contentsIn};
 ghost use Rattle.contents.specs.inside.Ready.{Ready};
 ghost use Rattle.acts.specs.inside.Acts.{asAct, actAt};
-ghost use Rattle.steps.specs.inside.Steps.{OfView, OfPlan, toldOf, Did, Took};
+ghost use Rattle.steps.specs.inside.Steps.{OfView, OfPlan, ownReports, Did, Took};
 ghost use Rattle.steps.specs.inside.Order.{stepAt};
 
 // The entries that a step writes: none; a frame for all vaults (A, C to G); the decision (H); a timer, given by view and milliseconds,
@@ -98,7 +98,7 @@ fn decide_in(rec: &mut [u8], view: u32, p: u64) -> Entries
 // The reports of the own suggest or proof: the highest and the previous own vote of the kind `claim`, and the highest of the kind `lock`.
 fn reports_of(rec: &[u8], id: u8, claim: u8, lock: u8) -> Reports
     requires { ⌜ (length (now rec) ≡ recordSize) × (id < 64) × (2 ≤ claim) × (claim ≤ 3) × (1 ≤ lock) × (lock ≤ 8) ⌝ }
-    ensures { λ t. ⌜ t ≡ toldOf (slotOf (decodeRecord (now (rec .entry)))) id claim lock ⌝ }
+    ensures { λ t. ⌜ t ≡ ownReports (slotOf (decodeRecord (now (rec .entry)))) id claim lock ⌝ }
 {
     let highest = layout::slot_of(rec, layout::frame_slot(claim, id));
     let previous = layout::slot_of(rec, layout::previous_slot(claim));

@@ -18,33 +18,33 @@ use Rattle.stored.specs.declared.Decision.the-variants as decision
 use Rattle.stored.specs.Stored.{enteredBy, currentBy, currentOf, madeBy, decisionBy, decisionOf}
 
 -- What the bytes are decides which answer is given.
-pub current-is : (rec : List ℕ) (l : Lent) → lentIs rec ≡ l → currentBy l (contentsIn rec) ≡ currentOf rec
+pub currentIs : (rec : List ℕ) (l : Lent) → lentIs rec ≡ l → currentBy l (contentsIn rec) ≡ currentOf rec
 unfolding currentOf
-current-is rec l e = ap (λ (k : Lent). currentBy k (contentsIn rec)) (sym e)
+currentIs rec l e = ap (λ (k : Lent). currentBy k (contentsIn rec)) (sym e)
 
 -- The same of the answer on the decision.
-pub decision-is : (rec : List ℕ) (l : Lent) → lentIs rec ≡ l → decisionBy l (contentsIn rec) ≡ decisionOf rec
+pub decisionIs : (rec : List ℕ) (l : Lent) → lentIs rec ≡ l → decisionBy l (contentsIn rec) ≡ decisionOf rec
 unfolding decisionOf
-decision-is rec l e = ap (λ (k : Lent). decisionBy k (contentsIn rec)) (sym e)
+decisionIs rec l e = ap (λ (k : Lent). decisionBy k (contentsIn rec)) (sym e)
 
 -- The contents' view and class are those of the bytes.
-pub entered-is : (rec : List ℕ) (set : Settings) (view millis : ℕ) → set ≡ decodeRecord rec .set → view ≡ decodeRecord rec .view
+pub enteredIs : (rec : List ℕ) (set : Settings) (view millis : ℕ) → set ≡ decodeRecord rec .set → view ≡ decodeRecord rec .view
     → millis ≡ 9 * delayOf (set .class) → current.Entered view millis ≡ enteredBy (contentsIn rec)
 unfolding contents
-entered-is rec set view millis s v m = λ i. current.Entered (v i) ((m ∙ ap (λ (t : Settings). 9 * delayOf (t .class)) s) i)
+enteredIs rec set view millis s v m = λ i. current.Entered (v i) ((m ∙ ap (λ (t : Settings). 9 * delayOf (t .class)) s) i)
 
 -- The decision is what the decision slot reports.
-pub none-made : (rec : List ℕ) (slot : Report) → slot ≡ decodeRecord rec .slots decisionSlot → (slot .mark ≡ 1 → ⊥)
+pub noneMade : (rec : List ℕ) (slot : Report) → slot ≡ decodeRecord rec .slots decisionSlot → (slot .mark ≡ 1 → ⊥)
     → decision.Open ≡ madeBy (contentsIn rec .decision)
 unfolding contents
-none-made rec slot e h =
+noneMade rec slot e h =
     let none-reported : decision.Open ≡ madeBy (reported slot) = rw (ne-eqb (slot .mark) 1 h) refl in
     none-reported ∙ ap (λ (x : Report). madeBy (reported x)) e
 
 -- A marked slot is a decision made, in its view and for its plan.
-pub one-made : (rec : List ℕ) (slot : Report) → slot ≡ decodeRecord rec .slots decisionSlot → slot .mark ≡ 1
+pub oneMade : (rec : List ℕ) (slot : Report) → slot ≡ decodeRecord rec .slots decisionSlot → slot .mark ≡ 1
     → decision.Made (slot .view) (slot .plan) ≡ madeBy (contentsIn rec .decision)
 unfolding contents
-one-made rec slot e h =
+oneMade rec slot e h =
     let one-reported : decision.Made (slot .view) (slot .plan) ≡ madeBy (reported slot) = rw (eq-eqb (slot .mark) 1 h) refl in
     one-reported ∙ ap (λ (x : Report). madeBy (reported x)) e

@@ -12,13 +12,13 @@ use lib.ListN.{length, getD, take, drop}
 use lib.Seq.{take-all}
 use Rattle.quorum.proofs.Bools.{bothSplit}
 use Rattle.wire.specs.Placed.{placed}
-use Rattle.wire.proofs.Output.{placed-none}
+use Rattle.wire.proofs.Output.{placedNone}
 use Rattle.texts.specs.Texts.{sentences, bytesOf, sentenceOf, ShortTexts, fitting, Written}
 
 -- Where there is no room, nothing is written.
-pub none-fits : (bytes out : List ℕ) → length out < length bytes → Written (fitting bytes (length out)) out out 0
+pub noneFits : (bytes out : List ℕ) → length out < length bytes → Written (fitting bytes (length out)) out out 0
 unfolding fitting
-none-fits bytes out h = rw (lt-leb (length bytes) (length out) h) (record { count = refl; left = sym (placed-none out 0) })
+noneFits bytes out h = rw (lt-leb (length bytes) (length out) h) (record { count = refl; left = sym (placedNone out 0) })
 
 -- A copy to the start of the output.
 copied : (bytes out : List ℕ) → take (length bytes) bytes ++ drop (length bytes) out ≡ placed out 0 bytes
@@ -26,10 +26,10 @@ unfolding placed
 copied bytes out = let start : 0 + length bytes ≡ length bytes = omega arith in rw (take-all (length bytes) bytes (omega arith), start) refl
 
 -- Where there is room, a copy writes them.
-pub all-fit : (bytes out out′ : List ℕ) (r : ℕ) → length bytes ≤ length out → r ≡ length bytes
+pub allFit : (bytes out out′ : List ℕ) (r : ℕ) → length bytes ≤ length out → r ≡ length bytes
     → out′ ≡ take (length bytes) bytes ++ drop (length bytes) out → Written (fitting bytes (length out)) out out′ r
 unfolding fitting
-all-fit bytes out out′ r h e is = rw (le-leb (length bytes) (length out) h) (record { count = e; left = is ∙ copied bytes out })
+allFit bytes out out′ r h e is = rw (le-leb (length bytes) (length out) h) (record { count = e; left = is ∙ copied bytes out })
 
 -- An arm copies its own number's sentence.
 pub said : (number k : ℕ) (bytes out out′ : List ℕ) (r : ℕ) → Written (fitting bytes (length out)) out out′ r → number ≡ k → bytes ≡ sentenceOf k
@@ -44,15 +44,15 @@ beyond (x ∷ l) zero h = absurd (omega arith)
 beyond (x ∷ l) (suc number) h = beyond l number (omega arith)
 
 -- Nor has 0 one.
-pub no-number : (number : ℕ) → (0 < number → 20 < number) → sentenceOf number ≡ []
+pub noNumber : (number : ℕ) → (0 < number → 20 < number) → sentenceOf number ≡ []
 unfolding sentenceOf bytesOf
-no-number zero h = refl
-no-number (suc k) h = ap bytesOf (beyond sentences (suc k) (h (omega arith)))
+noNumber zero h = refl
+noNumber (suc k) h = ap bytesOf (beyond sentences (suc k) (h (omega arith)))
 
 -- A number that is none of the next four is beyond them. What came before in the match is kept apart, as A.
-pub beyond-four : (number k : ℕ) {A : Type 0} → k < number
+pub beyondFour : (number k : ℕ) {A : Type 0} → k < number
     → (((A × (number ≡ k + 1 → ⊥)) × (number ≡ k + 2 → ⊥)) × (number ≡ k + 3 → ⊥)) × (number ≡ k + 4 → ⊥) → k + 4 < number
-beyond-four number k h r =
+beyondFour number k h r =
     let a = r .0 .0 .0 .1 in
     let b = r .0 .0 .1 in
     let c = r .0 .1 in
@@ -64,33 +64,33 @@ pub too-high : (number : ℕ) → 8 < number → number < 9 → ⊥
 too-high number a b = omega arith
 
 -- A number that is no refusal's.
-pub none-said : (number : ℕ) (out : List ℕ) → sentenceOf number ≡ [] → Written (fitting (sentenceOf number) (length out)) out out 0
-none-said number out e =
-    subst (λ (s : List ℕ). Written (fitting s (length out)) out out 0) (sym e) (all-fit [] out out 0 (omega arith) refl refl)
+pub noneSaid : (number : ℕ) (out : List ℕ) → sentenceOf number ≡ [] → Written (fitting (sentenceOf number) (length out)) out out 0
+noneSaid number out e =
+    subst (λ (s : List ℕ). Written (fitting s (length out)) out out 0) (sym e) (allFit [] out out 0 (omega arith) refl refl)
 
 -- ---- how long
 
 -- A test that computes: each sentence of a list is short.
-all-short : List text.String → Bool
-all-short [] = true
-all-short (x ∷ l) = leb (length (bytesOf x)) 120 && all-short l
+allShort : List text.String → Bool
+allShort [] = true
+allShort (x ∷ l) = leb (length (bytesOf x)) 120 && allShort l
 
 -- So is the one of each number.
-short-at : (l : List text.String) (number : ℕ) → all-short l ≡ true → length (bytesOf (getD l number text.[])) ≤ 120
-unfolding all-short bytesOf
-short-at [] number e = omega arith
-short-at (x ∷ l) zero e = leb-true (length (bytesOf x)) 120 (bothSplit (leb (length (bytesOf x)) 120) (all-short l) e .0)
-short-at (x ∷ l) (suc number) e = short-at l number (bothSplit (leb (length (bytesOf x)) 120) (all-short l) e .1)
+shortAt : (l : List text.String) (number : ℕ) → allShort l ≡ true → length (bytesOf (getD l number text.[])) ≤ 120
+unfolding allShort bytesOf
+shortAt [] number e = omega arith
+shortAt (x ∷ l) zero e = leb-true (length (bytesOf x)) 120 (bothSplit (leb (length (bytesOf x)) 120) (allShort l) e .0)
+shortAt (x ∷ l) (suc number) e = shortAt l number (bothSplit (leb (length (bytesOf x)) 120) (allShort l) e .1)
 
 -- No sentence is longer than 120 bytes, by that test on the whole list.
 pub shortTexts : ShortTexts
-unfolding sentenceOf all-short bytesOf
-shortTexts number = short-at sentences number refl
+unfolding sentenceOf allShort bytesOf
+shortTexts number = shortAt sentences number refl
 
 -- What is written is no longer.
-pub short-written : (bytes out out′ : List ℕ) (r : ℕ) → length bytes ≤ 120 → Written (fitting bytes (length out)) out out′ r → r ≤ 120
+pub shortWritten : (bytes out out′ : List ℕ) (r : ℕ) → length bytes ≤ 120 → Written (fitting bytes (length out)) out out′ r → r ≤ 120
 unfolding fitting
-short-written bytes out out′ r h w = go (leb (length bytes) (length out)) (w .count)
+shortWritten bytes out out′ r h w = go (leb (length bytes) (length out)) (w .count)
   where
     go : (b : Bool) → r ≡ length (cond b bytes []) → r ≤ 120
     go true e = omega arith

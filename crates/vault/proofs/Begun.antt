@@ -21,7 +21,7 @@ use Rattle.layout.specs.Size.{recordSize}
 use Rattle.layout.specs.inside.Layout.{Holds}
 use Rattle.sound.specs.declared.Lent.the-variants.{Blank, Unsound, Sound}
 use Rattle.sound.specs.inside.Sound.{sound, lentIs}
-use Rattle.sound.proofs.Laws.{lent-length, lent-blank, lent-other}
+use Rattle.sound.proofs.Laws.{lentLength, lentBlank, lentOther}
 use Rattle.protocol.specs.Pass.{Out, pass, fromC, timerEntry}
 use Rattle.protocol.specs.Calls as calls
 use Rattle.protocol.specs.Calls.{started, start, unless, accepted, answer}
@@ -96,12 +96,12 @@ module _ (rec : List ℕ) (set : Settings) (plan : ℕ) (out : List ℕ) where
   -- A record of another length is unsound: 4.
   pub startLength : 256 ≤ length out → (length rec ≡ recordSize → ⊥) → gave 4 rec out ≡ startLeft rec set plan out
   unfolding startLeft
-  startLength room other = calledLent 4 rec out (start set plan) room Unsound (lent-length rec other)
+  startLength room other = calledLent 4 rec out (start set plan) room Unsound (lentLength rec other)
 
   -- A record that is not blank, sound or not: 4.
   pub startHeld : 256 ≤ length out → length rec ≡ recordSize → (decodeRecord rec .set .n ≡ 0 → ⊥) → gave 4 rec out ≡ startLeft rec set plan out
   unfolding startLeft answer
-  startHeld room size held = go (sound (decodeRecord rec)) (lent-other rec size held)
+  startHeld room size held = go (sound (decodeRecord rec)) (lentOther rec size held)
     where
       go : (b : Bool) → lentIs rec ≡ cond b Sound Unsound → gave 4 rec out ≡ startLeft rec set plan out
       go true e = calledLent 4 rec out (start set plan) room Sound e
@@ -111,7 +111,7 @@ module _ (rec : List ℕ) (set : Settings) (plan : ℕ) (out : List ℕ) where
     -- A blank record: the start by contents decides.
     startBlank : after rec out (answer none (start set plan)) ≡ startLeft rec set plan out
     unfolding startLeft
-    startBlank = calledLent 4 rec out (start set plan) room Blank (lent-blank rec size blank)
+    startBlank = calledLent 4 rec out (start set plan) room Blank (lentBlank rec size blank)
 
     -- The settings give a number: that is the answer, and nothing is changed.
     pub startRefused : (k : ℕ) → k ≡ first (settingRows set) → (k ≡ 0 → ⊥) → gave k rec out ≡ startLeft rec set plan out

@@ -22,7 +22,7 @@ use Rattle.sound.specs.declared.Lent.the-variants.{Sound}
 use Rattle.sound.specs.inside.Sound.{lentIs}
 use Rattle.protocol.specs.Record.{Record, each, changeOf}
 use Rattle.protocol.specs.Pass.{Out, ask, taken, pass, fromA}
-use Rattle.protocol.specs.Calls.{timerRows, wantedFrom, wanted, rung, timer, accepted, unless, answer}
+use Rattle.protocol.specs.Calls.{timerRows, wantedFrom, wanted, timedOut, timer, accepted, unless, answer}
 use Rattle.protocol.proofs.Good.{doesSet}
 use Rattle.protocol.proofs.Went.{noneGiven, wantedMay}
 use Rattle.contents.specs.Contents.{contents, contentsIn}
@@ -121,16 +121,16 @@ module _ {rec : List ℕ} {set : Settings} (h : Held rec set) (view : ℕ) (curr
   asking = taken (contentsIn rec) (some (ask w))
 
   -- An accepted timer is the asking, then the pass.
-  rungIs : joined asking fromA ≡ rung (contentsIn rec)
-  unfolding rung
+  rungIs : joined asking fromA ≡ timedOut (contentsIn rec)
+  unfolding timedOut
   rungIs = ap (λ (v : ℕ). joined (taken (contentsIn rec) (some (ask v))) fromA) wants
 
   -- An accepted timer has room for all its entries.
   roomAll : Room (joined asking fromA) 0 out
   unfolding answer
   roomAll = subst (λ (o : Out). Room o 0 out) (sym rungIs)
-      (acceptedRoom (some (contentsIn rec)) (timer (contentsIn rec .view)) (rung (contentsIn rec)) out
-      (ap (λ (k : ℕ). unless k (rung (contentsIn rec))) (sym (mayRing (contentsIn rec .view) (contentsIn rec .view) refl notLast (contentsIn rec) refl))) room)
+      (acceptedRoom (some (contentsIn rec)) (timer (contentsIn rec .view)) (timedOut (contentsIn rec)) out
+      (ap (λ (k : ℕ). unless k (timedOut (contentsIn rec))) (sym (mayRing (contentsIn rec .view) (contentsIn rec .view) refl notLast (contentsIn rec) refl))) room)
 
   -- What `ask_for` asks for.
   pub askRequires : Ready rec × (set ≡ decodeRecord rec .set) × (decodeRecord rec .view < w) × Room asking 0 out
@@ -148,7 +148,7 @@ module _ {rec : List ℕ} {set : Settings} (h : Held rec set) (view : ℕ) (curr
     )
 
     -- With that pass run, the whole timer has run.
-    pub ringRan : (n : ℕ) (rec'' out'' : List ℕ) → Ran (pass fromA (contentsIn rec')) at out' out'' n rec'' → Ran (rung (contentsIn rec)) 0 out out'' n rec''
+    pub ringRan : (n : ℕ) (rec'' out'' : List ℕ) → Ran (pass fromA (contentsIn rec')) at out' out'' n rec'' → Ran (timedOut (contentsIn rec)) 0 out out'' n rec''
     ringRan n rec'' out'' then =
         subst (λ (o : Out). Ran o 0 out out'' n rec'') rungIs (ranJoin asking fromA 0 out roomAll ran then)
 
@@ -169,12 +169,12 @@ module _ (rec out : List ℕ) (sound : lentIs rec ≡ Sound) (room : 256 ≤ len
   -- A number is given: that is the answer, record and output unchanged.
   pub timerRefused : (k ≡ 0 → ⊥) → gave k rec out ≡ timerLeft rec view out
   unfolding answer
-  timerRefused other = refusedBy rec out (rung (contentsIn rec)) (first (timerRows (contentsIn rec) view)) k rows′ other ∙ answered
+  timerRefused other = refusedBy rec out (timedOut (contentsIn rec)) (first (timerRows (contentsIn rec) view)) k rows′ other ∙ answered
 
   -- None is given: the timer is accepted.
-  pub timerAccepted : k ≡ 0 → after rec out (accepted (rung (contentsIn rec))) ≡ timerLeft rec view out
+  pub timerAccepted : k ≡ 0 → after rec out (accepted (timedOut (contentsIn rec))) ≡ timerLeft rec view out
   unfolding answer
-  timerAccepted e = acceptedBy rec out (rung (contentsIn rec)) (first (timerRows (contentsIn rec) view)) (sym rows′ ∙ e) ∙ answered
+  timerAccepted e = acceptedBy rec out (timedOut (contentsIn rec)) (first (timerRows (contentsIn rec) view)) (sym rows′ ∙ e) ∙ answered
 
   -- Then the current view is below the last, as `ring` asks.
   pub viewBelow : Ready rec → k ≡ 0 → current < 4294967295

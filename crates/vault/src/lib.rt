@@ -16,7 +16,7 @@ ghost use Rattle.layout.specs.Size.{recordSize};
 ghost use Rattle.sound.specs.declared.Lent.the-variants.{Sound};
 ghost use Rattle.sound.specs.inside.Sound.{lentIs};
 ghost use Rattle.protocol.specs.Record.{changeOf};
-ghost use Rattle.protocol.specs.Calls.{recordRows, wantedFrom, started, heard, rung};
+ghost use Rattle.protocol.specs.Calls.{recordRows, wantedFrom, started, heard, timedOut};
 ghost use Rattle.contents.specs.Contents.{contentsIn};
 ghost use Rattle.contents.specs.Calls.{startLeft, frameLeft, timerLeft};
 ghost use Rattle.pass.specs.inside.Steps.{Ran};
@@ -192,7 +192,7 @@ fn wanted_view(rec: &[u8], id: u8, view: u32) -> u32
 // A view is asked for; then one pass from A.
 fn ring(rec: &mut [u8], set: Settings, view: u32, out: &mut [u8]) -> usize
     requires { ⌜ Held (now rec) set × (view ≡ decodeRecord (now rec) .view) × (view < 4294967295) × (256 ≤ length (now out)) ⌝ }
-    ensures { λ n. ⌜ Ran (rung (contentsIn (now (rec .entry)))) 0 (now (out .entry)) (now (out .exit)) n (now (rec .exit)) ⌝ }
+    ensures { λ n. ⌜ Ran (timedOut (contentsIn (now (rec .entry)))) 0 (now (out .entry)) (now (out .exit)) n (now (rec .exit)) ⌝ }
 {
     let w = wanted_view(rec, set.id, view);
     let at = pass::ask_for(rec, set, w, out, 0);
@@ -210,8 +210,8 @@ fn timer_in(rec: &mut [u8], view: u32, out: &mut [u8]) -> Answer
         return Answer::Refused(why);
     }
     let set = layout::settings_of(rec);
-    let rung = ring(rec, set, current, out);
-    Answer::Written(rung)
+    let timedOut = ring(rec, set, current, out);
+    Answer::Written(timedOut)
 }
 
 // Timer, for the view that the host names.

@@ -11,9 +11,9 @@ use Rattle.stored.specs.declared.Decision.{Decision}
 use Rattle.vault_c.specs.Asked.{Told, told, two, tellCurrent, tellDecision, withRoom}
 
 -- There is no room for two numbers.
-pub no-room : (out : List ℕ) (t : Told) → length out < 2 → told 1 out ≡ withRoom out t
+pub noRoom : (out : List ℕ) (t : Told) → length out < 2 → told 1 out ≡ withRoom out t
 unfolding withRoom
-no-room out t h = rw (lt-ltb (length out) 2 h) refl
+noRoom out t h = rw (lt-ltb (length out) 2 h) refl
 
 -- There is.
 room : (out : List ℕ) (t : Told) → 2 ≤ length out → t ≡ withRoom out t
@@ -21,15 +21,15 @@ unfolding withRoom
 room out t h = rw (le-ltb (length out) 2 h) refl
 
 -- With room, the host is told what crate stored answers on the current view.
-pub current-told : (out : List ℕ) (t : Told) (x y : Current) → 2 ≤ length out → x ≡ y → t ≡ tellCurrent x out → t ≡ withRoom out (tellCurrent y out)
-current-told out t x y h same is = is ∙ ap (λ (z : Current). tellCurrent z out) same ∙ room out (tellCurrent y out) h
+pub currentTold : (out : List ℕ) (t : Told) (x y : Current) → 2 ≤ length out → x ≡ y → t ≡ tellCurrent x out → t ≡ withRoom out (tellCurrent y out)
+currentTold out t x y h same is = is ∙ ap (λ (z : Current). tellCurrent z out) same ∙ room out (tellCurrent y out) h
 
 -- With room, the host is told what crate stored answers on the decision.
-pub decision-told : (out : List ℕ) (t : Told) (x y : Decision) → 2 ≤ length out → x ≡ y → t ≡ tellDecision x out → t ≡ withRoom out (tellDecision y out)
-decision-told out t x y h same is = is ∙ ap (λ (z : Decision). tellDecision z out) same ∙ room out (tellDecision y out) h
+pub decisionTold : (out : List ℕ) (t : Told) (x y : Decision) → 2 ≤ length out → x ≡ y → t ≡ tellDecision x out → t ≡ withRoom out (tellDecision y out)
+decisionTold out t x y h same is = is ∙ ap (λ (z : Decision). tellDecision z out) same ∙ room out (tellDecision y out) h
 
 -- The first two numbers are stored, and the others stay.
-pub two-set : (out : List ℕ) (view number : ℕ) → 2 ≤ length out → set (set out 0 view) 1 number ≡ two view number out
-two-set [] view number h = absurd (omega arith)
-two-set (x ∷ []) view number h = absurd (omega arith)
-two-set (x ∷ y ∷ out) view number h = refl
+pub twoSet : (out : List ℕ) (view number : ℕ) → 2 ≤ length out → set (set out 0 view) 1 number ≡ two view number out
+twoSet [] view number h = absurd (omega arith)
+twoSet (x ∷ []) view number h = absurd (omega arith)
+twoSet (x ∷ y ∷ out) view number h = refl

@@ -16,7 +16,7 @@ use Rattle.frame.specs.Refusal.{Row, row, first, formRows, linkRows, contentRow
 use Rattle.settings.specs.Settings.{settingRows}
 use Rattle.protocol.specs.Record.{Record}
 use Rattle.protocol.specs.Pass.{Out}
-use Rattle.protocol.specs.Calls.{Call, start, frame, timer, short, Answer, refused, accepted, unless, recordRows, timerRows, started, heard, rung, answer}
+use Rattle.protocol.specs.Calls.{Call, start, frame, timer, short, Answer, refused, accepted, unless, recordRows, timerRows, started, heard, timedOut, answer}
 
 -- The numbers of refusals that a call gives: 1 to 19.
 abbrev pub Refusal : ℕ → Type 0
@@ -74,4 +74,4 @@ answerNamed none (timer view) brings = omega arith
 answerNamed (some r) (start set plan) brings = omega arith
 answerNamed (some r) (frame (Refused k)) brings = brings
 answerNamed (some r) (frame (Accepted f)) brings = unlessNamed (first (recordRows r f)) (heard r f) (firstLow (recordRows r f) (omega arith))
-answerNamed (some r) (timer view) brings = unlessNamed (first (timerRows r view)) (rung r) (firstLow (timerRows r view) (omega arith))
+answerNamed (some r) (timer view) brings = unlessNamed (first (timerRows r view)) (timedOut r) (firstLow (timerRows r view) (omega arith))

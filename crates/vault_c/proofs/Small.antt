@@ -35,54 +35,54 @@ Small (gave number rec out) = Refusal number
 
 module _ (rec out : List ℕ) (a : Call) (brings : Brings a) where
   -- By contents every call leaves so little.
-  small-after : (b : Option Record) → Small (after rec out (answer b a))
-  small-after b = go (answer b a) refl (answerNamed b a brings)
+  smallAfter : (b : Option Record) → Small (after rec out (answer b a))
+  smallAfter b = go (answer b a) refl (answerNamed b a brings)
     where
       go : (u : Answer) → answer b a ≡ u → Named u → Small (after rec out u)
       go (refused k) e named = named
       go (accepted o) e named = outputShort b a o e
 
   -- So it does on a lent record, whatever that is.
-  small-lent : (l : Lent) (k : ℕ) (r : Record) → Refusal k → Small (after rec out (onLent l k r a))
-  small-lent Blank k r named = small-after none
-  small-lent Unsound k r named = named
-  small-lent Sound k r named = small-after (some r)
+  smallLent : (l : Lent) (k : ℕ) (r : Record) → Refusal k → Small (after rec out (onLent l k r a))
+  smallLent Blank k r named = smallAfter none
+  smallLent Unsound k r named = named
+  smallLent Sound k r named = smallAfter (some r)
 
   -- And whatever the output space is.
-  small-called : (k : ℕ) → Refusal k → Small (called k rec out a)
+  smallCalled : (k : ℕ) → Refusal k → Small (called k rec out a)
   unfolding called
-  small-called k named = go (ltb (length out) 256)
+  smallCalled k named = go (ltb (length out) 256)
     where
       go : (b : Bool) → Small (cond b (gave 1 rec out) (after rec out (onLent (lentIs rec) k (contents (decodeRecord rec)) a)))
       go true = omega arith
-      go false = small-lent (lentIs rec) k (contents (decodeRecord rec)) named
+      go false = smallLent (lentIs rec) k (contents (decodeRecord rec)) named
 
 -- So does start.
-pub small-start : (rec : List ℕ) (set : Settings) (plan : ℕ) (out : List ℕ) → Small (startLeft rec set plan out)
+pub smallStart : (rec : List ℕ) (set : Settings) (plan : ℕ) (out : List ℕ) → Small (startLeft rec set plan out)
 unfolding startLeft
-small-start rec set plan out = small-called rec out (start set plan) tt 4 (omega arith)
+smallStart rec set plan out = smallCalled rec out (start set plan) tt 4 (omega arith)
 
 -- So does frame.
-pub small-frame : (rec : List ℕ) (link : ℕ) (bytes out : List ℕ) → Small (frameLeft rec link bytes out)
+pub smallFrame : (rec : List ℕ) (link : ℕ) (bytes out : List ℕ) → Small (frameLeft rec link bytes out)
 unfolding frameLeft
-small-frame rec link bytes out =
+smallFrame rec link bytes out =
     let n = decodeRecord rec .set .n in
     let id = decodeRecord rec .set .id in
-    small-called rec out (frame (readFrame bytes link n id)) (readNamed bytes link n id) 3 (omega arith)
+    smallCalled rec out (frame (readFrame bytes link n id)) (readNamed bytes link n id) 3 (omega arith)
 
 -- So does timer.
-pub small-timer : (rec : List ℕ) (view : ℕ) (out : List ℕ) → Small (timerLeft rec view out)
+pub smallTimer : (rec : List ℕ) (view : ℕ) (out : List ℕ) → Small (timerLeft rec view out)
 unfolding timerLeft
-small-timer rec view out = small-called rec out (timer view) tt 3 (omega arith)
+smallTimer rec view out = smallCalled rec out (timer view) tt 3 (omega arith)
 
 -- the answer of a call that leaves little is short
-pub short-by : (a : Given) (rec out : List ℕ) (l : Left) → leftBy a rec out ≡ l → Small l → Short a
-short-by (Written count) rec out l e h =
+pub shortBy : (a : Given) (rec out : List ℕ) (l : Left) → leftBy a rec out ≡ l → Small l → Short a
+shortBy (Written count) rec out l e h =
     let few : count ≤ 205 = subst Small (sym e) h in
     omega arith
-short-by (Refused number) rec out l e h = tt
+shortBy (Refused number) rec out l e h = tt
 
 -- a host sees the number of the answer, with what the call left
-pub seen-by : (r : ℕ) (a : Given) (rec out : List ℕ) (l : Left) → r ≡ code a → leftBy a rec out ≡ l → seen r rec out ≡ numbered l
-seen-by r (Written count) rec out l q e = ap (λ (k : ℕ). seen k rec out) q ∙ ap numbered e
-seen-by r (Refused number) rec out l q e = ap (λ (k : ℕ). seen k rec out) q ∙ ap numbered e
+pub seenBy : (r : ℕ) (a : Given) (rec out : List ℕ) (l : Left) → r ≡ code a → leftBy a rec out ≡ l → seen r rec out ≡ numbered l
+seenBy r (Written count) rec out l q e = ap (λ (k : ℕ). seen k rec out) q ∙ ap numbered e
+seenBy r (Refused number) rec out l q e = ap (λ (k : ℕ). seen k rec out) q ∙ ap numbered e

@@ -3,7 +3,7 @@
 use mathlib.Core.Path.{_≡_, _∙_, ap}
 use Rattle.rules.specs.Rules.{rule3}
 use Rattle.rules.specs.inside.Counts.{safe}
-use Rattle.claims.specs.Table.{reportsIn}
+use Rattle.claims.specs.Table.{reportsInTable}
 use Rattle.settings.specs.Vaults.{vaultsOf}
 use Rattle.protocol.specs.Record.{Record}
 use Rattle.acts.proofs.Parts.{Lent, lent}
@@ -49,7 +49,7 @@ returns c =
     let e = table .before .before .before in
     let a = e .args in
     let r = here e in
-    let told : c .safe-by .result ≡ safe rule3 (vaultsOf (a .set)) (reportsIn (table .gather .result)) (a .view) (a .p) = c .safe-by .ensures in
+    let told : c .safe-by .result ≡ safe rule3 (vaultsOf (a .set)) (reportsInTable (table .gather .result)) (a .view) (a .p) = c .safe-by .ensures in
     told ∙ approvedIs _ _ r (table .gather .result) (a .p) (table .gather .ensures) ∙ ap (λ (x : Record). approvedBy x (a .p)) (r .spelt)
 
 pub approved-by-reports-spec : {M : Type 1} → statement M

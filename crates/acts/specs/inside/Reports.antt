@@ -9,7 +9,7 @@ use lib.Dec.{eqb}
 use lib.ListN.{length, getD, set}
 use Rattle.rules.specs.Rules.{Report, Reports, rule3}
 use Rattle.rules.specs.inside.Counts.{safe}
-use Rattle.claims.specs.Table.{column, tableSize, reportsIn}
+use Rattle.claims.specs.Table.{column, tableSize, reportsInTable}
 use Rattle.frame.specs.declared.Report as Slot
 use Rattle.frame.specs.Refusal.{present}
 use Rattle.record.specs.Slots.{frameSlot, reportSlot}
@@ -55,5 +55,5 @@ withReport t i highest previous lock =
 -- The table holds the reports of the first k senders, and of no other.
 pub record Filled (reports : Reports) (k : ℕ) (t : List ℕ) : Type 0 where
   pub size : length t ≡ tableSize
-  pub done : (j : ℕ) → j < k → reportsIn t j ≡ reports j
+  pub done : (j : ℕ) → j < k → reportsInTable t j ≡ reports j
   pub rest : (j : ℕ) → k ≤ j → j < column → getD t j 0 ≡ 0

@@ -6,13 +6,13 @@ use mathlib.Core.Path.{refl}
 use native.Mathlib.Omega.{arith}
 use borrow.Author.Needs.{needs}
 use Rattle.claims.proofs.Rows.{Counted, countedNone, countedFits, countedMore, countedAll}
-use Rattle.claims.specs.Table.{reportsIn}
+use Rattle.claims.specs.Table.{reportsInTable}
 use Rattle.rules.specs.Rules.{claims}
 use Rattle.claims.proofs.claims_at.Statement.{statement}
 use Rattle.claims.proofs.claims_at.Tie as tie
 
 abbrev Inv-loop : tie.InvT-loop
-Inv-loop table n w plans₀ at view every₀ some₀ r₀ plans every some r = Counted (reportsIn table) claims view n at plans₀ plans every some r
+Inv-loop table n w plans₀ at view every₀ some₀ r₀ plans every some r = Counted (reportsInTable table) claims view n at plans₀ plans every some r
 
 abbrev μ-loop : tie.MeasureT-loop
 μ-loop table n w plans₀ at view every₀ some₀ r₀ plans every some r = n - r

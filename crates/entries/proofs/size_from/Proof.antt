@@ -3,13 +3,13 @@
 use mathlib.Core.Path.{sym, _∙_}
 use native.Mathlib.Omega.{arith}
 use denote.Ref.{now}
-use Rattle.entries.proofs.Laws.{in-none, in-rest}
+use Rattle.entries.proofs.Laws.{inNone, inRest}
 use borrow.Author.Needs.{needs}
 use Rattle.entries.proofs.size_from.Statement.{statement}
 use Rattle.entries.proofs.size_from.Tie as tie
 
 returns : tie.Need-returns
-returns c = let a = c .before .before .args in sym (in-none (now (a .s)) (a .at) (omega arith))
+returns c = let a = c .before .before .args in sym (inNone (now (a .s)) (a .at) (omega arith))
 
 sub-size-in : tie.Need-sub-size-in
 sub-size-in c = search needs
@@ -24,7 +24,7 @@ size-in-requires : tie.Need-size-in-requires
 size-in-requires c κs = search needs
 
 returns-2 : tie.Need-returns-2
-returns-2 c = let a = c .before .before .before .before .args in c .size-in .ensures ∙ in-rest (now (a .s)) (a .at)
+returns-2 c = let a = c .before .before .before .before .args in c .size-in .ensures ∙ inRest (now (a .s)) (a .at)
 
 pub size-from-spec : {M : Type 1} → statement M
 size-from-spec =

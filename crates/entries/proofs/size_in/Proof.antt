@@ -4,13 +4,13 @@ use Prim.Native.Nat.{ℕ, _≤_, _<_}
 use mathlib.Core.Path.{sym, subst, _∙_}
 use lib.ListN.{length}
 use denote.Ref.{now}
-use Rattle.entries.proofs.Laws.{in-short, in-cut, in-whole}
+use Rattle.entries.proofs.Laws.{inShort, inCut, inWhole}
 use borrow.Author.Needs.{needs}
 use Rattle.entries.proofs.size_in.Statement.{statement}
 use Rattle.entries.proofs.size_in.Tie as tie
 
 returns : tie.Need-returns
-returns c = sym (in-short _ (c .if1 .taken))
+returns c = sym (inShort _ (c .if1 .taken))
 
 shared-slice-read-size-by : tie.Need-shared-slice-read-size-by
 shared-slice-read-size-by c = search needs
@@ -25,13 +25,13 @@ returns-2 : tie.Need-returns-2
 returns-2 c =
     let b = c .before in
     let s = now (b .before .before .before .before .before .args .s) in
-    sym (in-cut s (subst (λ (k : ℕ). length s < k) (b .size-by .ensures) (c .if2 .taken)))
+    sym (inCut s (subst (λ (k : ℕ). length s < k) (b .size-by .ensures) (c .if2 .taken)))
 
 returns-3 : tie.Need-returns-3
 returns-3 c =
     let b = c .before in
     let s = now (b .before .before .before .before .before .args .s) in
-    b .size-by .ensures ∙ sym (in-whole s (subst (λ (k : ℕ). k ≤ length s) (b .size-by .ensures) (c .if2 .left)))
+    b .size-by .ensures ∙ sym (inWhole s (subst (λ (k : ℕ). k ≤ length s) (b .size-by .ensures) (c .if2 .left)))
 
 pub size-in-spec : {M : Type 1} → statement M
 size-in-spec =

@@ -5,7 +5,7 @@ use mathlib.Core.Path.{refl, sym, _∙_}
 use mathlib.Core.List.{append-nil}
 use denote.Ref.{now}
 use native.Mathlib.Omega.{arith}
-use Rattle.wire.proofs.Output.{placed-none}
+use Rattle.wire.proofs.Output.{placedNone}
 use borrow.Author.Needs.{needs}
 use Rattle.entry.proofs.put_body.Statement.{statement}
 use Rattle.entry.proofs.put_body.Tie as tie
@@ -36,7 +36,7 @@ returns : tie.Need-returns
 returns c = rw (c .before .before .before .before .before .b .given .1) (refl, c .before .before .put .ensures ∙ simp append-nil)
 
 returns-2 : tie.Need-returns-2
-returns-2 c = rw (c .enum-told .given .1) (refl, sym (placed-none (now (c .before .before .before .args .out)) 6))
+returns-2 c = rw (c .enum-told .given .1) (refl, sym (placedNone (now (c .before .before .before .args .out)) 6))
 
 same-length-2 : tie.Need-same-length-2
 same-length-2 c = search needs

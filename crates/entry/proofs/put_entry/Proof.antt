@@ -2,7 +2,7 @@
 -- Each variant by the call that its arm makes.
 -- Assumes nothing.
 use lib.ListN.{length-append}
-use Rattle.wire.proofs.Laws.{length-digits}
+use Rattle.wire.proofs.Laws.{lengthDigits}
 use Rattle.entry.specs.Layout.{entryBytes}
 use borrow.Author.Needs.{needs}
 use Rattle.entry.proofs.put_entry.Statement.{statement}
@@ -30,14 +30,14 @@ cast-put-host c = search needs
 
 put-host-requires : tie.Need-put-host-requires
 unfolding entryBytes
-put-host-requires c κs = simp (length-append, length-digits) at (rw (c .before .before .e3 .given .1) at (c .before .before .before .before .before .pre))
+put-host-requires c κs = simp (length-append, lengthDigits) at (rw (c .before .before .e3 .given .1) at (c .before .before .before .before .before .pre))
 
 enum-known-e-4 : tie.Need-enum-known-e-4
 enum-known-e-4 c = search needs
 
 put-host-requires-2 : tie.Need-put-host-requires-2
 unfolding entryBytes
-put-host-requires-2 c κs = simp (length-append, length-digits) at (rw (c .before .before .e4 .given .1) at (c .before .before .before .before .before .pre))
+put-host-requires-2 c κs = simp (length-append, lengthDigits) at (rw (c .before .before .e4 .given .1) at (c .before .before .before .before .before .pre))
 
 same-length : tie.Need-same-length
 same-length c = search needs
@@ -60,7 +60,7 @@ returns-3 : tie.Need-returns-3
 unfolding entryBytes
 returns-3 c =
     let host = c .before .before .put-host .ensures in
-    rw (c .before .before .before .before .before .e3 .given .1) (simp (length-append, length-digits) (host .0), host .1)
+    rw (c .before .before .before .before .before .e3 .given .1) (simp (length-append, lengthDigits) (host .0), host .1)
 
 same-length-4 : tie.Need-same-length-4
 same-length-4 c = search needs
@@ -69,7 +69,7 @@ returns-4 : tie.Need-returns-4
 unfolding entryBytes
 returns-4 c =
     let host = c .before .before .put-host2 .ensures in
-    rw (c .before .before .before .before .before .e4 .given .1) (simp (length-append, length-digits) (host .0), host .1)
+    rw (c .before .before .before .before .before .e4 .given .1) (simp (length-append, lengthDigits) (host .0), host .1)
 
 pub put-entry-spec : {M : Type 1} → statement M
 put-entry-spec =

@@ -7,7 +7,7 @@ use lib.ListN.{length, set, length-set, length-take, length-drop}
 use denote.Ref.{now}
 use native.Mathlib.Omega.{arith}
 use Rattle.frame.specs.Format.{encode}
-use Rattle.wire.proofs.Output.{placed-lent, placed-next}
+use Rattle.wire.proofs.Output.{placedLent, placedNext}
 use borrow.Author.Needs.{needs}
 use Rattle.entry.proofs.put_frame.Statement.{statement}
 use Rattle.entry.proofs.put_frame.Tie as tie
@@ -43,7 +43,7 @@ returns c =
     let frame = c .before .before .write .ensures in
     let room : a .at + 1 + length (encode (a .f)) ≤ length (set o (a .at) (a .to)) = simp length-set (omega arith) in (
       omega (arith, frame .0),
-      rw (frame .1) (placed-lent (set o (a .at) (a .to)) (a .at + 1) (encode (a .f)) room ∙ placed-next o (a .at) (a .to) (encode (a .f)) (omega arith)),
+      rw (frame .1) (placedLent (set o (a .at) (a .to)) (a .at + 1) (encode (a .f)) room ∙ placedNext o (a .at) (a .to) (encode (a .f)) (omega arith)),
     )
 
 pub put-frame-spec : {M : Type 1} → statement M

@@ -3,7 +3,7 @@
 -- Assumes nothing.
 use denote.Ref.{now}
 use Rattle.frame.specs.Format.{headFields}
-use Rattle.wire.proofs.Output.{puts-spell}
+use Rattle.wire.proofs.Output.{putsSpell}
 use borrow.Author.Needs.{needs}
 use Rattle.entry.proofs.put_head.Statement.{statement}
 use Rattle.entry.proofs.put_head.Tie as tie
@@ -36,7 +36,7 @@ returns c =
     let atEntry = atPut .before .before .before .before in
     let a = atEntry .args in
     rw (c .before .before .put3 .ensures, atPut2 .put2 .ensures, atPut .put .ensures)
-    (puts-spell (headFields (a .f)) (now (a .out)) 0
+    (putsSpell (headFields (a .f)) (now (a .out)) 0
     (atEntry .pre))
 
 pub put-head-spec : {M : Type 1} → statement M

@@ -4,7 +4,7 @@
 use denote.Ref.{now}
 use native.Mathlib.Omega.{arith}
 use Rattle.entry.specs.Layout.{hostFields}
-use Rattle.wire.proofs.Output.{puts-spell}
+use Rattle.wire.proofs.Output.{putsSpell}
 use borrow.Author.Needs.{needs}
 use Rattle.entry.proofs.put_host.Statement.{statement}
 use Rattle.entry.proofs.put_host.Tie as tie
@@ -46,7 +46,7 @@ returns c =
     let atPut = atPut2 .before .before .before .before in
     let atEntry = atPut .before .before .before in
     let a = atEntry .args in
-    let bytes = puts-spell (hostFields (a .code) (a .view) (a .width) (a .value)) (now (a .out)) (a .at)
+    let bytes = putsSpell (hostFields (a .code) (a .view) (a .width) (a .value)) (now (a .out)) (a .at)
     (atEntry .pre) in
     (omega arith, rw (c .before .before .put4 .ensures, atPut3 .put3 .ensures, atPut2 .put2 .ensures, atPut .put .ensures) bytes)
 

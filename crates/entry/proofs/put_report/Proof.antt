@@ -3,7 +3,7 @@
 -- Assumes nothing.
 use denote.Ref.{now}
 use Rattle.frame.specs.Format.{reportFields}
-use Rattle.wire.proofs.Output.{puts-spell}
+use Rattle.wire.proofs.Output.{putsSpell}
 use borrow.Author.Needs.{needs}
 use Rattle.entry.proofs.put_report.Statement.{statement}
 use Rattle.entry.proofs.put_report.Tie as tie
@@ -39,7 +39,7 @@ returns c =
     let atEntry = atPut .before .before .before .before in
     let a = atEntry .args in
     rw (c .before .before .put3 .ensures, atPut2 .put2 .ensures, atPut .put .ensures)
-    (puts-spell (reportFields (a .r)) (now (a .out)) (a .at)
+    (putsSpell (reportFields (a .r)) (now (a .out)) (a .at)
     (atEntry .pre))
 
 pub put-report-spec : {M : Type 1} → statement M

@@ -10,8 +10,8 @@ use native.Mathlib.Omega.{arith}
 use Rattle.frame.specs.Format.{reportFields}
 use Rattle.wire.specs.Fields.{spell}
 use Rattle.wire.specs.Placed.{placed}
-use Rattle.wire.proofs.Laws.{length-spell}
-use Rattle.wire.proofs.Output.{length-placed, placed-spell}
+use Rattle.wire.proofs.Laws.{lengthSpell}
+use Rattle.wire.proofs.Output.{lengthPlaced, placedSpell}
 use borrow.Author.Needs.{needs}
 use Rattle.entry.proofs.put_reports.Statement.{statement}
 use Rattle.entry.proofs.put_reports.Tie as tie
@@ -44,9 +44,9 @@ returns c =
     let h = reportFields (a .r .highest) in
     let p = reportFields (a .r .previous) in
     let l = reportFields (a .r .lock) in
-    let room : a .at + 13 ≤ length (placed o (a .at) (spell h)) = rw (length-placed o (a .at) (spell h) (rw (length-spell h) (omega arith))) (omega arith) in
+    let room : a .at + 13 ≤ length (placed o (a .at) (spell h)) = rw (lengthPlaced o (a .at) (spell h) (rw (lengthSpell h) (omega arith))) (omega arith) in
     rw (c .before .before .put-report3 .ensures, atPutReport2 .put-report2 .ensures, atPutReport .put-report .ensures)
-    (placed-spell p l (placed o (a .at) (spell h)) (a .at + 13) room ∙ placed-spell h (p ++ l) o (a .at) (omega arith))
+    (placedSpell p l (placed o (a .at) (spell h)) (a .at + 13) room ∙ placedSpell h (p ++ l) o (a .at) (omega arith))
 
 pub put-reports-spec : {M : Type 1} → statement M
 put-reports-spec =

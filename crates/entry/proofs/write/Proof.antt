@@ -4,19 +4,19 @@
 use denote.Ref.{now}
 use native.Mathlib.Omega.{arith}
 use Rattle.frame.specs.Format.{headFields, bodyFields, fieldsOf, encode}
-use Rattle.wire.proofs.Laws.{length-spell}
-use Rattle.wire.proofs.Output.{placed-spell}
+use Rattle.wire.proofs.Laws.{lengthSpell}
+use Rattle.wire.proofs.Output.{placedSpell}
 use borrow.Author.Needs.{needs}
 use Rattle.entry.proofs.write.Statement.{statement}
 use Rattle.entry.proofs.write.Tie as tie
 
 put-head-requires : tie.Need-put-head-requires
 unfolding encode
-put-head-requires c κs = omega (arith, length-spell (fieldsOf (c .before .before .args .f)))
+put-head-requires c κs = omega (arith, lengthSpell (fieldsOf (c .before .before .args .f)))
 
 put-body-requires : tie.Need-put-body-requires
 unfolding encode
-put-body-requires c κs = omega (arith, length-spell (fieldsOf (c .before .before .before .before .before .before .args .f)))
+put-body-requires c κs = omega (arith, lengthSpell (fieldsOf (c .before .before .before .before .before .before .args .f)))
 
 same-length : tie.Need-same-length
 same-length c = search needs
@@ -28,9 +28,9 @@ returns c =
     let atEntry = atPutHead .before .before .before in
     let a = atEntry .args in
     let body = c .before .before .put-body .ensures in (
-      omega (arith, length-spell (fieldsOf (a .f)), body .0),
+      omega (arith, lengthSpell (fieldsOf (a .f)), body .0),
       rw (body .1, atPutHead .put-head .ensures)
-          (placed-spell (headFields (a .f)) (bodyFields (a .f .body)) (now (a .out)) 0 (omega arith)),
+          (placedSpell (headFields (a .f)) (bodyFields (a .f .body)) (now (a .out)) 0 (omega arith)),
     )
 
 pub write-spec : {M : Type 1} → statement M

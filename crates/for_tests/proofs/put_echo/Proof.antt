@@ -5,7 +5,7 @@ use native.Mathlib.Omega.{arith}
 use lib.ListN.{length-append}
 use denote.Ref.{now}
 use Rattle.entry.specs.declared.Entry.the-variants.{ForAll, Timer, Decision}
-use Rattle.entry.proofs.Theorems.{entry-length, lays-layout}
+use Rattle.entry.proofs.Theorems.{entrySpan, laysLayout}
 use Rattle.for_tests.specs.inside.Answers.{echoEntries}
 use Rattle.for_tests.proofs.Laws.{echoShort}
 use borrow.Author.Needs.{needs}
@@ -13,12 +13,12 @@ use Rattle.for_tests.proofs.put_echo.Statement.{statement}
 use Rattle.for_tests.proofs.put_echo.Tie as tie
 
 put-entry-requires : tie.Need-put-entry-requires
-put-entry-requires c κs = omega (arith, entry-length (ForAll (c .before .before .args .f)) .1)
+put-entry-requires c κs = omega (arith, entrySpan (ForAll (c .before .before .args .f)) .1)
 
 put-entry-requires-2 : tie.Need-put-entry-requires-2
 put-entry-requires-2 c κs =
     let f = c .before .before .before .before .before .before .args .f in
-    omega (arith, entry-length (ForAll f) .1, entry-length (Timer (f .view) 180) .1)
+    omega (arith, entrySpan (ForAll f) .1, entrySpan (Timer (f .view) 180) .1)
 
 cast-t13 : tie.Need-cast-t13
 cast-t13 c = search needs
@@ -28,7 +28,7 @@ put-entry-requires-3 c κs =
     let midway = c .before .before .before .before .before .before .before .before in
     let atEntry = midway .before .before in
     let f = atEntry .args .f in
-    omega (arith, entry-length (ForAll f) .1, entry-length (Timer (f .view) 180) .1, entry-length (Decision (f .view) (f .view)) .1)
+    omega (arith, entrySpan (ForAll f) .1, entrySpan (Timer (f .view) 180) .1, entrySpan (Decision (f .view) (f .view)) .1)
 
 same-length : tie.Need-same-length
 same-length c = search needs
@@ -43,7 +43,7 @@ returns c =
     let timer = atPutEntry2 .put-entry2 .ensures in
     let decision = c .before .before .put-entry3 .ensures in (
       simp length-append (omega arith),
-      rw (decision .1, timer .1, frame .1, timer .0, frame .0) (lays-layout (echoEntries (a .f)) (now (a .out)) 0 (omega (arith, echoShort (a .f)))),
+      rw (decision .1, timer .1, frame .1, timer .0, frame .0) (laysLayout (echoEntries (a .f)) (now (a .out)) 0 (omega (arith, echoShort (a .f)))),
     )
 
 pub put-echo-spec : {M : Type 1} → statement M

@@ -16,7 +16,7 @@ use Rattle.entry.specs.declared.Entry.the-variants.{ForAll, Timer, Decision}
 use Rattle.entry.specs.Layout.{layout}
 use Rattle.quorum.specs.Sets.{equals}
 use Rattle.rules.specs.inside.Counts.{safe, choice}
-use Rattle.claims.specs.Table.{column, tableSize, reportsIn}
+use Rattle.claims.specs.Table.{column, tableSize, reportsInTable}
 use Rattle.safe.specs.Choices.{ruleOf}
 use Rattle.sound.specs.declared.Lent.{Lent}
 use Rattle.sound.specs.declared.Lent.the-variants.{Blank, Unsound, Sound}
@@ -48,7 +48,7 @@ laid table n f = eqb (length table) tableSize && (leb n column && ltb f n)
 
 -- 1 where plan p is safe, 0 where not, 2 where the call makes no sense. `three` 0 asks for Rule 1, else for Rule 3.
 unfoldable pub safePlan : List ℕ → ℕ → ℕ → ℕ → ℕ → ℕ → ℕ
-safePlan table n f v p three = cond (laid table n f) (cond (safe (ruleOf (not (eqb three 0))) (equals n f) (reportsIn table) v p) 1 0) 2
+safePlan table n f v p three = cond (laid table n f) (cond (safe (ruleOf (not (eqb three 0))) (equals n f) (reportsInTable table) v p) 1 0) 2
 
 -- 1 with the plan in the output's first place, 0 where there is none.
 abbrev pub proposed : Option ℕ → List ℕ → Left
@@ -58,7 +58,7 @@ proposed (some p) out = left 1 (set out 0 p)
 -- Step C's choice; 2 where the call makes no sense or the output is empty.
 unfoldable pub choosePlan : List ℕ → ℕ → ℕ → ℕ → ℕ → List ℕ → Left
 choosePlan table n f v start out =
-    cond (laid table n f && ltb 0 (length out)) (proposed (choice (equals n f) (reportsIn table) v start) out) (left 2 out)
+    cond (laid table n f && ltb 0 (length out)) (proposed (choice (equals n f) (reportsInTable table) v start) out) (left 2 out)
 
 -- ---- records
 

@@ -6,7 +6,7 @@ use Rattle.frame.proofs.Laws.{told}
 use Rattle.record.specs.Slots.{slotOf}
 use Rattle.layout.specs.Layout.{decodeRecord}
 use Rattle.keeping.specs.inside.Keeping.{outdone}
-use Rattle.keeping.proofs.Laws.{refused-stale, refused-outdone, taken}
+use Rattle.keeping.proofs.Laws.{refusedStale, refusedOutdone, taken}
 use borrow.Author.Needs.{needs}
 use Rattle.keeping.proofs.keep_refusal.Statement.{statement}
 use Rattle.keeping.proofs.keep_refusal.Tie as tie
@@ -17,7 +17,7 @@ is-stale-requires c κs = search needs
 returns : tie.Need-returns
 returns c =
     let a = c .before .before .before .args in
-    sym (refused-stale (slotOf (decodeRecord (a .rec .now))) (a .current) (a .sender) (a .kind) (a .view)
+    sym (refusedStale (slotOf (decodeRecord (a .rec .now))) (a .current) (a .sender) (a .kind) (a .view)
     (told (c .before .is-stale .ensures) (c .if1 .taken)))
 
 frame-slot-requires : tie.Need-frame-slot-requires
@@ -33,7 +33,7 @@ returns-2 : tie.Need-returns-2
 returns-2 c =
     let a = c .before .before .before .before .before .before .before .args in
     let slot = c .before .before .slot-of .ensures ∙ ap (slotOf (decodeRecord (a .rec .now))) (c .before .before .before .frame-slot .ensures .0) in
-    sym (refused-outdone (slotOf (decodeRecord (a .rec .now))) (a .current) (a .sender) (a .kind) (a .view)
+    sym (refusedOutdone (slotOf (decodeRecord (a .rec .now))) (a .current) (a .sender) (a .kind) (a .view)
     (told (c .before .before .before .before .before .is-stale .ensures) (c .before .before .before .before .if1 .left))
     (told (c .before .is-outdone .ensures ∙ ap (λ (x : Report). outdone x (a .view)) slot) (c .if2 .taken)))
 

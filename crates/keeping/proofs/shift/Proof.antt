@@ -7,7 +7,7 @@ use Rattle.record.specs.Slots.{frameSlot, slotOf}
 use Rattle.record.specs.inside.Slots.{withSlot}
 use Rattle.layout.specs.Layout.{decodeRecord}
 use Rattle.keeping.specs.inside.Keeping.{moves}
-use Rattle.keeping.proofs.Laws.{shifted-moves, shifted-stays, moves-kind}
+use Rattle.keeping.proofs.Laws.{shiftedMoves, shiftedStays, movesKind}
 use Rattle.keeping.proofs.Put.{heldAs}
 use borrow.Author.Needs.{needs}
 use Rattle.keeping.proofs.shift.Statement.{statement}
@@ -33,12 +33,12 @@ returns c =
     let at = c .before .before .before .before .frame-slot .ensures .0 ∙ ap (frameSlot (a .kind)) (s .pre .1) in
     let own = c .before .before .slot-of .ensures ∙ ap (slotOf r) at in
     let flag = c .before .vote-moves .ensures ∙ ap (λ (x : Report). moves x (a .kind) (a .plan)) own in
-    record { size = s .pre .2; is = sym (shifted-stays r (a .kind) (a .plan) (sym flag ∙ not-true _ (c .if1 .taken))) }
+    record { size = s .pre .2; is = sym (shiftedStays r (a .kind) (a .plan) (sym flag ∙ not-true _ (c .if1 .taken))) }
 
 previous-slot-requires : tie.Need-previous-slot-requires
 previous-slot-requires c κs =
     let a = c .before .before .before .before .before .before .args in
-    moves-kind (c .before .before .slot-of .result) (a .kind) (a .plan) (sym (c .before .vote-moves .ensures) ∙ not-false _ (c .if1 .left))
+    movesKind (c .before .before .slot-of .result) (a .kind) (a .plan) (sym (c .before .vote-moves .ensures) ∙ not-false _ (c .if1 .left))
 
 put-slot-requires : tie.Need-put-slot-requires
 put-slot-requires c κs = search needs
@@ -57,7 +57,7 @@ returns-2 c =
     let flag = k .before .vote-moves .ensures ∙ ap (λ (x : Report). moves x (a .kind) (a .plan)) own in
     let to = c .before .before .before .before .previous-slot .ensures .0 in
     heldAs (c .before .before .put-slot .ensures)
-    ((λ i. withSlot r (to i) (own i)) ∙ sym (shifted-moves r (a .kind) (a .plan) (sym flag ∙ not-false _ (k .if1 .left))))
+    ((λ i. withSlot r (to i) (own i)) ∙ sym (shiftedMoves r (a .kind) (a .plan) (sym flag ∙ not-false _ (k .if1 .left))))
 
 pub shift-spec : {M : Type 1} → statement M
 shift-spec =

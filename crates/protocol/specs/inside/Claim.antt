@@ -1,4 +1,4 @@
--- Demand 3, by contents: 'a single claim about the whole list, and not one for each call'. Proved as `demand3` in proofs/Demand.
+-- Demand 3, by contents: 'a single claim about the whole list, and not one for each call'. Proved as `demand3ByContents` in proofs/Demand.
 -- Assumes nothing.
 use Prim.Native.Nat.{ℕ, _<_}
 use mathlib.Core.Path.{_≡_}
@@ -12,5 +12,5 @@ pub record Claim (c : Setting) (l : List Item) : Type 0 where
   -- 'If the set is all n numbers, each decision's plan is that of an accepted start in the list.'
   pub validity : ((i : ℕ) → i < c .vaults .n → c .keeps i ≡ true) → (i p : ℕ) → Decides l i p → Started p l
 
-abbrev pub Demand3 : Type 0
-Demand3 = (c : Setting) (l : List Item) → Run c l → Claim c l
+abbrev pub Demand3ByContents : Type 0
+Demand3ByContents = (c : Setting) (l : List Item) → Run c l → Claim c l

@@ -8,38 +8,38 @@ use native.Mathlib.Omega.{arith}
 use denote.Ref.{now}
 use Rattle.frame.specs.declared.Reports.{Reports}
 use Rattle.frame.specs.declared.Body.the-variants.{Plan, Told}
-use Rattle.frame.proofs.Laws.{bounds, length-plan, length-reports, body-plan, body-bare, body-reports}
+use Rattle.frame.proofs.Laws.{bounds, lengthPlan, lengthReports, bodyOfPlan, bodyOfBare, bodyOfReports}
 use Rattle.reader.proofs.body_as.Statement.{statement}
 use Rattle.reader.proofs.body_as.Tie as tie
 
 number-requires : tie.Need-number-requires
 number-requires c κs =
     let a = c .before .before .before .before .args in
-    omega (arith, length-plan (a .kind) (omega arith) (omega arith))
+    omega (arith, lengthPlan (a .kind) (omega arith) (omega arith))
 
 reports-at-requires : tie.Need-reports-at-requires
 reports-at-requires c κs =
     let a = c .before .before .before .args in
     let (low, high) = bounds 1 8 (a .kind) (c .before .before .before .pre .0) in
     let reports : 7 ≤ a .kind = ⊎-elim (λ w. omega arith) (λ w. omega arith) (c .if1 .came) in
-    omega (arith, length-reports (a .kind) reports high)
+    omega (arith, lengthReports (a .kind) reports high)
 
 returns : tie.Need-returns
 returns c =
     let a = c .before .before .args in
-    sym (body-bare (a .kind) (now (a .s)) (omega arith))
+    sym (bodyOfBare (a .kind) (now (a .s)) (omega arith))
 
 returns-2 : tie.Need-returns-2
 returns-2 c =
     let a = c .before .before .before .before .before .args in
-    ap (λ (p : ℕ). Plan p) (c .number .ensures) ∙ sym (body-plan (a .kind) (now (a .s)) (omega arith) (omega arith))
+    ap (λ (p : ℕ). Plan p) (c .number .ensures) ∙ sym (bodyOfPlan (a .kind) (now (a .s)) (omega arith) (omega arith))
 
 returns-3 : tie.Need-returns-3
 returns-3 c =
     let a = c .before .before .before .before .args in
     let (low, high) = bounds 1 8 (a .kind) (c .before .before .before .before .pre .0) in
     let reports : 7 ≤ a .kind = ⊎-elim (λ w. omega arith) (λ w. omega arith) (c .before .if1 .came) in
-    ap (λ (r : Reports). Told r) (c .reports-at .ensures) ∙ sym (body-reports (a .kind) (now (a .s)) reports)
+    ap (λ (r : Reports). Told r) (c .reports-at .ensures) ∙ sym (bodyOfReports (a .kind) (now (a .s)) reports)
 
 pub body-as-spec : {M : Type 1} → statement M
 body-as-spec = tie.close (tie.spec number-requires reports-at-requires returns returns-2 returns-3)

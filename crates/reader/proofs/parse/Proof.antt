@@ -4,18 +4,18 @@
 use native.Mathlib.Omega.{arith}
 use denote.Ref.{now}
 use Rattle.frame.specs.Format.{decode}
-use Rattle.frame.proofs.Laws.{head-there}
+use Rattle.frame.proofs.Laws.{headIsThere}
 use Rattle.reader.proofs.parse.Statement.{statement}
 use Rattle.reader.proofs.parse.Tie as tie
 
 shared-slice-read-kind : tie.Need-shared-slice-read-kind
-shared-slice-read-kind c = omega (arith, head-there (now (c .before .before .args .s)) (c .before .before .pre))
+shared-slice-read-kind c = omega (arith, headIsThere (now (c .before .before .args .s)) (c .before .before .pre))
 
 shared-slice-read-sender : tie.Need-shared-slice-read-sender
-shared-slice-read-sender c = omega (arith, head-there (now (c .before .before .before .args .s)) (c .before .before .before .pre))
+shared-slice-read-sender c = omega (arith, headIsThere (now (c .before .before .before .args .s)) (c .before .before .before .pre))
 
 number32-requires : tie.Need-number32-requires
-number32-requires c κs = omega (arith, head-there (now (c .before .before .before .args .s)) (c .before .before .before .pre))
+number32-requires c κs = omega (arith, headIsThere (now (c .before .before .before .args .s)) (c .before .before .before .pre))
 
 body-as-requires : tie.Need-body-as-requires
 body-as-requires c κs = (c .before .before .before .before .pre .kind, c .before .before .before .before .pre .size)

@@ -4,8 +4,8 @@
 use native.Mathlib.Omega.{arith}
 use denote.Ref.{now}
 use lib.ListN.{getD}
-use Rattle.frame.proofs.Laws.{told, formed, head-there}
-use Rattle.frame.proofs.Steps.{by-form, by-link, by-frame, accepts, link-below}
+use Rattle.frame.proofs.Laws.{told, formed, headIsThere}
+use Rattle.frame.proofs.Steps.{byForm, byLink, byTheFrame, accepts, linkBelow}
 use borrow.Author.Needs.{needs}
 use Rattle.reader.proofs.read.Statement.{statement}
 use Rattle.reader.proofs.read.Tie as tie
@@ -16,13 +16,13 @@ form-refusal-requires c κs = search needs
 returns : tie.Need-returns
 returns c =
     let a = c .before .before .before .args in
-    by-form (now (a .s)) (a .link) (a .n) (a .own) _ (c .if1 .taken) (c .before .form-refusal .ensures)
+    byForm (now (a .s)) (a .link) (a .n) (a .own) _ (c .if1 .taken) (c .before .form-refusal .ensures)
 
 shared-slice-read-link-refusal : tie.Need-shared-slice-read-link-refusal
 shared-slice-read-link-refusal c =
     let a = c .before .before .before .before .args in
     let s = now (a .s) in
-    omega (arith, head-there s (formed s (told (c .before .before .form-refusal .ensures) (c .before .if1 .left))))
+    omega (arith, headIsThere s (formed s (told (c .before .before .form-refusal .ensures) (c .before .if1 .left))))
 
 link-refusal-requires : tie.Need-link-refusal-requires
 link-refusal-requires c κs = search needs
@@ -31,7 +31,7 @@ returns-2 : tie.Need-returns-2
 returns-2 c =
     let a = c .before .before .before .before .before .before .args in
     let form = told (c .before .before .before .before .form-refusal .ensures) (c .before .before .before .if1 .left) in
-    by-link (now (a .s)) (a .link) (a .n) (a .own) form _ (c .if2 .taken) (c .before .link-refusal .ensures)
+    byLink (now (a .s)) (a .link) (a .n) (a .own) form _ (c .if2 .taken) (c .before .link-refusal .ensures)
 
 parse-requires : tie.Need-parse-requires
 parse-requires c κs =
@@ -43,7 +43,7 @@ frame-refusal-requires : tie.Need-frame-refusal-requires
 frame-refusal-requires c κs =
     let a = c .before .before .before .before .before .before .before .args in
     let s = now (a .s) in
-    omega (arith, link-below (getD s 1 0) (a .link) (a .n) (a .own) (told (c .before .before .link-refusal .ensures) (c .before .if2 .left)))
+    omega (arith, linkBelow (getD s 1 0) (a .link) (a .n) (a .own) (told (c .before .before .link-refusal .ensures) (c .before .if2 .left)))
 
 returns-3 : tie.Need-returns-3
 returns-3 c =
@@ -55,7 +55,7 @@ returns-3 c =
     let form = told (atFormRefusal .form-refusal .ensures)
     (atIf1 .if1 .left) in
     let linked = told (atLinkRefusal .link-refusal .ensures) (c .before .before .before .if2 .left) in
-    by-frame (now (a .s)) (a .link) (a .n) (a .own) form linked _ (c .before .before .parse .ensures) _ (c .if3 .taken) (c .before .frame-refusal .ensures)
+    byTheFrame (now (a .s)) (a .link) (a .n) (a .own) form linked _ (c .before .before .parse .ensures) _ (c .if3 .taken) (c .before .frame-refusal .ensures)
 
 returns-4 : tie.Need-returns-4
 returns-4 c =

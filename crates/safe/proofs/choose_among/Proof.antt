@@ -4,7 +4,7 @@
 use mathlib.Core.Bool.{true, false}
 use mathlib.Core.Path.{sym, _∙_}
 use borrow.Author.Needs.{needs}
-use Rattle.claims.specs.Table.{reportsIn}
+use Rattle.claims.specs.Table.{reportsInTable}
 use Rattle.rules.proofs.Views.{neverSafe}
 use Rattle.rules.specs.Rules.{rule1}
 use Rattle.safe.proofs.Searches.{safeStart, safeFree, choiceStart, choiceNone, Begun, begins, oneSame, startFails, choiceSame}
@@ -33,7 +33,7 @@ safe-one-requires c κs = c .before .before .before .before .prepare .ensures .0
 abbrev entry : tie.After-prepare → tie.Start
 entry c = c .before .before .before .before .before .before .before
 
-begun : (c : tie.After-prepare) → Begun (reportsIn (entry c .args .table .now)) (entry c .args .n) (entry c .args .f) (entry c .args .v)
+begun : (c : tie.After-prepare) → Begun (reportsInTable (entry c .args .table .now)) (entry c .args .n) (entry c .args .f) (entry c .args .v)
     (c .prepare .result .search) (c .prepare .result .plans)
 begun c =
     let view = c .before .before in

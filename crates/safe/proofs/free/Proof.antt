@@ -5,7 +5,7 @@ use Prim.Native.Nat.{_-_, _≤_}
 use mathlib.Core.Path.{_≡_, refl, sym, _∙_, ap, subst}
 use native.Mathlib.Omega.{arith}
 use borrow.Author.Needs.{needs}
-use Rattle.claims.specs.Table.{reportsIn}
+use Rattle.claims.specs.Table.{reportsInTable}
 use Rattle.quorum.proofs.Laws.{weighNone, weighStep, shareMost, quorumCount}
 use Rattle.quorum.specs.Sets.{weigh}
 use Rattle.rules.specs.inside.Counts.{free}
@@ -14,7 +14,7 @@ use Rattle.safe.proofs.free.Statement.{statement}
 use Rattle.safe.proofs.free.Tie as tie
 
 abbrev Inv-loop : tie.InvT-loop
-Inv-loop table n f count₀ r₀ count r = (r ≤ n) × (count ≤ r) × (count ≡ weigh (λ i. 1) (reporting (reportsIn table) unlocked) r)
+Inv-loop table n f count₀ r₀ count r = (r ≤ n) × (count ≤ r) × (count ≡ weigh (λ i. 1) (reporting (reportsInTable table) unlocked) r)
 
 abbrev μ-loop : tie.MeasureT-loop
 μ-loop table n f count₀ r₀ count r = n - r
@@ -29,7 +29,7 @@ add-count : tie.Need-add-count Inv-loop μ-loop
 add-count c =
     let a = c .before .before .before .before .args in
     let at = c .before .before .loop in
-    omega (arith, shareMost (reporting (reportsIn (a .table .now)) unlocked (at .r)) 1 (c .unlocked-share .result) (c .unlocked-share .ensures))
+    omega (arith, shareMost (reporting (reportsInTable (a .table .now)) unlocked (at .r)) 1 (c .unlocked-share .result) (c .unlocked-share .ensures))
 
 add-r : tie.Need-add-r Inv-loop μ-loop
 add-r c = search needs
@@ -42,7 +42,7 @@ loop-again c =
     let a = c .before .before .before .before .args in
     let at = c .before .before .loop in
     let add = c .unlocked-share in
-    let s = reporting (reportsIn (a .table .now)) unlocked in
+    let s = reporting (reportsInTable (a .table .now)) unlocked in
     let most : add .result ≤ 1 = shareMost (s (at .r)) 1 (add .result) (add .ensures) in
     (omega arith, omega arith, weighStep (λ i. 1) s (at .r) (at .count) (add .result) (at .inv .2) (add .ensures))
 
@@ -54,7 +54,7 @@ unfolding free
 returns c =
     let a = c .before .before .before .before .args in
     let at = c .before .before .loop in
-    let s = reporting (reportsIn (a .table .now)) unlocked in
+    let s = reporting (reportsInTable (a .table .now)) unlocked in
     let e : at .r ≡ a .n = omega arith in
     c .is-quorum .ensures ∙ quorumCount (a .n) (a .f) s (at .count) (at .inv .2 ∙ ap (weigh (λ i. 1) s) e)
 

@@ -6,7 +6,7 @@ use mathlib.Core.Path.{_≡_, sym, _∙_}
 use native.Mathlib.Omega.{arith}
 use lib.ListN.{getD}
 use borrow.Author.Needs.{needs}
-use Rattle.claims.specs.Table.{reportsIn}
+use Rattle.claims.specs.Table.{reportsInTable}
 use Rattle.safe.proofs.Locks.{spanIn}
 use Rattle.safe.proofs.lock_span.Statement.{statement}
 use Rattle.safe.proofs.lock_span.Tie as tie
@@ -57,7 +57,7 @@ returns-3 c =
     )
 
 returns-4 : tie.Need-returns-4
-unfolding reportsIn
+unfolding reportsInTable
 returns-4 c = simp (sym (c .before .reported .ensures) ∙ c .if1 .left)
 
 pub lock-span-spec : {M : Type 1} → statement M

@@ -8,13 +8,13 @@ use lib.ListN.{length, length-set}
 use borrow.Author.Needs.{needs}
 use Rattle.claims.proofs.Spans.{spansMore}
 use Rattle.claims.specs.inside.Spans.{AreSpans}
-use Rattle.claims.specs.Table.{column, reportsIn}
+use Rattle.claims.specs.Table.{column, reportsInTable}
 use Rattle.rules.specs.inside.Views.{lockSpan}
 use Rattle.safe.proofs.lock_spans.Statement.{statement}
 use Rattle.safe.proofs.lock_spans.Tie as tie
 
 abbrev Inv-loop : tie.InvT-loop
-Inv-loop table n v spans₀ r₀ spans r = (r ≤ n) × (length spans ≡ column) × AreSpans spans r (λ i. lockSpan v (reportsIn table i))
+Inv-loop table n v spans₀ r₀ spans r = (r ≤ n) × (length spans ≡ column) × AreSpans spans r (λ i. lockSpan v (reportsInTable table i))
 
 abbrev μ-loop : tie.MeasureT-loop
 μ-loop table n v spans₀ r₀ spans r = n - r
@@ -44,7 +44,7 @@ loop-again c =
     let low : at .r < length (at .spans) = omega arith in (
       omega arith,
       simp length-set (at .inv .1),
-      spansMore (at .spans) (at .r) (c .lock-span .result) (λ i. lockSpan (a .v) (reportsIn (a .table .now) i)) low (c .lock-span .ensures) (at .inv .2),
+      spansMore (at .spans) (at .r) (c .lock-span .result) (λ i. lockSpan (a .v) (reportsInTable (a .table .now) i)) low (c .lock-span .ensures) (at .inv .2),
     )
 
 returns : tie.Need-returns Inv-loop μ-loop

@@ -6,14 +6,14 @@ use mathlib.Core.Path.{refl}
 use native.Mathlib.Omega.{arith}
 use borrow.Author.Needs.{needs}
 use Rattle.claims.proofs.Rows.{Counted, countedNone, countedFits, countedMore, countedAll}
-use Rattle.claims.specs.Table.{reportsIn}
+use Rattle.claims.specs.Table.{reportsInTable}
 use Rattle.rules.specs.Rules.{allows}
 use Rattle.safe.specs.inside.Searches.{lockRow}
 use Rattle.safe.proofs.locks_at.Statement.{statement}
 use Rattle.safe.proofs.locks_at.Tie as tie
 
 abbrev Inv-loop : tie.InvT-loop
-Inv-loop table n u plans₀ view every₀ some₀ r₀ plans every some r = Counted (reportsIn table) allows view n lockRow plans₀ plans every some r
+Inv-loop table n u plans₀ view every₀ some₀ r₀ plans every some r = Counted (reportsInTable table) allows view n lockRow plans₀ plans every some r
 
 abbrev μ-loop : tie.MeasureT-loop
 μ-loop table n u plans₀ view every₀ some₀ r₀ plans every some r = n - r

@@ -3,7 +3,7 @@
 -- Assumes nothing.
 use mathlib.Core.Path.{refl}
 use borrow.Author.Needs.{needs}
-use Rattle.claims.specs.Table.{reportsIn}
+use Rattle.claims.specs.Table.{reportsInTable}
 use Rattle.safe.proofs.Searches.{prepares}
 use Rattle.safe.proofs.prepare.Statement.{statement}
 use Rattle.safe.proofs.prepare.Tie as tie
@@ -39,7 +39,7 @@ returns c =
     let here = atClaimsAt .claims-at .ensures in
     let next = atClaimsAt2 .claims-at2 .ensures in
     let locks = c .before .locks-at .ensures in (
-      prepares (reportsIn (a .table .now)) _ _ _ _ (pre .1) (pre .2) (pre .3) (locks .0) (here .2) (next .1) (next .2) (locks .1)
+      prepares (reportsInTable (a .table .now)) _ _ _ _ (pre .1) (pre .2) (pre .3) (locks .0) (here .2) (next .1) (next .2) (locks .1)
           (locks .2),
       refl,
       refl,

@@ -5,7 +5,7 @@ use mathlib.Core.Bool.{true, false}
 use mathlib.Core.Path.{sym, _∙_}
 use native.Mathlib.Omega.{arith}
 use borrow.Author.Needs.{needs}
-use Rattle.claims.specs.Table.{reportsIn}
+use Rattle.claims.specs.Table.{reportsInTable}
 use Rattle.rules.proofs.Views.{neverSafe}
 use Rattle.safe.proofs.Searches.{safeStart, safeFree, byRule, Begun, begins, oneSame, threeSame}
 use Rattle.safe.proofs.safe_among.Statement.{statement}
@@ -30,7 +30,7 @@ prepare-requires c κs = search needs
 abbrev entry : tie.After-prepare → tie.Start
 entry c = c .before .before .before .before .before .before .before
 
-begun : (c : tie.After-prepare) → Begun (reportsIn (entry c .args .table .now)) (entry c .args .n) (entry c .args .f) (entry c .args .v)
+begun : (c : tie.After-prepare) → Begun (reportsInTable (entry c .args .table .now)) (entry c .args .n) (entry c .args .f) (entry c .args .v)
     (c .prepare .result .search) (c .prepare .result .plans)
 begun c =
     let view = c .before .before in

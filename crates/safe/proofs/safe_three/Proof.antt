@@ -1,9 +1,9 @@
 -- `safe::safe_three` meets its contract.
--- Rule 3 accepts what Rule 1 does (`threeOne`), and the two-set clause at the same view (`threeFirst`, `threeNext`).
+-- Rule 3 accepts what Rule 1 does (`threeOne`), and the twoSet clause at the same view (`threeFirst`, `threeNext`).
 -- Assumes nothing.
 use mathlib.Core.Path.{sym, _∙_}
 use native.Mathlib.Omega.{arith}
-use Rattle.claims.specs.Table.{reportsIn}
+use Rattle.claims.specs.Table.{reportsInTable}
 use Rattle.safe.proofs.Searches.{falling, pairTwo, threeOne, threeFirst, threeNext, threeLast}
 use Rattle.safe.proofs.safe_three.Statement.{statement}
 use Rattle.safe.proofs.safe_three.Tie as tie
@@ -14,7 +14,7 @@ safe-one-requires c κs = c .before .before .pre .2 .laid
 returns : tie.Need-returns
 returns c =
     let a = c .before .before .before .before .args in
-    let rs = reportsIn (a .table .now) in
+    let rs = reportsInTable (a .table .now) in
     let pre = c .before .before .before .before .pre in
     threeOne rs (a .c) (a .plans .now) (pre .2) (pre .3) (a .p) (sym (c .before .safe-one .ensures) ∙ c .if1 .taken)
 
@@ -29,7 +29,7 @@ two-sets-requires c κs =
     let midway = c .before .before .before .before .before .before .before .before in
     let atEntry = midway .before in
     let a = atEntry .args in
-    let rs = reportsIn (a .table .now) in
+    let rs = reportsInTable (a .table .now) in
     let pre = atEntry .pre in
     (pre .2 .laid, falling rs (a .c) (a .plans .now) (pre .2), c .before .before .if2 .taken)
 
@@ -39,7 +39,7 @@ returns-2 c =
     let atSafeOne = atIf1 .before in
     let atEntry = atSafeOne .before .before .before in
     let a = atEntry .args in
-    let rs = reportsIn (a .table .now) in
+    let rs = reportsInTable (a .table .now) in
     let pre = atEntry .pre in
     threeFirst rs (a .c) (a .plans .now) (pre .2) (pre .3) (a .p) (sym (atSafeOne .safe-one .ensures)
     ∙ atIf1 .if1 .left) _
@@ -59,7 +59,7 @@ returns-3 c =
     let atSafeOne = atIf1 .before in
     let atEntry = atSafeOne .before .before .before in
     let a = atEntry .args in
-    let rs = reportsIn (a .table .now) in
+    let rs = reportsInTable (a .table .now) in
     let pre = atEntry .pre in
     threeNext rs (a .c) (a .plans .now) (pre .2) (pre .3) (a .p) (sym (atSafeOne .safe-one .ensures)
     ∙ atIf1 .if1 .left) _
@@ -68,7 +68,7 @@ returns-3 c =
 returns-4 : tie.Need-returns-4
 returns-4 c =
     let a = c .before .before .before .before .before .before .before .args in
-    let rs = reportsIn (a .table .now) in
+    let rs = reportsInTable (a .table .now) in
     let pre = c .before .before .before .before .before .before .before .pre in
     threeLast rs (a .c) (a .plans .now) (pre .2) (pre .3) (a .p) (sym (c .before .before .before .before .safe-one .ensures)
     ∙ c .before .before .before .if1 .left) (c .if2 .left)

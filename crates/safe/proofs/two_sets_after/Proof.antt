@@ -5,7 +5,7 @@ use Prim.Native.Nat.{_+_}
 use mathlib.Core.Path.{sym, _∙_}
 use native.Mathlib.Omega.{arith}
 use borrow.Author.Needs.{needs}
-use Rattle.claims.specs.Table.{reportsIn}
+use Rattle.claims.specs.Table.{reportsInTable}
 use Rattle.quorum.specs.Sets.{equals}
 use Rattle.rules.proofs.Views.{twoLate}
 use Rattle.safe.proofs.Searches.{falling, pairSame}
@@ -29,7 +29,7 @@ two-sets-requires c κs =
     let s = atPrepare .prepare in
     let ready = s .ensures .0 in (
       ready .laid,
-      falling (reportsIn (atEntry .args .table .now)) (s .result .search)
+      falling (reportsInTable (atEntry .args .table .now)) (s .result .search)
           (s .result .plans) ready,
       omega (arith, s .ensures .3, s .ensures .4, atIf1 .if1 .taken),
     )
@@ -41,13 +41,13 @@ returns c =
     let atEntry = atIf1 .before .before .before .before in
     let a = atEntry .args in
     let s = atPrepare .prepare in
-    pairSame (reportsIn (a .table .now)) (s .result .search) (s .result .plans) (s .ensures .0) _ (a .c .n) (a .c .f) (a .c .u + 1) (a .c .v)
+    pairSame (reportsInTable (a .table .now)) (s .result .search) (s .result .plans) (s .ensures .0) _ (a .c .n) (a .c .f) (a .c .u + 1) (a .c .v)
     (s .ensures .1) (s .ensures .2) (s .ensures .3) (s .ensures .4) (atIf1 .if1 .taken) (c .two-sets .ensures)
 
 returns-2 : tie.Need-returns-2
 returns-2 c =
     let a = c .before .before .before .before .args in
-    sym (twoLate (equals (a .c .n) (a .c .f)) (reportsIn (a .table .now)) (a .c .v) (a .c .u + 1) (c .if1 .left))
+    sym (twoLate (equals (a .c .n) (a .c .f)) (reportsInTable (a .table .now)) (a .c .v) (a .c .u + 1) (c .if1 .left))
 
 pub two-sets-after-spec : {M : Type 1} → statement M
 two-sets-after-spec =

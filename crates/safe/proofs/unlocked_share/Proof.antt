@@ -4,7 +4,7 @@
 use mathlib.Core.Path.{sym, _∙_}
 use borrow.Author.Needs.{needs}
 use borrow.Author.Tests.{eq-eqb, ne-eqb}
-use Rattle.claims.specs.Table.{reportsIn, voteOf}
+use Rattle.claims.specs.Table.{reportsInTable, voteAbove}
 use Rattle.rules.specs.Rules.{unlocked}
 use Rattle.safe.proofs.unlocked_share.Statement.{statement}
 use Rattle.safe.proofs.unlocked_share.Tie as tie
@@ -22,15 +22,15 @@ shared-slice-read-if2 : tie.Need-shared-slice-read-if2
 shared-slice-read-if2 c = search needs
 
 returns : tie.Need-returns
-unfolding reportsIn unlocked voteOf
+unfolding reportsInTable unlocked voteAbove
 returns c = simp (sym (c .before .before .before .reported .ensures) ∙ c .before .before .if1 .taken, eq-eqb _ _ (c .if2 .taken))
 
 returns-2 : tie.Need-returns-2
-unfolding reportsIn unlocked voteOf
+unfolding reportsInTable unlocked voteAbove
 returns-2 c = simp (sym (c .before .before .before .reported .ensures) ∙ c .before .before .if1 .taken, ne-eqb _ _ (c .if2 .left))
 
 returns-3 : tie.Need-returns-3
-unfolding reportsIn
+unfolding reportsInTable
 returns-3 c = simp (sym (c .before .reported .ensures) ∙ c .if1 .left)
 
 pub unlocked-share-spec : {M : Type 1} → statement M

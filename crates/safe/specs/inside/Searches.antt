@@ -57,7 +57,7 @@ smallestOf plans c =
     smallestFrom (smallestFrom none (passesIn plans c true) (λ i. getD plans (lockRow + i) 0) (c .locks .some))
     (passesIn plans c false) (λ i. getD plans (column + i) 0) (c .next .some)
 
--- ---- the two-set clause
+-- ---- the twoSet clause
 
 -- 'blocking sets claiming p1 at view a and another plan p2 at view b', where a test tells what is claimed at each view.
 pub data Pair (next here : ℕ → Bool) (b : Bool) : Type 0 where

@@ -1,6 +1,6 @@
 -- `settings::timer_millis` meets its contract: nine delays fit, since none is above 5000.
 -- Assumes nothing.
-use Rattle.settings.proofs.Delays.{delay-below}
+use Rattle.settings.proofs.Delays.{delayBelow}
 use native.Mathlib.Omega.{arith}
 use borrow.Author.Needs.{needs}
 use Rattle.settings.proofs.timer_millis.Statement.{statement}
@@ -10,7 +10,7 @@ delay-requires : tie.Need-delay-requires
 delay-requires c κs = search needs
 
 mul-result : tie.Need-mul-result
-mul-result c = omega (arith, delay-below (c .before .args .class), c .delay .ensures)
+mul-result c = omega (arith, delayBelow (c .before .args .class), c .delay .ensures)
 
 returns : tie.Need-returns
 returns c = search needs

@@ -4,7 +4,7 @@ use mathlib.Core.Path.{ap, sym, _∙_}
 use Rattle.frame.specs.Refusal.{absent}
 use Rattle.record.specs.Slots.{slotOf}
 use Rattle.layout.specs.Layout.{decodeRecord}
-use Rattle.sound.proofs.Laws.{off, on, empty-frame, empty-short, empty-reports}
+use Rattle.sound.proofs.Laws.{off, on, emptyFrame, emptyShort, emptyReports}
 use Rattle.sound.proofs.Places.{frameThere}
 use borrow.Author.Needs.{needs}
 use Rattle.sound.proofs.empty_at.Statement.{statement}
@@ -27,7 +27,7 @@ returns c =
     let at = d .before .before .before .frame-place .ensures .0 in
     let there = d .before .before .slot-at .ensures ∙ frameThere (a .rec .now) (a .kind) (a .sender) (s .pre .0) at in
     let slot = d .before .empty .ensures ∙ ap absent there in
-    sym (empty-frame (slotOf (decodeRecord (a .rec .now))) (a .kind) (a .sender) (off slot (d .if1 .taken)))
+    sym (emptyFrame (slotOf (decodeRecord (a .rec .now))) (a .kind) (a .sender) (off slot (d .if1 .taken)))
 
 returns-2 : tie.Need-returns-2
 returns-2 c =
@@ -37,7 +37,7 @@ returns-2 c =
     let at = d .before .before .before .frame-place .ensures .0 in
     let there = d .before .before .slot-at .ensures ∙ frameThere (a .rec .now) (a .kind) (a .sender) (s .pre .0) at in
     let slot = d .before .empty .ensures ∙ ap absent there in
-    sym (empty-short (slotOf (decodeRecord (a .rec .now))) (a .kind) (a .sender) (on slot (d .if1 .left)) (c .if2 .taken))
+    sym (emptyShort (slotOf (decodeRecord (a .rec .now))) (a .kind) (a .sender) (on slot (d .if1 .left)) (c .if2 .taken))
 
 reports-absent-requires : tie.Need-reports-absent-requires
 reports-absent-requires c κs = search needs
@@ -51,7 +51,7 @@ returns-3 c =
     let there = d .before .before .slot-at .ensures ∙ frameThere (a .rec .now) (a .kind) (a .sender) (s .pre .0) at in
     let slot = d .before .empty .ensures ∙ ap absent there in
     c .reports-absent .ensures
-    ∙ sym (empty-reports (slotOf (decodeRecord (a .rec .now))) (a .kind) (a .sender) (on slot (d .if1 .left)) (c .before .if2 .left))
+    ∙ sym (emptyReports (slotOf (decodeRecord (a .rec .now))) (a .kind) (a .sender) (on slot (d .if1 .left)) (c .before .if2 .left))
 
 pub empty-at-spec : {M : Type 1} → statement M
 empty-at-spec =

@@ -5,7 +5,7 @@ use Rattle.frame.specs.declared.Report.{Report}
 use Rattle.frame.proofs.Laws.{told}
 use Rattle.record.specs.Slots.{slotOf}
 use Rattle.layout.specs.Layout.{decodeRecord}
-use Rattle.sound.proofs.Laws.{place-empty}
+use Rattle.sound.proofs.Laws.{placeEmpty}
 use Rattle.sound.proofs.Places.{frameThere}
 use Rattle.sound.proofs.Forms.{keptFree}
 use borrow.Author.Needs.{needs}
@@ -29,7 +29,7 @@ returns c =
     let there = frameThere (a .rec .now) (a .kind) (a .sender) (s .pre .0) (d .before .frame-place .ensures .0) in
     let mark = ap (λ (x : Report). x .mark) there in
     c .empty-at .ensures
-    ∙ sym (place-empty (slotOf (decodeRecord (a .rec .now))) (a .set) (a .view) (a .kind) (a .sender) (λ e. c .before .if1 .taken (mark ∙ e)))
+    ∙ sym (placeEmpty (slotOf (decodeRecord (a .rec .now))) (a .set) (a .view) (a .kind) (a .sender) (λ e. c .before .if1 .taken (mark ∙ e)))
 
 is-free-requires : tie.Need-is-free-requires
 is-free-requires c κs = search needs

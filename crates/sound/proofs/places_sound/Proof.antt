@@ -7,7 +7,7 @@ use native.Mathlib.Omega.{arith}
 use Rattle.record.specs.Slots.{slotOf}
 use Rattle.layout.specs.Layout.{decodeRecord}
 use Rattle.sound.specs.inside.Sound.{all, placeSound}
-use Rattle.sound.proofs.Laws.{off, on, all-none, all-more, all-stop}
+use Rattle.sound.proofs.Laws.{off, on, allNone, allMore, allStop}
 use borrow.Author.Needs.{needs}
 use Rattle.sound.proofs.places_sound.Statement.{statement}
 use Rattle.sound.proofs.places_sound.Tie as tie
@@ -19,7 +19,7 @@ abbrev μ-loop : tie.MeasureT-loop
 μ-loop rec set view kind sender₀ sender = set .n - sender
 
 loop-holds : tie.Need-loop-holds Inv-loop μ-loop
-loop-holds c = (omega arith, all-none _)
+loop-holds c = (omega arith, allNone _)
 
 place-sound-requires : tie.Need-place-sound-requires Inv-loop μ-loop
 place-sound-requires c κs = search needs
@@ -28,7 +28,7 @@ returns : tie.Need-returns Inv-loop μ-loop
 returns c =
     let a = c .before .before .before .before .before .before .args in
     let test : ℕ → Bool = placeSound (slotOf (decodeRecord (a .rec .now))) (a .set) (a .view) (a .kind) in
-    sym (all-stop test (a .set .n) (c .before .before .before .before .loop .sender) (omega arith) (off (c .before .place-sound .ensures) (c .if2 .taken)))
+    sym (allStop test (a .set .n) (c .before .before .before .before .loop .sender) (omega arith) (off (c .before .place-sound .ensures) (c .if2 .taken)))
 
 add-sender : tie.Need-add-sender Inv-loop μ-loop
 add-sender c = search needs
@@ -41,7 +41,7 @@ loop-again c =
     let a = c .before .before .before .before .before .before .args in
     let test : ℕ → Bool = placeSound (slotOf (decodeRecord (a .rec .now))) (a .set) (a .view) (a .kind) in
     let h = c .before .before .before .before .loop in
-    (omega arith, all-more test (h .sender) (h .inv .1) (on (c .before .place-sound .ensures) (c .if2 .left)))
+    (omega arith, allMore test (h .sender) (h .inv .1) (on (c .before .place-sound .ensures) (c .if2 .left)))
 
 returns-2 : tie.Need-returns-2 Inv-loop μ-loop
 returns-2 c =

@@ -7,7 +7,7 @@ use Rattle.frame.specs.Refusal.{absent}
 use Rattle.record.specs.Slots.{reportSlot, slotOf}
 use Rattle.layout.specs.Layout.{place, decodeRecord}
 use Rattle.sound.specs.inside.Bulk.{groupSize}
-use Rattle.sound.proofs.Laws.{off, on, reports-highest, reports-previous, reports-lock}
+use Rattle.sound.proofs.Laws.{off, on, reportsHighest, reportsPrevious, reportsLock}
 use Rattle.sound.proofs.Places.{reportThere}
 use borrow.Author.Needs.{needs}
 use Rattle.sound.proofs.reports_absent.Statement.{statement}
@@ -29,7 +29,7 @@ returns c =
     let k = c .before .before .before .report-place in
     let e₀ : k .result ≡ place (reportSlot (a .kind) 0 (a .sender)) + 0 * groupSize = omega (arith, k .ensures .0) in
     let t₀ = c .before .before .slot-at .ensures ∙ reportThere (a .rec .now) (a .kind) 0 (a .sender) (s .pre .1) (omega arith) e₀ in
-    sym (reports-highest (slotOf (decodeRecord (a .rec .now))) (a .kind) (a .sender) (off (c .before .empty .ensures ∙ ap absent t₀) (c .if1 .taken)))
+    sym (reportsHighest (slotOf (decodeRecord (a .rec .now))) (a .kind) (a .sender) (off (c .before .empty .ensures ∙ ap absent t₀) (c .if1 .taken)))
 
 add-slot-at : tie.Need-add-slot-at
 add-slot-at c = search needs
@@ -50,7 +50,7 @@ returns-2 c =
     let e₁ : k .result + groupSize ≡ place (reportSlot (a .kind) 0 (a .sender)) + 1 * groupSize = omega (arith, k .ensures .0) in
     let t₀ = d .before .before .slot-at .ensures ∙ reportThere (a .rec .now) (a .kind) 0 (a .sender) (s .pre .1) (omega arith) e₀ in
     let t₁ = c .before .before .slot-at2 .ensures ∙ reportThere (a .rec .now) (a .kind) 1 (a .sender) (s .pre .1) (omega arith) e₁ in
-    sym (reports-previous (slotOf (decodeRecord (a .rec .now))) (a .kind) (a .sender)
+    sym (reportsPrevious (slotOf (decodeRecord (a .rec .now))) (a .kind) (a .sender)
     (on (d .before .empty .ensures ∙ ap absent t₀) (d .if1 .left)) (off (c .before .empty2 .ensures ∙ ap absent t₁) (c .if2 .taken)))
 
 mul-slot-at : tie.Need-mul-slot-at
@@ -79,7 +79,7 @@ returns-3 c =
     let t₁ = c₂ .before .before .slot-at2 .ensures ∙ reportThere (a .rec .now) (a .kind) 1 (a .sender) (s .pre .1) (omega arith) e₁ in
     let t₂ = c .before .slot-at3 .ensures ∙ reportThere (a .rec .now) (a .kind) 2 (a .sender) (s .pre .1) (omega arith) e₂ in
     c .empty3 .ensures ∙ ap absent t₂
-    ∙ sym (reports-lock (slotOf (decodeRecord (a .rec .now))) (a .kind) (a .sender)
+    ∙ sym (reportsLock (slotOf (decodeRecord (a .rec .now))) (a .kind) (a .sender)
     (on (d .before .empty .ensures ∙ ap absent t₀) (d .if1 .left)) (on (c₂ .before .empty2 .ensures ∙ ap absent t₁) (c₂ .if2 .left)))
 
 pub reports-absent-spec : {M : Type 1} → statement M

@@ -7,7 +7,7 @@ use native.Mathlib.Omega.{arith}
 use Rattle.record.specs.Slots.{kinds, slotOf}
 use Rattle.layout.specs.Layout.{decodeRecord}
 use Rattle.sound.specs.inside.Sound.{all, kindSound, rowsSound}
-use Rattle.sound.proofs.Laws.{off, on, all-none, all-more, all-stop}
+use Rattle.sound.proofs.Laws.{off, on, allNone, allMore, allStop}
 use borrow.Author.Needs.{needs}
 use Rattle.sound.proofs.rows_sound.Statement.{statement}
 use Rattle.sound.proofs.rows_sound.Tie as tie
@@ -19,7 +19,7 @@ abbrev μ-loop : tie.MeasureT-loop
 μ-loop rec set view k₀ k = kinds - k
 
 loop-holds : tie.Need-loop-holds Inv-loop μ-loop
-loop-holds c = (omega arith, all-none _)
+loop-holds c = (omega arith, allNone _)
 
 add-kind-sound : tie.Need-add-kind-sound Inv-loop μ-loop
 add-kind-sound c = search needs
@@ -32,7 +32,7 @@ unfolding rowsSound
 returns c =
     let a = c .before .before .before .before .before .args in
     let test : ℕ → Bool = λ j. kindSound (slotOf (decodeRecord (a .rec .now))) (a .set) (a .view) (j + 1) in
-    sym (all-stop test kinds (c .before .before .before .loop .k) (omega arith) (off (c .before .kind-sound .ensures) (c .if1 .taken)))
+    sym (allStop test kinds (c .before .before .before .loop .k) (omega arith) (off (c .before .kind-sound .ensures) (c .if1 .taken)))
 
 add-k : tie.Need-add-k Inv-loop μ-loop
 add-k c = search needs
@@ -45,7 +45,7 @@ loop-again c =
     let a = c .before .before .before .before .before .args in
     let test : ℕ → Bool = λ j. kindSound (slotOf (decodeRecord (a .rec .now))) (a .set) (a .view) (j + 1) in
     let h = c .before .before .before .loop in
-    (omega arith, all-more test (h .k) (h .inv .1) (on (c .before .kind-sound .ensures) (c .if1 .left)))
+    (omega arith, allMore test (h .k) (h .inv .1) (on (c .before .kind-sound .ensures) (c .if1 .left)))
 
 returns-2 : tie.Need-returns-2 Inv-loop μ-loop
 unfolding rowsSound

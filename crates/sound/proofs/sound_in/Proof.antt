@@ -6,7 +6,7 @@ use Rattle.frame.proofs.Laws.{told}
 use Rattle.settings.proofs.Allowed.{allowed}
 use Rattle.record.specs.Slots.{slotOf}
 use Rattle.layout.specs.Layout.{decodeRecord}
-use Rattle.sound.proofs.Laws.{off, on, sound-settings, sound-rows, sound-votes}
+use Rattle.sound.proofs.Laws.{off, on, soundSettings, soundRows, soundVotes}
 use borrow.Author.Needs.{needs}
 use Rattle.sound.proofs.sound_in.Statement.{statement}
 use Rattle.sound.proofs.sound_in.Tie as tie
@@ -17,7 +17,7 @@ settings-refusal-requires c κs = search needs
 returns : tie.Need-returns
 returns c =
     let a = c .before .before .before .args in
-    sym (sound-settings (slotOf (decodeRecord (a .rec .now))) (a .set) (a .view) (λ e. c .if1 .taken (c .before .settings-refusal .ensures ∙ e)))
+    sym (soundSettings (slotOf (decodeRecord (a .rec .now))) (a .set) (a .view) (λ e. c .if1 .taken (c .before .settings-refusal .ensures ∙ e)))
 
 rows-sound-requires : tie.Need-rows-sound-requires
 rows-sound-requires c κs =
@@ -29,7 +29,7 @@ returns-2 : tie.Need-returns-2
 returns-2 c =
     let d = c .before .before in
     let a = d .before .before .before .args in
-    sym (sound-rows (slotOf (decodeRecord (a .rec .now))) (a .set) (a .view) (told (d .before .settings-refusal .ensures) (d .if1 .left))
+    sym (soundRows (slotOf (decodeRecord (a .rec .now))) (a .set) (a .view) (told (d .before .settings-refusal .ensures) (d .if1 .left))
     (off (c .before .rows-sound .ensures) (c .if2 .taken)))
 
 votes-sound-requires : tie.Need-votes-sound-requires
@@ -44,7 +44,7 @@ returns-3 c =
     let d = c .before .before .before in
     let a = d .before .before .before .args in
     c .votes-sound .ensures
-    ∙ sym (sound-votes (slotOf (decodeRecord (a .rec .now))) (a .set) (a .view) (told (d .before .settings-refusal .ensures) (d .if1 .left))
+    ∙ sym (soundVotes (slotOf (decodeRecord (a .rec .now))) (a .set) (a .view) (told (d .before .settings-refusal .ensures) (d .if1 .left))
     (on (c .before .before .rows-sound .ensures) (c .before .if2 .left)))
 
 pub sound-in-spec : {M : Type 1} → statement M

@@ -6,7 +6,7 @@ use Rattle.frame.specs.declared.Report.{Report}
 use Rattle.frame.specs.Refusal.{badForm}
 use Rattle.record.specs.Slots.{slotOf}
 use Rattle.layout.specs.Layout.{decodeRecord}
-use Rattle.sound.proofs.Laws.{off, on, votes-first, votes-second, votes-decision}
+use Rattle.sound.proofs.Laws.{off, on, votesFirst, votesSecond, votesDecision}
 use borrow.Author.Needs.{needs}
 use Rattle.sound.proofs.votes_sound.Statement.{statement}
 use Rattle.sound.proofs.votes_sound.Tie as tie
@@ -17,7 +17,7 @@ previous-sound-requires c κs = search needs
 returns : tie.Need-returns
 returns c =
     let a = c .before .before .before .args in
-    sym (votes-first (slotOf (decodeRecord (a .rec .now))) (a .id) (off (c .before .previous-sound .ensures) (c .if1 .taken)))
+    sym (votesFirst (slotOf (decodeRecord (a .rec .now))) (a .id) (off (c .before .previous-sound .ensures) (c .if1 .taken)))
 
 previous-sound-requires-2 : tie.Need-previous-sound-requires-2
 previous-sound-requires-2 c κs = search needs
@@ -26,7 +26,7 @@ returns-2 : tie.Need-returns-2
 returns-2 c =
     let d = c .before .before in
     let a = d .before .before .before .args in
-    sym (votes-second (slotOf (decodeRecord (a .rec .now))) (a .id) (on (d .before .previous-sound .ensures) (d .if1 .left))
+    sym (votesSecond (slotOf (decodeRecord (a .rec .now))) (a .id) (on (d .before .previous-sound .ensures) (d .if1 .left))
     (off (c .before .previous-sound2 .ensures) (c .if2 .taken)))
 
 slot-of-requires : tie.Need-slot-of-requires
@@ -40,7 +40,7 @@ returns-3 c =
     let d = c .before .before .before .before in
     let a = d .before .before .before .args in
     c .well-formed .ensures ∙ ap (λ (x : Report). not (badForm x)) (c .before .slot-of .ensures)
-    ∙ sym (votes-decision (slotOf (decodeRecord (a .rec .now))) (a .id) (on (d .before .previous-sound .ensures) (d .if1 .left))
+    ∙ sym (votesDecision (slotOf (decodeRecord (a .rec .now))) (a .id) (on (d .before .previous-sound .ensures) (d .if1 .left))
     (on (c .before .before .before .previous-sound2 .ensures) (c .before .before .if2 .left)))
 
 pub votes-sound-spec : {M : Type 1} → statement M

@@ -8,7 +8,7 @@ use lib.Dec.{eqb}
 use lib.ListN.{length}
 use Rattle.sound.specs.inside.Sound.{all}
 use Rattle.sound.specs.inside.Bulk.{zeroIn}
-use Rattle.sound.proofs.Laws.{all-none}
+use Rattle.sound.proofs.Laws.{allNone}
 use Rattle.sound.proofs.All.{allOne}
 use borrow.Author.Needs.{needs}
 use Rattle.sound.proofs.zero.Statement.{statement}
@@ -21,7 +21,7 @@ abbrev μ-loop : tie.MeasureT-loop
 μ-loop s most₀ i₀ most i = length s - i
 
 loop-holds : tie.Need-loop-holds Inv-loop μ-loop
-loop-holds c = (omega arith, sym (all-none _))
+loop-holds c = (omega arith, sym (allNone _))
 
 shared-slice-read-larger : tie.Need-shared-slice-read-larger Inv-loop μ-loop
 shared-slice-read-larger c = search needs

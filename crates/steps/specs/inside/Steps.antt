@@ -45,8 +45,8 @@ OfPlan (some (cast k p)) = k ≤ 4
 OfPlan (some (decide p)) = Unit {0}
 
 -- 'reports highest vote-2, previous vote-2, highest vote-3': the slots that hold the own votes of a kind, and the lock of another.
-abbrev pub toldOf : (ℕ → Report) → ℕ → ℕ → ℕ → Reports
-toldOf slots id claim lock =
+abbrev pub ownReports : (ℕ → Report) → ℕ → ℕ → ℕ → Reports
+ownReports slots id claim lock =
     record { highest = slots (frameSlot claim id); previous = slots (previousSlot claim); lock = slots (frameSlot lock id) }
 
 -- An act is done: the record's bytes hold what it leaves, and the entries are those that it writes.

@@ -3,7 +3,7 @@
 use mathlib.Core.Path.{sym, _∙_}
 use denote.Ref.{now}
 use Rattle.sound.specs.declared.Lent.the-variants.{Blank, Unsound, Sound}
-use Rattle.stored.proofs.Laws.{current-is}
+use Rattle.stored.proofs.Laws.{currentIs}
 use borrow.Author.Needs.{needs}
 use Rattle.stored.proofs.current_of.Statement.{statement}
 use Rattle.stored.proofs.current_of.Tie as tie
@@ -26,18 +26,18 @@ entered-requires c κs = sym (c .before .before .classify .ensures) ∙ c .enum-
 returns : tie.Need-returns
 returns c =
     let s = c .before .before in
-    current-is (now (s .before .before .args .rec)) Blank (sym (s .classify .ensures) ∙ c .enum-told .given .1)
+    currentIs (now (s .before .before .args .rec)) Blank (sym (s .classify .ensures) ∙ c .enum-told .given .1)
 
 returns-2 : tie.Need-returns-2
 returns-2 c =
     let s = c .before .before in
-    current-is (now (s .before .before .args .rec)) Unsound (sym (s .classify .ensures) ∙ c .enum-told2 .given .1)
+    currentIs (now (s .before .before .args .rec)) Unsound (sym (s .classify .ensures) ∙ c .enum-told2 .given .1)
 
 returns-3 : tie.Need-returns-3
 returns-3 c =
     let t = c .before in
     let s = t .before .before in
-    c .entered .ensures ∙ current-is (now (s .before .before .args .rec)) Sound (sym (s .classify .ensures) ∙ t .enum-told3 .given .1)
+    c .entered .ensures ∙ currentIs (now (s .before .before .args .rec)) Sound (sym (s .classify .ensures) ∙ t .enum-told3 .given .1)
 
 pub current-of-spec : {M : Type 1} → statement M
 current-of-spec =

@@ -3,7 +3,7 @@
 use mathlib.Core.Path.{sym, _∙_}
 use denote.Ref.{now}
 use Rattle.sound.specs.declared.Lent.the-variants.{Blank, Unsound, Sound}
-use Rattle.stored.proofs.Laws.{decision-is}
+use Rattle.stored.proofs.Laws.{decisionIs}
 use borrow.Author.Needs.{needs}
 use Rattle.stored.proofs.decision_of.Statement.{statement}
 use Rattle.stored.proofs.decision_of.Tie as tie
@@ -26,18 +26,18 @@ made-requires c κs = sym (c .before .before .classify .ensures) ∙ c .enum-tol
 returns : tie.Need-returns
 returns c =
     let s = c .before .before in
-    decision-is (now (s .before .before .args .rec)) Blank (sym (s .classify .ensures) ∙ c .enum-told .given .1)
+    decisionIs (now (s .before .before .args .rec)) Blank (sym (s .classify .ensures) ∙ c .enum-told .given .1)
 
 returns-2 : tie.Need-returns-2
 returns-2 c =
     let s = c .before .before in
-    decision-is (now (s .before .before .args .rec)) Unsound (sym (s .classify .ensures) ∙ c .enum-told2 .given .1)
+    decisionIs (now (s .before .before .args .rec)) Unsound (sym (s .classify .ensures) ∙ c .enum-told2 .given .1)
 
 returns-3 : tie.Need-returns-3
 returns-3 c =
     let t = c .before in
     let s = t .before .before in
-    c .made .ensures ∙ decision-is (now (s .before .before .args .rec)) Sound (sym (s .classify .ensures) ∙ t .enum-told3 .given .1)
+    c .made .ensures ∙ decisionIs (now (s .before .before .args .rec)) Sound (sym (s .classify .ensures) ∙ t .enum-told3 .given .1)
 
 pub decision-of-spec : {M : Type 1} → statement M
 decision-of-spec =

@@ -2,7 +2,7 @@
 -- Assumes nothing.
 use denote.Ref.{now}
 use Rattle.contents.proofs.Sound.{sizeSound}
-use Rattle.stored.proofs.Laws.{entered-is}
+use Rattle.stored.proofs.Laws.{enteredIs}
 use borrow.Author.Needs.{needs}
 use Rattle.stored.proofs.entered.Statement.{statement}
 use Rattle.stored.proofs.entered.Tie as tie
@@ -20,7 +20,7 @@ returns : tie.Need-returns
 returns c =
     let v = c .before in
     let s = v .before in
-    entered-is (now (s .before .before .args .rec)) (s .settings-of .result) (v .view-of .result) (c .timer-millis .result)
+    enteredIs (now (s .before .before .args .rec)) (s .settings-of .result) (v .view-of .result) (c .timer-millis .result)
     (s .settings-of .ensures) (v .view-of .ensures) (c .timer-millis .ensures)
 
 pub entered-spec : {M : Type 1} → statement M

@@ -3,7 +3,7 @@
 use denote.Ref.{now}
 use native.Mathlib.Omega.{arith}
 use Rattle.contents.proofs.Sound.{sizeSound}
-use Rattle.stored.proofs.Laws.{none-made, one-made}
+use Rattle.stored.proofs.Laws.{noneMade, oneMade}
 use Rattle.stored.proofs.made.Statement.{statement}
 use Rattle.stored.proofs.made.Tie as tie
 
@@ -13,12 +13,12 @@ slot-of-requires c κs = (sizeSound (now (c .before .args .rec)) (c .before .pre
 returns : tie.Need-returns
 returns c =
     let s = c .before .before in
-    none-made (now (s .before .before .args .rec)) (s .slot-of .result) (s .slot-of .ensures) (c .if1 .taken)
+    noneMade (now (s .before .before .args .rec)) (s .slot-of .result) (s .slot-of .ensures) (c .if1 .taken)
 
 returns-2 : tie.Need-returns-2
 returns-2 c =
     let s = c .before .before in
-    one-made (now (s .before .before .args .rec)) (s .slot-of .result) (s .slot-of .ensures) (c .if1 .left)
+    oneMade (now (s .before .before .args .rec)) (s .slot-of .result) (s .slot-of .ensures) (c .if1 .left)
 
 pub made-spec : {M : Type 1} → statement M
 made-spec = tie.close (tie.spec slot-of-requires returns returns-2)

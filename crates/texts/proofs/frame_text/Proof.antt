@@ -3,7 +3,7 @@
 use Prim.Native.Nat.{_<_}
 use mathlib.Core.Path.{refl}
 use Rattle.texts.specs.Texts.{bytesOf, sentenceOf}
-use Rattle.texts.proofs.Laws.{said, no-number, beyond-four, none-said}
+use Rattle.texts.proofs.Laws.{said, noNumber, beyondFour, noneSaid}
 use borrow.Author.Needs.{needs}
 use Rattle.texts.proofs.frame_text.Statement.{statement}
 use Rattle.texts.proofs.frame_text.Tie as tie
@@ -170,8 +170,8 @@ returns-13 c =
     let to-20 = c .match .rest in
     let to-16 = to-20 .0 .0 .0 .0 in
     let to-12 = to-16 .0 .0 .0 .0 in
-    let past : 20 < number = beyond-four number 16 (beyond-four number 12 (beyond-four number 8 (c .before .before .pre) to-12) to-16) to-20 in
-    none-said number _ (no-number number (λ h. past))
+    let past : 20 < number = beyondFour number 16 (beyondFour number 12 (beyondFour number 8 (c .before .before .pre) to-12) to-16) to-20 in
+    noneSaid number _ (noNumber number (λ h. past))
 
 pub frame-text-spec : {M : Type 1} → statement M
 frame-text-spec =

@@ -1,13 +1,13 @@
 -- `texts::put` meets its contract: the text is copied whole, or nothing is written.
 -- Assumes nothing.
 use native.Mathlib.Omega.{arith}
-use Rattle.texts.proofs.Laws.{none-fits, all-fit}
+use Rattle.texts.proofs.Laws.{noneFits, allFit}
 use borrow.Author.Needs.{needs}
 use Rattle.texts.proofs.put.Statement.{statement}
 use Rattle.texts.proofs.put.Tie as tie
 
 returns : tie.Need-returns
-returns c = none-fits _ _ (c .if1 .taken)
+returns c = noneFits _ _ (c .if1 .taken)
 
 copy-requires : tie.Need-copy-requires
 copy-requires c κs = search needs
@@ -16,7 +16,7 @@ same-length : tie.Need-same-length
 same-length c = search needs
 
 returns-2 : tie.Need-returns-2
-returns-2 c = all-fit _ _ _ _ (omega arith) (c .before .before .copy .ensures .0) (c .before .before .copy .ensures .1)
+returns-2 c = allFit _ _ _ _ (omega arith) (c .before .before .copy .ensures .0) (c .before .before .copy .ensures .1)
 
 pub put-spec : {M : Type 1} → statement M
 put-spec = tie.close (tie.spec returns copy-requires same-length returns-2)

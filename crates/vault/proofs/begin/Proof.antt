@@ -5,7 +5,7 @@ use mathlib.Core.Path.{ap}
 use native.Mathlib.Omega.{arith}
 use denote.Ref.{now}
 use Rattle.entry.specs.declared.Entry.the-variants.{Timer}
-use Rattle.entry.proofs.Theorems.{entry-length}
+use Rattle.entry.proofs.Theorems.{entrySpan}
 use Rattle.vault.proofs.Begun.{beginRequires, beginRan}
 use borrow.Author.Needs.{needs}
 use Rattle.vault.proofs.begin.Statement.{statement}
@@ -21,7 +21,7 @@ put-entry-requires : tie.Need-put-entry-requires
 put-entry-requires c κs =
     let a = c .before in
     let s = a .before .before .before .before .before .before .before in
-    omega (arith, s .pre .2, entry-length (Timer 0 (a .timer-millis .result)) .1)
+    omega (arith, s .pre .2, entrySpan (Timer 0 (a .timer-millis .result)) .1)
 
 pass-from-requires : tie.Need-pass-from-requires
 pass-from-requires c κs =

@@ -2,7 +2,7 @@
 -- Assumes nothing.
 use mathlib.Core.Path.{_∙_}
 use denote.Ref.{now}
-use Rattle.protocol.specs.Calls.{rung}
+use Rattle.protocol.specs.Calls.{timedOut}
 use Rattle.contents.specs.Contents.{contentsIn}
 use Rattle.contents.specs.inside.Ready.{Ready}
 use Rattle.contents.proofs.Sound.{sizeSound}
@@ -72,7 +72,7 @@ returns-2 c =
     let s = f .before .before .before .before in
     let rec = now (s .args .rec) in
     let out = now (s .args .out) in
-    acceptedLeft (rung (contentsIn rec)) rec (b .ring .last .0) out (b .ring .last .1 .1 .1 .0) (b .ring .result)
+    acceptedLeft (timedOut (contentsIn rec)) rec (b .ring .last .0) out (b .ring .last .1 .1 .1 .0) (b .ring .result)
     (λ i. a .slice-known3 .given i .fits) (b .ring .ensures)
     ∙ timerAccepted rec out (s .pre .0) (s .pre .1) (f .view-of .result) (f .view-of .ensures)
     (s .args .view) (e .timer-refusal .result) (e .timer-refusal .ensures) (d .if1 .left)

@@ -3,13 +3,13 @@
 use mathlib.Core.Path.{refl, sym, ap, _∙_}
 use denote.Ref.{now}
 use Rattle.vault_c.specs.Asked.{told}
-use Rattle.vault_c.proofs.Asked.{no-room, current-told, two-set}
+use Rattle.vault_c.proofs.Asked.{noRoom, currentTold, twoSet}
 use borrow.Author.Needs.{needs}
 use Rattle.vault_c.proofs.vault_current.Statement.{statement}
 use Rattle.vault_c.proofs.vault_current.Tie as tie
 
 returns : tie.Need-returns
-returns c = no-room (now (c .before .before .before .args .out)) _ (c .if1 .taken)
+returns c = noRoom (now (c .before .before .before .args .out)) _ (c .if1 .taken)
 
 current-of-requires : tie.Need-current-of-requires
 current-of-requires c κs = search needs
@@ -36,14 +36,14 @@ returns-2 : tie.Need-returns-2
 returns-2 c =
     let b = c .before .before .before in
     let out = now (b .before .before .before .before .args .out) in
-    current-told out _ _ _ (b .before .if1 .left) (sym (c .before .current .given .1) ∙ b .current-of .ensures)
-    (ap (told 256) (two-set out _ _ (b .before .if1 .left)))
+    currentTold out _ _ _ (b .before .if1 .left) (sym (c .before .current .given .1) ∙ b .current-of .ensures)
+    (ap (told 256) (twoSet out _ _ (b .before .if1 .left)))
 
 returns-3 : tie.Need-returns-3
 returns-3 c =
     let b = c .before .before .before in
     let out = now (b .before .before .before .before .args .out) in
-    current-told out _ _ _ (b .before .if1 .left) (sym (c .before .current2 .given .1) ∙ b .current-of .ensures) refl
+    currentTold out _ _ _ (b .before .if1 .left) (sym (c .before .current2 .given .1) ∙ b .current-of .ensures) refl
 
 pub vault-current-spec : {M : Type 1} → statement M
 vault-current-spec =

@@ -3,13 +3,13 @@
 use mathlib.Core.Path.{refl, sym, ap, _∙_}
 use denote.Ref.{now}
 use Rattle.vault_c.specs.Asked.{told}
-use Rattle.vault_c.proofs.Asked.{no-room, decision-told, two-set}
+use Rattle.vault_c.proofs.Asked.{noRoom, decisionTold, twoSet}
 use borrow.Author.Needs.{needs}
 use Rattle.vault_c.proofs.vault_decision.Statement.{statement}
 use Rattle.vault_c.proofs.vault_decision.Tie as tie
 
 returns : tie.Need-returns
-returns c = no-room (now (c .before .before .before .args .out)) _ (c .if1 .taken)
+returns c = noRoom (now (c .before .before .before .args .out)) _ (c .if1 .taken)
 
 decision-of-requires : tie.Need-decision-of-requires
 decision-of-requires c κs = search needs
@@ -42,20 +42,20 @@ returns-2 : tie.Need-returns-2
 returns-2 c =
     let b = c .before .before .before in
     let out = now (b .before .before .before .before .args .out) in
-    decision-told out _ _ _ (b .before .if1 .left) (sym (c .before .decision .given .1) ∙ b .decision-of .ensures)
-    (ap (told 257) (two-set out _ _ (b .before .if1 .left)))
+    decisionTold out _ _ _ (b .before .if1 .left) (sym (c .before .decision .given .1) ∙ b .decision-of .ensures)
+    (ap (told 257) (twoSet out _ _ (b .before .if1 .left)))
 
 returns-3 : tie.Need-returns-3
 returns-3 c =
     let b = c .before .before in
     let out = now (b .before .before .before .before .args .out) in
-    decision-told out _ _ _ (b .before .if1 .left) (sym (c .enum-told .given .1) ∙ b .decision-of .ensures) refl
+    decisionTold out _ _ _ (b .before .if1 .left) (sym (c .enum-told .given .1) ∙ b .decision-of .ensures) refl
 
 returns-4 : tie.Need-returns-4
 returns-4 c =
     let b = c .before .before .before in
     let out = now (b .before .before .before .before .args .out) in
-    decision-told out _ _ _ (b .before .if1 .left) (sym (c .before .decision2 .given .1) ∙ b .decision-of .ensures) refl
+    decisionTold out _ _ _ (b .before .if1 .left) (sym (c .before .decision2 .given .1) ∙ b .decision-of .ensures) refl
 
 pub vault-decision-spec : {M : Type 1} → statement M
 vault-decision-spec =

@@ -3,7 +3,7 @@
 use native.Mathlib.Omega.{arith}
 use lib.ListN.{drop}
 use denote.Ref.{now}
-use Rattle.entries.proofs.Laws.{in-most}
+use Rattle.entries.proofs.Laws.{inMost}
 use borrow.Author.Needs.{needs}
 use Rattle.vault_c.proofs.vault_entry.Statement.{statement}
 use Rattle.vault_c.proofs.vault_entry.Tie as tie
@@ -12,7 +12,7 @@ size-from-requires : tie.Need-size-from-requires
 size-from-requires c κs = search needs
 
 cast-result : tie.Need-cast-result
-cast-result c = let a = c .before .before .args in omega (arith, c .size-from .ensures, in-most (drop (a .at) (now (a .out))))
+cast-result c = let a = c .before .before .args in omega (arith, c .size-from .ensures, inMost (drop (a .at) (now (a .out))))
 
 returns : tie.Need-returns
 returns c = search needs

@@ -1,7 +1,7 @@
 -- `vault_c::vault_refusal_text` meets its contract: a sentence is short.
 -- Assumes nothing.
 use native.Mathlib.Omega.{arith}
-use Rattle.texts.proofs.Laws.{shortTexts, short-written}
+use Rattle.texts.proofs.Laws.{shortTexts, shortWritten}
 use borrow.Author.Needs.{needs}
 use Rattle.vault_c.proofs.vault_refusal_text.Statement.{statement}
 use Rattle.vault_c.proofs.vault_refusal_text.Tie as tie
@@ -11,7 +11,7 @@ refusal-text-requires c κs = search needs
 
 cast-result : tie.Need-cast-result
 cast-result c =
-    omega (arith, short-written _ _ _ _ (shortTexts (c .before .before .before .before .before .args .number)) (c .before .before .refusal-text .ensures))
+    omega (arith, shortWritten _ _ _ _ (shortTexts (c .before .before .before .before .before .args .number)) (c .before .before .refusal-text .ensures))
 
 same-length : tie.Need-same-length
 same-length c = search needs

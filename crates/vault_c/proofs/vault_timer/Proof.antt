@@ -1,6 +1,6 @@
 -- `vault_c::vault_timer` meets its contract: the number of the answer that the vault's call gives, and what that call leaves.
 -- Assumes nothing.
-use Rattle.vault_c.proofs.Small.{small-timer, short-by, seen-by}
+use Rattle.vault_c.proofs.Small.{smallTimer, shortBy, seenBy}
 use borrow.Author.Needs.{needs}
 use Rattle.vault_c.proofs.vault_timer.Statement.{statement}
 use Rattle.vault_c.proofs.vault_timer.Tie as tie
@@ -9,7 +9,7 @@ timer-requires : tie.Need-timer-requires
 timer-requires c κs = search needs
 
 number-requires : tie.Need-number-requires
-number-requires c κs = short-by (c .before .before .before .before .timer .result) _ _ _ (c .before .before .before .before .timer .ensures) (small-timer _ _ _)
+number-requires c κs = shortBy (c .before .before .before .before .timer .result) _ _ _ (c .before .before .before .before .timer .ensures) (smallTimer _ _ _)
 
 same-length : tie.Need-same-length
 same-length c = search needs
@@ -19,7 +19,7 @@ same-length-2 c = search needs
 
 returns : tie.Need-returns
 returns c =
-    seen-by _ (c .before .before .before .before .before .timer .result) _ _ _ (c .number .ensures) (c .before .before .before .before .before .timer .ensures)
+    seenBy _ (c .before .before .before .before .before .timer .result) _ _ _ (c .number .ensures) (c .before .before .before .before .before .timer .ensures)
 
 pub vault-timer-spec : {M : Type 1} → statement M
 vault-timer-spec =

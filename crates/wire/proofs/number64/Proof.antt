@@ -2,7 +2,7 @@
 -- Assumes nothing.
 use denote.Ref.{now}
 use native.Mathlib.Omega.{arith}
-use Rattle.wire.proofs.Laws.{number-halves}
+use Rattle.wire.proofs.Laws.{numberHalves}
 use borrow.Author.Needs.{needs}
 use Rattle.wire.proofs.number64.Statement.{statement}
 use Rattle.wire.proofs.number64.Tie as tie
@@ -31,7 +31,7 @@ add-result c = search needs
 returns : tie.Need-returns
 returns c =
     let a = c .before .before .before .args in
-    omega (arith, number-halves (now (a .s)) (a .at))
+    omega (arith, numberHalves (now (a .s)) (a .at))
 
 pub number64-spec : {M : Type 1} → statement M
 number64-spec =

@@ -9,8 +9,8 @@ use denote.Ref.{now}
 use lib.ListN.{length, length-set}
 use lib.Seq.{sets}
 use Rattle.wire.specs.Digits.{digits}
-use Rattle.wire.proofs.Laws.{length-digits}
-use Rattle.wire.proofs.Output.{put-step, placed-sets}
+use Rattle.wire.proofs.Laws.{lengthDigits}
+use Rattle.wire.proofs.Output.{putStep, placedSets}
 use Rattle.wire.proofs.put.Statement.{statement}
 use Rattle.wire.proofs.put.Tie as tie
 
@@ -42,7 +42,7 @@ loop-less c = search needs
 loop-again : tie.Need-loop-again Inv-loop μ-loop
 loop-again c =
     let l = c .before .loop in
-    (omega arith, simp length-set (l .inv .1), put-step (l .i) (l .n) (c .before .before .args .at) (l .out) (omega arith) ∙ l .inv .2)
+    (omega arith, simp length-set (l .inv .1), putStep (l .i) (l .n) (c .before .before .args .at) (l .out) (omega arith) ∙ l .inv .2)
 
 same-length : tie.Need-same-length Inv-loop μ-loop
 same-length c = search needs
@@ -53,8 +53,8 @@ returns c =
     let l = c .before .loop in
     let a = c .before .before .args in
     let e : l .i ≡ 0 = omega arith in
-    let room : a .at + length (digits (a .width) (a .value)) ≤ length (now (a .out)) = rw length-digits (c .before .before .pre) in
-    rw e at (l .inv .2) ∙ placed-sets (now (a .out)) (a .at) (digits (a .width) (a .value)) room
+    let room : a .at + length (digits (a .width) (a .value)) ≤ length (now (a .out)) = rw lengthDigits (c .before .before .pre) in
+    rw e at (l .inv .2) ∙ placedSets (now (a .out)) (a .at) (digits (a .width) (a .value)) room
 
 pub put-spec : {M : Type 1} → statement M
 put-spec =
