@@ -148,7 +148,8 @@ module _ (s : List ℕ) (r : slots.Record) (reads : Reads s r) where
           below x e = reads .sound .kept kind j x e .row
 
   -- The table that is gathered has the reports kept.
-  pub tableIs : (rule : Rule) (t : List ℕ) → Filled (reportsBy (blockPart s) (kindOf rule) (r .view)) (r .set .n) t → reportsInTable t ≡ reportsOf (contents r) rule
+  pub tableIs : (rule : Rule) (t : List ℕ) → Filled (reportsBy (blockPart s) (kindOf rule) (r .view)) (r .set .n) t
+      → reportsInTable t ≡ reportsOf (contents r) rule
   unfolding contents
   tableIs rule t f =
       filledAll (reportsOf (contents r) rule) (r .set .n) t (reads .allows .most)

@@ -80,7 +80,8 @@ module _ (t : List ℕ) (r w : ℕ) where
   claimsEvery h low p = claimsIn p h ∙ le-leb w _ (omega (arith, leb-true w (previous - 1) low))
 
   -- Without one, a highest vote at w or later claims its own plan and no other.
-  pub claimsOne : reporter t r ≡ true → leb w (previous - 1) ≡ false → leb w (high - 1) ≡ true → (p : ℕ) → reporting (reportsInTable t) (claims p w) r ≡ eqb plan p
+  pub claimsOne : reporter t r ≡ true → leb w (previous - 1) ≡ false → leb w (high - 1) ≡ true → (p : ℕ)
+      → reporting (reportsInTable t) (claims p w) r ≡ eqb plan p
   claimsOne h few low p = claimsIn p h ∙ go (eqb plan p)
     where
       go : (b : Bool) → leb w (max (cond b (high - 1) 0) (previous - 1)) ≡ b

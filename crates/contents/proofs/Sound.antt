@@ -31,7 +31,8 @@ use Rattle.layout.proofs.Theorems.{decodeEncode, encodeSize}
 use Rattle.keeping.specs.Kept.{frameIn, keptFrame}
 use Rattle.keeping.proofs.Forms.{keptThere, keptNothing}
 use Rattle.sound.specs.declared.Lent.the-variants as lent
-use Rattle.sound.specs.inside.Sound.{emptyAt, noPlan, ahead, frameSound, placeSound, kindSound, rowsSound, stands, previousSound, votesSound, soundIn, sound, lentIs}
+use Rattle.sound.specs.inside.Sound.{emptyAt, noPlan, ahead, frameSound, placeSound, kindSound, rowsSound, stands, previousSound, votesSound}
+use Rattle.sound.specs.inside.Sound.{soundIn, sound, lentIs}
 use Rattle.sound.proofs.Laws.{placeEmpty, placeOfFrame, lentOther}
 use Rattle.protocol.specs.Record.{Record, spelt, voteOf}
 use Rattle.protocol.specs.Pass.{hasPrevious}

@@ -20,7 +20,8 @@ use Rattle.frame.specs.declared.Frame.{Frame}
 use Rattle.frame.specs.Format.{within, lengthOf, reportsFields, bodyFields, fieldsOf, encode, reportsAt, bodyAs, decode}
 use Rattle.frame.specs.Valid.{fits, Valid}
 use Rattle.frame.specs.inside.Reading.{Formed}
-use Rattle.frame.proofs.Laws.{Form, plan, bare, reports, inside, bounds, bodyOfPlan, bodyOfBare, bodyOfReports, lengthPlan, lengthBare, lengthReports, formOf}
+use Rattle.frame.proofs.Laws.{Form, plan, bare, reports, inside, bounds, bodyOfPlan, bodyOfBare, bodyOfReports, lengthPlan, lengthBare}
+use Rattle.frame.proofs.Laws.{lengthReports, formOf}
 
 -- the widths of what follows the head
 abbrev rest : {k : ℕ} → Form k → List ℕ

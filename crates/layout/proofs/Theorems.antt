@@ -20,7 +20,8 @@ use Rattle.wire.specs.Fields.{Bytes}
 use Rattle.wire.proofs.Laws.{lengthDigits, numberDigits, digitsNumber, bytesAppend, bytesDigits}
 use Rattle.frame.specs.declared.Report.{Report}
 use Rattle.record.specs.Slots.{rows, slotCount, Record}
-use Rattle.layout.specs.Layout.{headSize, slotSize, sharedSize, viewPlace, place, slotIn, slotBytes, spelledSlots, sharedOf, blockOf, encodeRecord, decodeRecord}
+use Rattle.layout.specs.Layout.{headSize, slotSize, sharedSize, viewPlace, place, slotIn, slotBytes, spelledSlots, sharedOf, blockOf}
+use Rattle.layout.specs.Layout.{encodeRecord, decodeRecord}
 use Rattle.layout.specs.inside.Layout.{blockSize, Small, Fits, Holds}
 use Rattle.layout.specs.Size.{recordSize}
 use Rattle.layout.proofs.Laws.{placeShared, placeBlock, slotThere, slotBeyond, slotSpelt, lengthSlot}

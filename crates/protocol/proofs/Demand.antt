@@ -32,10 +32,12 @@ use Rattle.protocol.specs.Record.{Record}
 use Rattle.protocol.specs.Tables.{put, _∈_}
 use Rattle.settings.specs.declared.Settings.{Settings}
 use Rattle.protocol.specs.Pass.{Out}
-use Rattle.protocol.specs.Calls.{recordRows, timerRows, started, heard, timedOut, Call, start, frame, timer, short, Answer, refused, accepted, unless, answer}
+use Rattle.protocol.specs.Calls.{recordRows, timerRows, started, heard, timedOut, Call, start, frame, timer, short, Answer, refused, accepted}
+use Rattle.protocol.specs.Calls.{unless, answer}
 use Rattle.protocol.specs.Fed.{Readable}
 use Rattle.settings.specs.Settings.{settingRows}
-use Rattle.protocol.specs.inside.Runs.{Setting, Item, leftBy, wroteBy, recordAt, written, Sent, Fair, Run, nothingYet, andThen, Decides, Started, here, earlier}
+use Rattle.protocol.specs.inside.Runs.{Setting, Item, leftBy, wroteBy, recordAt, written, Sent, Fair, Run, nothingYet, andThen, Decides}
+use Rattle.protocol.specs.inside.Runs.{Started, here, earlier}
 use Rattle.protocol.specs.inside.Claim.{Demand3ByContents}
 use Rattle.protocol.proofs.Tables.{putOther, putOwn}
 use Rattle.protocol.proofs.Past.{Past, Voted, ExactNow, Fine, Ground}

@@ -19,7 +19,8 @@ use Rattle.rules.specs.Rules.{rule1, rule3, Safe, Chosen}
 use Rattle.rules.proofs.Laws.{holdsWhere, safeIff, choiceIs}
 use Rattle.agreement.proofs.Reports.{isNoneNone}
 use Rattle.protocol.specs.Record.{Record, highest, vaults, leader, leads, voteOf, changeOf, reportsOf, planNow, sentNow}
-use Rattle.protocol.specs.Pass.{Act, ask, enter, cast, decide, asked, isNews, actA, canEnter, actB, mayPropose, chosen, actC, approves, actD, hasQuorum, agreed, actVote, actH, Step, taken, stepA, stepB, stepC, stepD, stepVote, stepH, fromC, fromA}
+use Rattle.protocol.specs.Pass.{Act, ask, enter, cast, decide, asked, isNews, actA, canEnter, actB, mayPropose, chosen, actC, approves, actD}
+use Rattle.protocol.specs.Pass.{hasQuorum, agreed, actVote, actH, Step, taken, stepA, stepB, stepC, stepD, stepVote, stepH, fromC, fromA}
 use Rattle.protocol.proofs.Tables.{eachSome, whenSome, highestHas}
 
 module _ (r : Record) where

@@ -21,13 +21,17 @@ use Rattle.rules.proofs.Laws.{holdsWhere}
 use Rattle.frame.specs.declared.Frame.{Frame}
 use Rattle.frame.specs.declared.Reading.the-variants.{Accepted, Refused}
 use Rattle.frame.specs.Refusal.{first}
-use Rattle.protocol.specs.Record.{Record, when, each, highest, keeping, changeOf, planNow, sentNow, changeFrame, voteFrame, reportFrame, vaults, leader, leads}
+use Rattle.protocol.specs.Record.{Record, when, each, highest, keeping, changeOf, planNow, sentNow, changeFrame, voteFrame, reportFrame}
+use Rattle.protocol.specs.Record.{vaults, leader, leads}
 use Rattle.settings.specs.declared.Settings.{Settings}
-use Rattle.protocol.specs.Pass.{Act, ask, enter, cast, decide, entered, does, asked, isNews, actA, canEnter, actB, mayPropose, chosen, actC, approves, actD, agreed, actVote, actH, Out, Step, taken, onward, pass, stepA, stepB, stepC, stepD, stepVote, stepH, fromC, fromA}
+use Rattle.protocol.specs.Pass.{Act, ask, enter, cast, decide, entered, does, asked, isNews, actA, canEnter, actB, mayPropose, chosen, actC}
+use Rattle.protocol.specs.Pass.{approves, actD, agreed, actVote, actH, Out, Step, taken, onward, pass, stepA, stepB, stepC, stepD, stepVote}
+use Rattle.protocol.specs.Pass.{stepH, fromC, fromA}
 use Rattle.protocol.specs.Calls.{recordRows, timerRows, fresh, started, keep, heard, wanted, timedOut, start, frame, timer, short, answer}
 use Rattle.settings.specs.Settings.{settingRows}
 use Rattle.protocol.specs.Settled.{AlwaysSettled}
-use Rattle.protocol.proofs.Tables.{keepSame, keepOtherKind, keepWas, eachSome, eachNone, eachWas, whenSome, whenNone, whenFalse, highestHas, highestMost, highestNone}
+use Rattle.protocol.proofs.Tables.{keepSame, keepOtherKind, keepWas, eachSome, eachNone, eachWas, whenSome, whenNone, whenFalse, highestHas}
+use Rattle.protocol.proofs.Tables.{highestMost, highestNone}
 use Rattle.protocol.proofs.Size.{actIs}
 use Rattle.protocol.proofs.Good.{voteCast}
 use Rattle.protocol.proofs.Went.{unlessAccepted}

@@ -38,7 +38,8 @@ use Rattle.protocol.proofs.Good.{voteByPlan, isCast, voteKept, voteCast
 use Rattle.protocol.proofs.Tops.{claimBelow, lockBelow}
 use Rattle.protocol.proofs.Went.{noneGiven, thirdOf}
 use Rattle.protocol.proofs.Agreed.{quorumMember}
-use Rattle.protocol.proofs.Slots.{Under, Stands, standsOf, standsTo, shiftStands, Sendable, changeSendable, voteSendable, reportSendable, viewFits, voteFits, ReportFits, reportFits}
+use Rattle.protocol.proofs.Slots.{Under, Stands, standsOf, standsTo, shiftStands, Sendable, changeSendable, voteSendable, reportSendable}
+use Rattle.protocol.proofs.Slots.{viewFits, voteFits, ReportFits, reportFits}
 
 -- ---- settings
 

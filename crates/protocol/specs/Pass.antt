@@ -14,7 +14,8 @@ use Rattle.frame.specs.declared.Frame.{Frame}
 use Rattle.entry.specs.declared.Entry.{Entry}
 use Rattle.entry.specs.declared.Entry.the-variants.{ForAll, ForOne, Timer, Decision}
 use Rattle.settings.specs.Settings.{delayOf}
-use Rattle.protocol.specs.Record.{Record, changed, when, each, highest, keeping, vaults, leader, leads, voteOf, changeOf, reportsOf, planNow, sentNow, changeFrame, voteFrame, reportFrame}
+use Rattle.protocol.specs.Record.{Record, changed, when, each, highest, keeping, vaults, leader, leads, voteOf, changeOf, reportsOf, planNow}
+use Rattle.protocol.specs.Record.{sentNow, changeFrame, voteFrame, reportFrame}
 use Rattle.protocol.specs.Tables.{put}
 
 -- ---- what a step does, and writes

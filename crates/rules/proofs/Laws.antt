@@ -19,8 +19,10 @@ use Rattle.quorum.specs.Quorums.{isBlocking, Quorum, Blocking}
 use Rattle.quorum.proofs.Bools.{which, clash, notTrue, bothSplit, bothJoin, orLeft, orRight, either, anyAt, anyWhere}
 use Rattle.quorum.proofs.Laws.{ByWeight, blockingByWeight, enoughMono, groupMap, countQuorum, countBlocking}
 use Rattle.rules.specs.Options.{holds}
-use Rattle.rules.specs.Rules.{Vote, Report, Reports, Rule, rule1, rule3, claims, unlocked, allows, reporting, Claimed, TwoSets, Backed, Safe, atStart, noLock, since, IsSmallest, Chosen, own, other}
-use Rattle.rules.specs.inside.Counts.{claimed, free, allowed, planOr, planBy, votedPlan, twoClaimed, twoSets, backed, safe, names, namedPlan, smaller, smallest, choice}
+use Rattle.rules.specs.Rules.{Vote, Report, Reports, Rule, rule1, rule3, claims, unlocked, allows, reporting, Claimed, TwoSets, Backed, Safe}
+use Rattle.rules.specs.Rules.{atStart, noLock, since, IsSmallest, Chosen, own, other}
+use Rattle.rules.specs.inside.Counts.{claimed, free, allowed, planOr, planBy, votedPlan, twoClaimed, twoSets, backed, safe, names, namedPlan}
+use Rattle.rules.specs.inside.Counts.{smaller, smallest, choice}
 use Rattle.rules.specs.Sentences.{CountingIsTheRule, ChoiceIsTheRule}
 use Rattle.rules.proofs.Single.{claimsFall, claimsUnnamed, allowsUnnamed, namesSplit}
 

@@ -106,7 +106,8 @@ pub allowsUnnamed : (r : Report) (p q u : ℕ) → holds (λ x. eqb (x .plan) p)
 unfolding allows
 allowsUnnamed r p q u other h = go (r .lock) other h
   where
-    go : (o : Option Vote) → holds (λ x. eqb (x .plan) p) o ≡ false → (isNone o || holds (lockAllows p u) o) ≡ true → (isNone o || holds (lockAllows q u) o) ≡ true
+    go : (o : Option Vote) → holds (λ x. eqb (x .plan) p) o ≡ false → (isNone o || holds (lockAllows p u) o) ≡ true
+        → (isNone o || holds (lockAllows q u) o) ≡ true
     go none f e = refl
     go (some x) f e =
         let (low, at) = bothSplit (leb (x .view) u) _ e in

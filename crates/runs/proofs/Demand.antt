@@ -43,7 +43,8 @@ use Rattle.contents.specs.Left.{Left, gave}
 use Rattle.contents.specs.Spelling.{Spells}
 use Rattle.contents.proofs.Stays.{From, callSet}
 use Rattle.contents.proofs.Spelling.{Fine}
-use Rattle.runs.specs.Runs.{Call, start, frame, timer, InWidth, Rules, Item, recordIn, entriesIn, isAccepted, Setting, recordAt, written, Sent, Fair, Run, nothingYet, andThen, Decides, Started, here, earlier}
+use Rattle.runs.specs.Runs.{Call, start, frame, timer, InWidth, Rules, Item, recordIn, entriesIn, isAccepted, Setting, recordAt, written, Sent}
+use Rattle.runs.specs.Runs.{Fair, Run, nothingYet, andThen, Decides, Started, here, earlier}
 use Rattle.runs.specs.Fixed.{leaves, Fixed}
 use Rattle.runs.specs.Claim.{Demand3}
 use Rattle.contents.proofs.Lent.{blankIsLent}

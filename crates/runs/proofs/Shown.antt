@@ -17,7 +17,8 @@ use Rattle.protocol.specs.Record.{Record}
 use Rattle.protocol.specs.inside.Runs as model
 use Rattle.protocol.specs.Tables.{_∈_}
 use Rattle.protocol.proofs.Scripts.{Move, pickIn, calls, allFair, ofFour, scriptRuns}
-use Rattle.protocol.proofs.Shown.{everyone, wrote, keptIn, plain, plainFair, plainDecides, butOne, lied, liedFair, liedKept, liedDecides, later, laterFair, laterDecides}
+use Rattle.protocol.proofs.Shown.{everyone, wrote, keptIn, plain, plainFair, plainDecides, butOne, lied, liedFair, liedKept, liedDecides, later}
+use Rattle.protocol.proofs.Shown.{laterFair, laterDecides}
 use Rattle.contents.specs.Spelling.{Spells}
 use Rattle.runs.specs.Runs.{recordAt}
 use Rattle.runs.specs.Shown.{Shown, DecidesIn, KeepsFrame, voteOf3, AllDecide, OneLies, LaterDecide}

@@ -33,7 +33,8 @@ use Rattle.claims.specs.Table.{column}
 use Rattle.claims.proofs.Rows.{countWhere, rowKept, servingNone, servingNext}
 use Rattle.safe.specs.Choices.{ruleOf}
 use Rattle.safe.specs.inside.Choices.{apart, Found, better}
-use Rattle.safe.specs.inside.Searches.{lockRow, allowedIn, servedFrom, safeIn, passesIn, triedAt, triedCount, smallestFrom, smallestOf, Pair, two, unclaimed, lone, Falling, Laid, Prepared}
+use Rattle.safe.specs.inside.Searches.{lockRow, allowedIn, servedFrom, safeIn, passesIn, triedAt, triedCount, smallestFrom, smallestOf, Pair}
+use Rattle.safe.specs.inside.Searches.{two, unclaimed, lone, Falling, Laid, Prepared}
 use Rattle.safe.proofs.Locks.{someBlocked}
 
 -- ---- the views that serve a plan

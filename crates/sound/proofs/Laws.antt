@@ -20,7 +20,8 @@ use Rattle.record.specs.Slots.{frameSlot, reportSlot, decisionSlot}
 use Rattle.layout.specs.Layout.{decodeRecord}
 use Rattle.layout.specs.Size.{recordSize}
 use Rattle.keeping.specs.Kept.{frameIn}
-use Rattle.sound.specs.inside.Sound.{all, reportsAbsent, emptyAt, noPlan, ahead, frameSound, placeSound, stands, previousSound, votesSound, rowsSound, soundIn, sound, lentIs}
+use Rattle.sound.specs.inside.Sound.{all, reportsAbsent, emptyAt, noPlan, ahead, frameSound, placeSound, stands, previousSound, votesSound}
+use Rattle.sound.specs.inside.Sound.{rowsSound, soundIn, sound, lentIs}
 use Rattle.sound.specs.declared.Lent.the-variants.{Blank, Unsound, Sound}
 
 -- ---- flags

@@ -130,7 +130,8 @@ module _ {rec : List ℕ} {set : Settings} (h : Held rec set) (view : ℕ) (curr
   unfolding answer
   roomAll = subst (λ (o : Out). Room o 0 out) (sym rungIs)
       (acceptedRoom (some (contentsIn rec)) (timer (contentsIn rec .view)) (timedOut (contentsIn rec)) out
-      (ap (λ (k : ℕ). unless k (timedOut (contentsIn rec))) (sym (mayRing (contentsIn rec .view) (contentsIn rec .view) refl notLast (contentsIn rec) refl))) room)
+      (ap (λ (k : ℕ). unless k (timedOut (contentsIn rec))) (sym (mayRing (contentsIn rec .view) (contentsIn rec .view) refl notLast (contentsIn rec) refl)))
+      room)
 
   -- What `ask_for` asks for.
   pub askRequires : Ready rec × (set ≡ decodeRecord rec .set) × (decodeRecord rec .view < w) × Room asking 0 out
@@ -148,7 +149,8 @@ module _ {rec : List ℕ} {set : Settings} (h : Held rec set) (view : ℕ) (curr
     )
 
     -- With that pass run, the whole timer has run.
-    pub ringRan : (n : ℕ) (rec'' out'' : List ℕ) → Ran (pass fromA (contentsIn rec')) at out' out'' n rec'' → Ran (timedOut (contentsIn rec)) 0 out out'' n rec''
+    pub ringRan : (n : ℕ) (rec'' out'' : List ℕ) → Ran (pass fromA (contentsIn rec')) at out' out'' n rec''
+        → Ran (timedOut (contentsIn rec)) 0 out out'' n rec''
     ringRan n rec'' out'' then =
         subst (λ (o : Out). Ran o 0 out out'' n rec'') rungIs (ranJoin asking fromA 0 out roomAll ran then)
 

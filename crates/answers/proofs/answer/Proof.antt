@@ -20,8 +20,10 @@ slice-aggregate-put-answer c = search needs
 put-answer-requires : tie.Need-put-answer-requires
 unfolding zeroed
 put-answer-requires c κs =
-    let k = c .before .before .before .before .before .call in
-    let b = c .before .before .before .before .before .before .before .before .before in
+    let atCall = c .before .before .before .before .before in
+    let atPlace = atCall .before .before .before .before in
+    let k = atCall .call in
+    let b = atPlace in
     let s = b .before .before in
     let rec : Bytes (now (s .args .rec)) = λ i. b .before .slice-known .given i .fits in
     let bytes : Bytes (now (s .args .bytes)) = λ i. b .shared-slice-known .given i .fits in
@@ -36,9 +38,11 @@ same-length-2 c = search needs
 returns : tie.Need-returns
 unfolding zeroed
 returns c =
+    let atCall = c .before .before .before .before .before .before .before .before in
+    let atPlace = atCall .before .before .before .before in
     let p = c .before .before .put-answer in
-    let k = c .before .before .before .before .before .before .before .before .call in
-    let b = c .before .before .before .before .before .before .before .before .before .before .before .before in
+    let k = atCall .call in
+    let b = atPlace in
     let s = b .before .before in
     let rec : Bytes (now (s .args .rec)) = λ i. b .before .slice-known .given i .fits in
     let bytes : Bytes (now (s .args .bytes)) = λ i. b .shared-slice-known .given i .fits in

@@ -58,8 +58,10 @@ same-length-3 c = search needs
 
 returns-2 : tie.Need-returns-2
 returns-2 c =
-    let a = c .before .before .before .before .answer in
-    let h = c .before .before .before .before .before .before .before .before .before .before in
+    let atAnswer = c .before .before .before .before in
+    let atPlace = atAnswer .before .before .before .before .before .before in
+    let a = atAnswer .answer in
+    let h = atPlace in
     let g = h .spelling .given in
     let b = h .before .before .before in
     let s = b .before .before .before .before .before in

@@ -35,8 +35,10 @@ same-length-4 c = search needs
 
 returns-2 : tie.Need-returns-2
 returns-2 c =
-    let a = c .before .before .before .before .before .before .before .before .before .before .before .before .args in
-    frameMade (now (a .rec)) (now (a .out)) (now (a .bytes)) _ (c .before .before .before .before .frame2 .ensures)
+    let atFrame2 = c .before .before .before .before in
+    let atEntry = atFrame2 .before .before .before .before .before .before .before .before in
+    let a = atEntry .args in
+    frameMade (now (a .rec)) (now (a .out)) (now (a .bytes)) _ (atFrame2 .frame2 .ensures)
 
 pub frame-spec : {M : Type 1} → statement M
 frame-spec =

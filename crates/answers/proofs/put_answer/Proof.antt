@@ -38,8 +38,10 @@ same-length c = search needs
 
 returns : tie.Need-returns
 returns c =
-    let s = c .before .before .before .before .before .before .before .before .before .before in
-    let g = c .before .before .before .before .before .before .answer .given in
+    let atAnswer = c .before .before .before .before .before .before in
+    let atPlace = atAnswer .before .before .before .before in
+    let s = atPlace in
+    let g = atAnswer .answer .given in
     let p = c .before .before .put-entries in
     writtenShown (s .args .answer) (now (s .args .out)) (s .pre .1) (g .0 .0) (g .1) (now (s .args .page)) (s .args .at) (p .last .0) (p .result) (p .ensures)
 
@@ -48,8 +50,10 @@ same-length-2 c = search needs
 
 returns-2 : tie.Need-returns-2
 returns-2 c =
-    let s = c .before .before .before .before .before .before .before .before .before in
-    let g = c .before .before .before .before .before .answer2 .given in
+    let atAnswer2 = c .before .before .before .before .before in
+    let atPlace = atAnswer2 .before .before .before .before in
+    let s = atPlace in
+    let g = atAnswer2 .answer2 .given in
     let p = c .before .before .put-refusal in
     refusedShown (s .args .answer) (now (s .args .out)) (g .0 .0) (g .1) (now (s .args .page)) (s .args .at) (p .last .0) (p .result) (p .ensures)
 

@@ -27,7 +27,8 @@ returns c =
     let k = c .before .before .before .before .before .before in
     let s = k .before .before .before .before .before in
     let f = told (s .args .kind) (s .args .sender) (s .args .view) (s .args .t) in
-    heldTold _ _ (s .args .sender) f (k .before .before .before .frame-slot .ensures .0) (k .before .before .present .ensures) (k .put-slot .ensures) refl (c .before .before .put-reports .ensures)
+    heldTold _ _ (s .args .sender) f (k .before .before .before .frame-slot .ensures .0) (k .before .before .present .ensures) (k .put-slot .ensures) refl
+    (c .before .before .put-reports .ensures)
 
 pub keep-told-spec : {M : Type 1} → statement M
 keep-told-spec =

@@ -31,8 +31,10 @@ same-length-2 c = search needs
 
 returns : tie.Need-returns
 returns c =
-    let s = c .before .before .before .before .before .before .before .before .before .before in
-    let did = c .before .before .before .before .before .before .ask-in in
+    let atAskIn = c .before .before .before .before .before .before in
+    let atPlace = atAskIn .before .before .before .before in
+    let s = atPlace in
+    let did = atAskIn .ask-in in
     let low : s .args .w < 2 ^ 32 = search needs in
     let ready = readyAsk (now (s .args .rec)) (s .pre .0) (s .args .w) (s .pre .2) low (did .ensures) in
     ranWritten _ (did .result) (did .ensures .wrote) (s .args .at) (now (s .args .out)) (did .ensures .left) ready

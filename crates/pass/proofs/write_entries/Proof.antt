@@ -41,8 +41,10 @@ put-entry-requires-3 c κs =
 
 put-entry-requires-4 : tie.Need-put-entry-requires-4
 put-entry-requires-4 c κs =
-    let s = c .before .before .before .before .before .before .before .before .before in
-    let size = sizeTwo (s .args .e) _ _ (ap listOf (c .before .before .before .before .before .before .e3 .given .1)) in
+    let atE3 = c .before .before .before .before .before .before in
+    let atPlace = atE3 .before .before .before in
+    let s = atPlace in
+    let size = sizeTwo (s .args .e) _ _ (ap listOf (atE3 .e3 .given .1)) in
     omega (arith, size, s .pre, c .before .before .before .put-entry3 .ensures .0)
 
 enum-known-e-4 : tie.Need-enum-known-e-4
@@ -56,8 +58,10 @@ put-entry-requires-5 c κs =
 
 put-entry-requires-6 : tie.Need-put-entry-requires-6
 put-entry-requires-6 c κs =
-    let s = c .before .before .before .before .before .before .before .before .before in
-    let size = sizeThree (s .args .e) _ _ _ (ap listOf (c .before .before .before .before .before .before .e4 .given .1)) in
+    let atE4 = c .before .before .before .before .before .before in
+    let atPlace = atE4 .before .before .before in
+    let s = atPlace in
+    let size = sizeThree (s .args .e) _ _ _ (ap listOf (atE4 .e4 .given .1)) in
     omega (arith, size, s .pre, c .before .before .before .put-entry5 .ensures .0)
 
 put-entry-requires-7 : tie.Need-put-entry-requires-7

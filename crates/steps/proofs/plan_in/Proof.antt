@@ -24,9 +24,12 @@ enum-known-act c = search needs
 
 cast-in-requires : tie.Need-cast-in-requires
 cast-in-requires c κs =
-    let s = c .before .before .before .before .before .before .before .before .before in
-    let own = ap (λ (x : Settings). x .id) (c .before .before .before .before .before .before .settings-of .ensures) in
-    (s .pre .0, own, c .before .before .before .before .view-of .ensures, votesBy (s .args .act) _ _ (c .before .before .act .given .1) (s .pre .1))
+    let atViewOf = c .before .before .before .before in
+    let atSettingsOf = atViewOf .before .before in
+    let atPlace = atSettingsOf .before .before .before in
+    let s = atPlace in
+    let own = ap (λ (x : Settings). x .id) (atSettingsOf .settings-of .ensures) in
+    (s .pre .0, own, atViewOf .view-of .ensures, votesBy (s .args .act) _ _ (c .before .before .act .given .1) (s .pre .1))
 
 enum-known-act-2 : tie.Need-enum-known-act-2
 enum-known-act-2 c = search needs

@@ -73,9 +73,12 @@ part-feed-end c = search needs
 
 feed-requires : tie.Need-feed-requires Inv-loop μ-loop
 feed-requires c κs =
-    let r = c .before .before .before .before .before .before .before .before .before .before .read in
-    let l = c .before .before .before .before .before .before .before .before .before .before .before .before .before .loop in
-    (l .inv .1, l .inv .4 .0, l .inv .2, pieceSmall (r .last .1 .0) (c .before .before .before .before .before .count .result - 0) (r .kept .1 .0 ∙ l .inv .3))
+    let atCount = c .before .before .before .before .before in
+    let atRead = atCount .before .before .before .before .before in
+    let atLoop = atRead .before .before .before in
+    let r = atRead .read in
+    let l = atLoop .loop in
+    (l .inv .1, l .inv .4 .0, l .inv .2, pieceSmall (r .last .1 .0) (atCount .count .result - 0) (r .kept .1 .0 ∙ l .inv .3))
 
 flush-requires : tie.Need-flush-requires Inv-loop μ-loop
 flush-requires c κs =

@@ -30,8 +30,10 @@ returns c = search needs
 
 finish-requires : tie.Need-finish-requires
 finish-requires c κs =
-    let g = c .before .before .before .before .ended .given in
-    let r = c .before .before .before .before .before .before .before .before .before .before .before .before in
+    let atEnded = c .before .before .before .before in
+    let atPlace = atEnded .before .before .before .before .before .before .before .before in
+    let g = atEnded .ended .given in
+    let r = atPlace in
     let s = r .before .before .before .before .before .before .before in
     let k = r .read-all in (
       k .kept .1 .0 ∙ s .pre .0,

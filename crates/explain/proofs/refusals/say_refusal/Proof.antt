@@ -45,7 +45,9 @@ part-say-at-fault-start c = search needs
 
 part-say-at-fault-end : tie.Need-part-say-at-fault-end
 part-say-at-fault-end c =
-    let s = c .before .before .before .before .before .before .before .before .before .before .before in
+    let midway = c .before .before .before .before .before .before .before .before in
+    let atPlace = midway .before .before .before in
+    let s = atPlace in
     let m : length (s .args .given .bytes) ≡ 46 = search needs in omega (arith, s .pre)
 
 say-at-fault-requires : tie.Need-say-at-fault-requires
