@@ -20,34 +20,22 @@ const BAD_REPORT: u8 = 14;
 
 const BAD_LINE: u8 = 20;
 
+// No sentence is longer.
+const LONGEST: usize = 120;
+
 // ---- sentences
 
+// The library's own sentence, as hosts get it.
 fn say_reason(number: u8) {
-    tell_nth(
-        b"no refusal has this number\n\
-        the host lent less than 256 bytes for the output\n\
-        this vault was not started yet\n\
-        the stored record is damaged, or of another program\n\
-        this vault was started before, or its record is damaged\n\
-        there are 4 to 64 vaults\n\
-        f is at least 1, and three times f is less than n\n\
-        the vault's number must be below n\n\
-        the link class is 0 to 7\n\
-        empty, or no known kind\n\
-        the length does not fit the kind\n\
-        the sender is no vault of this practice, or this vault itself\n\
-        the frame names another sender than the link it came by\n\
-        a view-change, suggest or proof for view 0\n\
-        a report in it contradicts itself\n\
-        a proposal from a vault that does not lead the view, or a suggest that is not for this vault\n\
-        its view is over\n\
-        the same, or a newer one of this kind, came from this sender already\n\
-        a timer of another view than the current one\n\
-        the last view of all is reached\n\
-        no even count of lower-case digits, or more than 90",
-        number,
-        &[],
-    );
+    let mut text = [0u8; LONGEST];
+    let count = texts::refusal_text(number as u32, &mut text);
+    if count == 0 {
+        say(b"no refusal has this number");
+        return;
+    }
+    if count <= LONGEST {
+        say(&text[0..count]);
+    }
 }
 
 // ---- reports at fault
