@@ -54,10 +54,8 @@ explain-line-requires c κs = omega arith
 
 add-i : tie.Need-add-i Inv-loop μ-loop
 add-i c =
-    let atTakeLine = c .before .before .before .before .before .before in
-    let atPlace = atTakeLine .before .before .before in
-    let t = atTakeLine .take-line in
-    let h = atPlace in
+    let t = c .before .before .before .before .before .before .take-line in
+    let h = c .before .before .before .before .before .before .before .before .before in
     let piece = now (h .before .before .before .before .args .piece) in
     omega (arith, endWithin piece (h .loop .i) _ (h .loop .inv .4) (t .ensures .1), c .before .before .before .if1 .left)
 
@@ -68,11 +66,9 @@ loop-less c =
 
 loop-again : tie.Need-loop-again Inv-loop μ-loop
 loop-again c =
-    let atTakeLine = c .before .before .before .before .before .before in
-    let atPlace = atTakeLine .before .before .before in
     let r = c .explain-line in
-    let t = atTakeLine .take-line in
-    let h = atPlace in
+    let t = c .before .before .before .before .before .before .take-line in
+    let h = c .before .before .before .before .before .before .before .before .before in
     let l = h .loop in
     let piece = now (h .before .before .before .before .args .piece) in
     let end = endWithin piece (l .i) _ (l .inv .4) (t .ensures .1) in
