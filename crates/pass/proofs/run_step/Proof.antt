@@ -44,7 +44,8 @@ returns c =
     let s = q .before .before .before .before .before in
     let t = q .step-at .result in
     let took = tookFrom (stepAt (s .args .k)) t (q .before .load .ensures) (q .step-at .ensures) in
-    ranStored _ t took (s .args .at) (now (s .args .out)) (c .before .before .before .before .before .before .store .ensures) (c .before .before .write-entries .ensures)
+    ranStored _ t took (s .args .at) (now (s .args .out)) (c .before .before .before .before .before .before .store .ensures)
+    (c .before .before .write-entries .ensures)
 
 pub run-step-spec : {M : Type 1} → statement M
 run-step-spec =
