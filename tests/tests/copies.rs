@@ -9,8 +9,8 @@ use comparison::sides::Rattle;
 
 /// The most that a call copies, in bytes.
 const MOST_QUIET: usize = LEN;
-/// Two steps act in the case that copies most: each loads the record, hands it back and stores it.
-const MOST_ACTING: usize = 6 * LEN;
+/// Two steps act in the case that copies most: each loads the record and stores it. Entries are small.
+const MOST_ACTING: usize = 4 * LEN + 1_000;
 /// A start writes a record.
 const MOST_FILLED: usize = 2 * LEN;
 

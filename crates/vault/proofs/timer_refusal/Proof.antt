@@ -11,13 +11,13 @@ returns-2 : tie.Need-returns-2
 returns-2 c =
     let a = c .before in
     let s = a .before in
-    lastView (s .args .current) (s .args .view) (a .if1 .left) (c .if2 .taken)
+    lastView _ (s .args .view) (a .if1 .left) (c .if2 .taken)
 
 returns-3 : tie.Need-returns-3
 returns-3 c =
     let a = c .before in
     let s = a .before in
-    mayRing (s .args .current) (s .args .view) (a .if1 .left) (c .if2 .left)
+    mayRing _ (s .args .view) (a .if1 .left) (c .if2 .left)
 
 pub timer-refusal-spec : {M : Type 1} → statement M
 timer-refusal-spec = tie.close (tie.spec returns returns-2 returns-3)
