@@ -55,8 +55,8 @@ module _ (t : List ℕ) (at : ℕ) (x : Slot.Report) where
 
   module _ (room : at + column < length t) where
     -- In its first column stands the view + 1.
-    voteAbove : getD (withVote t at x) at 0 ≡ aboveOf x
-    voteAbove =
+    aboveThere : getD (withVote t at x) at 0 ≡ aboveOf x
+    aboveThere =
         getD-set-other (set t at (aboveOf x)) (at + column) at (x .plan) 0 (λ (e : at ≡ at + column). omega arith)
         ∙ getD-set-same t at (aboveOf x) 0 (omega arith)
 
@@ -124,7 +124,7 @@ module _ (t : List ℕ) (i : ℕ) (h p l : Slot.Report) (row : i < column) (size
         → getD u (column * c + i + column) 0 ≡ getD (withVote s (column * c + i) x) (column * c + i + column) 0 → voteIn u c i ≡ reported x
     ownVote u above plan =
         let next : column * (c + 1) + i ≡ column * c + i + column = omega arith in
-        let a : getD u (column * c + i) 0 ≡ aboveOf x = above ∙ voteAbove s (column * c + i) x room in
+        let a : getD u (column * c + i) 0 ≡ aboveOf x = above ∙ aboveThere s (column * c + i) x room in
         let b : getD u (column * (c + 1) + i) 0 ≡ x .plan = ap (λ (q : ℕ). getD u q 0) next ∙ plan ∙ votePlan s (column * c + i) x room in
         (λ k. voteAbove (a k) (b k)) ∙ voteBack x
 
