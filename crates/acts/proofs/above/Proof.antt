@@ -15,7 +15,7 @@ add-result c = search needs
 
 returns : tie.Need-returns
 unfolding aboveOf
-returns c = simp (eq-eqb _ _ (c .if1 .taken))
+returns c = simp (eq-eqb _ _ (c .before .if1 .taken))
 
 returns-2 : tie.Need-returns-2
 unfolding aboveOf
