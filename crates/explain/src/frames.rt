@@ -1,10 +1,10 @@
 // What frames say, in plain words.
 ghost use mathlib.Core.Path.{_≡_};
+ghost use Prim.Native.Nat.{_≤_};
 ghost use Rattle.frame.specs.Refusal.{first, formRows};
 ghost use Rattle.frame.specs.inside.Reading.{refusalOf};
 use crate::words::say;
-use crate::words::tell;
-use crate::words::tell_nth;
+use crate::words::say_number;
 use crate::words::wide;
 use crate::words::wider;
 use frame::Body;
@@ -13,7 +13,7 @@ use frame::Reading;
 use frame::Report;
 use frame::Reports;
 
-pub(crate) const SUGGEST: u8 = 7;
+const SUGGEST: u8 = 7;
 
 // The frame that bytes say, or refusal 9 or 10.
 pub(crate) fn frame_in(s: &[u8]) -> Reading
@@ -26,59 +26,92 @@ pub(crate) fn frame_in(s: &[u8]) -> Reading
     Reading::Accepted(reader::parse(s))
 }
 
-// The name of a kind, 1 to 8.
 pub(crate) fn say_kind(kind: u8) {
-    tell_nth(
-        b"\nproposal\nvote-1\nvote-2\nvote-3\nvote-4\nview-change\nsuggest\nproof",
-        kind,
-        &[],
-    );
-}
-
-fn say_report(name: &[u8], r: Report) {
-    say(name);
-    let mark = r.mark;
-    match mark {
-        0 => say(b": none\n"),
-        1 => tell(b": view {0}, plan {1}\n", &[wider(r.view), r.plan]),
-        _ => tell(
-            b": mark {0}, view {1}, plan {2}\n",
-            &[wide(mark), wider(r.view), r.plan],
-        ),
+    match kind {
+        1 => say(b"proposal"),
+        2..=5 => say_number(b"vote-", wide(kind - 1)),
+        6 => say(b"view-change"),
+        7 => say(b"suggest"),
+        8 => say(b"proof"),
+        _ => say(b"frame"),
     }
 }
 
 // "A suggest reports highest vote-2, previous vote-2, highest vote-3. A proof reports highest vote-1, previous vote-1, highest vote-4."
+pub(crate) fn vote_of(kind: u8) -> u8
+    ensures { λ r. ⌜ r ≤ 2 ⌝ }
+{
+    if kind == SUGGEST { 2 } else { 1 }
+}
+
+pub(crate) fn lock_of(kind: u8) -> u8
+    ensures { λ r. ⌜ r ≤ 4 ⌝ }
+{
+    if kind == SUGGEST { 3 } else { 4 }
+}
+
+fn say_place(view: u32, plan: u64) {
+    say_number(b"view ", wider(view));
+    say_number(b", plan ", plan);
+    say(b"\n");
+}
+
+fn is_none(r: Report) -> bool {
+    if r.mark != 0 {
+        return false;
+    }
+    if r.view != 0 {
+        return false;
+    }
+    r.plan == 0
+}
+
+// A report: the vote, or none; where its mark fits neither, all of it.
+fn say_report(name: &[u8], vote: u8, r: Report) {
+    say_number(name, wide(vote));
+    say(b": ");
+    if is_none(r) {
+        say(b"none\n");
+        return;
+    }
+    if r.mark != 1 {
+        say_number(b"mark ", wide(r.mark));
+        say(b", ");
+    }
+    say_place(r.view, r.plan);
+}
+
 fn say_reports(kind: u8, r: Reports) {
     let highest = r.highest;
     let previous = r.previous;
     let lock = r.lock;
-    if kind == SUGGEST {
-        say_report(b"        highest vote-2", highest);
-        say_report(b"        previous vote-2", previous);
-        say_report(b"        highest vote-3", lock);
-        return;
-    }
-    say_report(b"        highest vote-1", highest);
-    say_report(b"        previous vote-1", previous);
-    say_report(b"        highest vote-4", lock);
+    say_report(b"        highest vote-", vote_of(kind), highest);
+    say_report(b"        previous vote-", vote_of(kind), previous);
+    say_report(b"        highest vote-", lock_of(kind), lock);
 }
 
-// Kind, sender, view and what else the frame holds.
-pub(crate) fn say_frame(f: Frame) {
-    say_kind(f.kind);
-    let sender = wide(f.sender);
-    let view = wider(f.view);
+fn say_body(f: Frame) {
     let body = f.body;
     match body {
-        Body::Plan(plan) => tell(
-            b" of vault {0}, view {1}, plan {2}\n",
-            &[sender, view, plan],
-        ),
-        Body::Empty => tell(b" of vault {0} for view {1}\n", &[sender, view]),
+        Body::Plan(plan) => {
+            say(b", ");
+            say_place(f.view, plan);
+        }
+        Body::Empty => {
+            say_number(b" for view ", wider(f.view));
+            say(b"\n");
+        }
         Body::Told(r) => {
-            tell(b" of vault {0}, view {1}\n", &[sender, view]);
+            say_number(b", view ", wider(f.view));
+            say(b"\n");
             say_reports(f.kind, r);
         }
     }
+}
+
+// Kind, sender and what the frame holds: "vote-2 of vault 1, view 0, plan 7".
+pub(crate) fn say_frame(f: Frame) {
+    say_kind(f.kind);
+    say_number(b" of vault ", wide(f.sender));
+    say_body(f);
 }

@@ -3,83 +3,77 @@ use crate::frames::frame_in;
 use crate::frames::say_frame;
 use crate::frames::say_kind;
 use crate::words::say;
-use crate::words::tell;
+use crate::words::say_byte;
+use crate::words::say_number;
 use crate::words::wide;
 use crate::words::wider;
 use frame::Reading;
 
-const START: u8 = 0;
+pub(crate) const START: u8 = 0;
 
-const TIMER: u8 = 9;
+pub(crate) const TIMER: u8 = 9;
 
 pub(crate) const START_LENGTH: usize = 13;
 
 pub(crate) const TIMER_LENGTH: usize = 5;
 
+// Where a line has another length than its kind.
+fn say_length(count: usize, wanted: usize) {
+    say_number(b" of ", count as u64);
+    say_number(b" bytes; it has to have ", wanted as u64);
+    say(b"\n");
+}
+
+fn say_settings(n: u8, f: u8, id: u8, class: u8) {
+    say_number(b"    start: ", wide(n));
+    say_number(b" vaults of which ", wide(f));
+    say_number(b" may lie, this one is vault ", wide(id));
+    say_number(b", link class ", wide(class));
+}
+
 fn say_start(s: &[u8]) {
     if s.len() != START_LENGTH {
-        tell(
-            b"    a start of {0} bytes; it has to have 13\n",
-            &[s.len() as u64],
-        );
+        say(b"    a start");
+        say_length(s.len(), START_LENGTH);
         return;
     }
-    tell(
-        b"    start: {0} vaults of which {1} may lie, this one is vault {2}, link class {3}, starting plan {4}\n",
-        &[
-            wide(s[1]),
-            wide(s[2]),
-            wide(s[3]),
-            wide(s[4]),
-            wire::number64(s, 5),
-        ],
-    );
+    say_settings(s[1], s[2], s[3], s[4]);
+    say_number(b", starting plan ", wire::number64(s, 5));
+    say(b"\n");
 }
 
 fn say_timer(s: &[u8]) {
     if s.len() != TIMER_LENGTH {
-        tell(
-            b"    a timer of {0} bytes; it has to have 5\n",
-            &[s.len() as u64],
-        );
+        say(b"    a timer");
+        say_length(s.len(), TIMER_LENGTH);
         return;
     }
-    tell(
-        b"    the timer of view {0} ran out\n",
-        &[wider(wire::number32(s, 1))],
-    );
+    say_number(b"    the timer of view ", wider(wire::number32(s, 1)));
+    say(b" ran out\n");
 }
 
-// A frame that gives 9 or 10.
 fn say_malformed(s: &[u8]) {
     if s.len() == 0 {
-        say(b"    an empty frame\n");
+        say(b"    an empty line: an empty frame\n");
         return;
     }
-    let kind = s[0];
-    let size = frame::length_of(kind);
+    let size = frame::length_of(s[0]);
     if size == 0 {
-        tell(
-            b"    a frame of kind {0}, which there is not\n",
-            &[wide(kind)],
-        );
+        say_byte(b"    there is no kind ", s[0]);
+        say(b"\n");
         return;
     }
     say(b"    a ");
-    say_kind(kind);
-    tell(
-        b" of {0} bytes; it has to have {1}\n",
-        &[s.len() as u64, size as u64],
-    );
+    say_kind(s[0]);
+    say_length(s.len(), size);
 }
 
-fn say_received(s: &[u8]) {
-    let reading = frame_in(s);
-    let Reading::Accepted(f) = reading else {
+fn say_came(s: &[u8]) {
+    let Reading::Accepted(f) = frame_in(s) else {
         say_malformed(s);
         return;
     };
-    say(b"    received: ");
+    say(b"    came: ");
     say_frame(f);
 }
 
@@ -91,6 +85,6 @@ pub(crate) fn say_given(s: &[u8]) {
     match s[0] {
         START => say_start(s),
         TIMER => say_timer(s),
-        _ => say_received(s),
+        _ => say_came(s),
     }
 }

@@ -12,12 +12,13 @@ ghost use mathlib.Core.Path.{_≡_};
 ghost use Prim.Native.Nat.{_≤_};
 ghost use lib.ListN.{length};
 use given::say_given;
+use printed::is_printed;
 use printed::say_printed;
 use text::Line;
 use text::TEXT;
+use text::Writing;
 use text::say_digits;
-use text::say_sorts;
-use words::say;
+use text::say_writing;
 
 const PIECE: usize = 4096;
 
@@ -56,7 +57,29 @@ fn after_mark(text: &[u8], mark: u8) -> usize
     if text[1] == b' ' { 2 } else { 1 }
 }
 
-// Explains a line that spells bytes. Answers the line that then waits for what comes of it: none, where this one was printed.
+// No line was given yet, or what it led to was printed.
+fn no_line() -> Line
+    ensures { λ r. ⌜ r .count ≤ 46 ⌝ }
+{
+    text::unread(Writing {
+        is_cut: false,
+        digits: 0,
+        capitals: 0,
+        blanks: 0,
+        returns: 0,
+        strange: 0,
+    })
+}
+
+fn was_printed(mark: u8, s: &[u8]) -> bool {
+    match mark {
+        GIVEN => false,
+        PRINTED => true,
+        _ => is_printed(s),
+    }
+}
+
+// Explains a line that could be read. Answers the line that is then waiting for what it leads to.
 fn explain_read(mark: u8, line: Line, before: Line) -> Line
     requires { ⌜ (line .count ≤ 46) × (before .count ≤ 46) ⌝ }
     ensures { λ r. ⌜ r .count ≤ 46 ⌝ }
@@ -64,16 +87,11 @@ fn explain_read(mark: u8, line: Line, before: Line) -> Line
     let bytes = line.bytes;
     let count = line.count;
     let s = &bytes[0..count];
-    if mark != GIVEN {
-        if say_printed(s, mark == PRINTED, before) {
-            return text::unread(0, 0);
-        }
+    if was_printed(mark, s) {
+        say_printed(s, before);
+        return no_line();
     }
-    if mark == PRINTED {
-        say(b"    nothing that vaultlines prints\n");
-        return text::unread(0, 0);
-    }
-    say_digits(line.sorts, line.digits);
+    say_digits(line.writing);
     say_given(s);
     line
 }
@@ -83,20 +101,15 @@ fn explain_line(text: &[u8], before: Line) -> Line
     requires { ⌜ before .count ≤ 46 ⌝ }
     ensures { λ r. ⌜ r .count ≤ 46 ⌝ }
 {
-    say(text);
-    if TEXT <= text.len() {
-        say(b" ..\n    256 characters or more, which vaultlines refuses with 20\n");
-        return text::unread(0, 0);
-    }
-    say(b"\n");
+    text::show(text);
     let mark = mark_of(text);
     let from = after_mark(text, mark);
     let line = text::read(&text[from..]);
-    say_sorts(line.sorts);
+    say_writing(line.writing);
     if line.is_read {
         return explain_read(mark, line, before);
     }
-    say_digits(line.sorts, line.digits);
+    say_digits(line.writing);
     line
 }
 
@@ -151,7 +164,7 @@ fn finish(text: &[u8], place: Place) -> Place
     }
     Place {
         len: 0,
-        given: text::unread(0, 0),
+        given: no_line(),
         is_over: true,
     }
 }
@@ -176,7 +189,7 @@ fn explain_all(text: &mut [u8])
 {
     let mut place = Place {
         len: 0,
-        given: text::unread(0, 0),
+        given: no_line(),
         is_over: false,
     };
     let mut turns = u64::MAX;

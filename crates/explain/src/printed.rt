@@ -1,14 +1,12 @@
-// What lines say that vaultlines prints: "one output entry a line, or fd and the refusal number as one byte". Each function answers whether
-// the line is such a one, and writes nothing where it is not.
+// What lines say that vaultlines prints: "one output entry a line, or fd and the refusal number as one byte".
 ghost use Prim.Native.Nat.{_≤_};
 ghost use lib.ListN.{length};
-use crate::frames::SUGGEST;
 use crate::frames::frame_in;
 use crate::frames::say_frame;
 use crate::refusals::say_refusal;
 use crate::text::Line;
 use crate::words::say;
-use crate::words::tell;
+use crate::words::say_number;
 use crate::words::wide;
 use crate::words::wider;
 use frame::Reading;
@@ -19,11 +17,9 @@ const HOST: u8 = 254;
 
 const ALL: u8 = 255;
 
-const LAST_VAULT: u8 = 63;
+const DECISION_ENTRY: u8 = 10;
 
-const DECISION: u8 = 10;
-
-const TIMER: u8 = 11;
+const TIMER_ENTRY: u8 = 11;
 
 const REFUSAL_LENGTH: usize = 2;
 
@@ -31,75 +27,126 @@ const TIMER_LENGTH: usize = 10;
 
 const DECISION_LENGTH: usize = 14;
 
-fn say_host(s: &[u8]) -> bool {
-    if s.len() == TIMER_LENGTH {
-        if s[1] == TIMER {
-            tell(
-                b"    set a timer: view {0}, {1} milliseconds\n",
-                &[wider(wire::number32(s, 2)), wider(wire::number32(s, 6))],
-            );
-            return true;
-        }
+const SUGGEST: u8 = 7;
+
+const SUGGEST_LENGTH: usize = 46;
+
+// ---- which lines these are
+
+fn is_host_entry(s: &[u8]) -> bool {
+    match s.len() {
+        TIMER_LENGTH => s[1] == TIMER_ENTRY,
+        DECISION_LENGTH => s[1] == DECISION_ENTRY,
+        _ => false,
     }
-    if s.len() == DECISION_LENGTH {
-        if s[1] == DECISION {
-            tell(
-                b"    decided: view {0}, plan {1}\n",
-                &[wider(wire::number32(s, 2)), wire::number64(s, 6)],
-            );
-            return true;
-        }
-    }
-    false
 }
 
-// A vault sends nothing but suggests to a single vault. So without a mark a given frame that is a byte too long is not taken for an entry.
-fn say_entry(s: &[u8], is_marked: bool) -> bool
-    requires { ⌜ 1 ≤ length (now s) ⌝ }
-{
-    let to = s[0];
-    let reading = frame_in(&s[1..]);
-    let Reading::Accepted(f) = reading else {
-        return false;
-    };
-    if to == ALL {
-        say(b"    to all: ");
-        say_frame(f);
-        return true;
-    }
-    if LAST_VAULT < to {
+fn is_entry(s: &[u8]) -> bool {
+    if s.len() < 2 {
         return false;
     }
-    if f.kind != SUGGEST {
-        if !is_marked {
-            return false;
-        }
-    }
-    tell(b"    to vault {0}: ", &[wide(to)]);
-    say_frame(f);
-    true
+    frame::form_refusal(&s[1..]) == 0
 }
 
-fn say_refused(s: &[u8], given: Line) -> bool
-    requires { ⌜ given .count ≤ 46 ⌝ }
-{
-    if s.len() != REFUSAL_LENGTH {
+// A vault sends nothing but suggests to a single vault. So a given frame that is a byte too long is not taken for an entry.
+fn is_suggest(s: &[u8]) -> bool {
+    if s.len() != SUGGEST_LENGTH {
         return false;
     }
-    say_refusal(s[1], given);
-    true
+    s[1] == SUGGEST
 }
 
-// The line that was given before is for a refusal.
-pub(crate) fn say_printed(s: &[u8], is_marked: bool, given: Line) -> bool
-    requires { ⌜ given .count ≤ 46 ⌝ }
-{
+// Whether a line without a mark is one that vaultlines prints. No line that it takes looks the same.
+pub(crate) fn is_printed(s: &[u8]) -> bool {
     if s.len() == 0 {
         return false;
     }
     match s[0] {
+        REFUSED => s.len() == REFUSAL_LENGTH,
+        HOST => is_host_entry(s),
+        ALL => is_entry(s),
+        0..=63 => is_suggest(s),
+        _ => false,
+    }
+}
+
+// ---- what they say
+
+fn say_unknown() {
+    say(b"    nothing that vaultlines prints\n");
+}
+
+fn say_timer(s: &[u8])
+    requires { ⌜ 10 ≤ length (now s) ⌝ }
+{
+    say_number(b"    set a timer: view ", wider(wire::number32(s, 2)));
+    say_number(b", ", wider(wire::number32(s, 6)));
+    say(b" milliseconds\n");
+}
+
+fn say_decision(s: &[u8])
+    requires { ⌜ 14 ≤ length (now s) ⌝ }
+{
+    say_number(b"    decided: view ", wider(wire::number32(s, 2)));
+    say_number(b", plan ", wire::number64(s, 6));
+    say(b"\n");
+}
+
+fn say_host(s: &[u8]) {
+    if !is_host_entry(s) {
+        say_unknown();
+        return;
+    }
+    match s.len() {
+        TIMER_LENGTH => say_timer(s),
+        DECISION_LENGTH => say_decision(s),
+        _ => (),
+    }
+}
+
+fn say_recipient(to: u8) {
+    if to == ALL {
+        say(b"    to all: ");
+        return;
+    }
+    say_number(b"    to vault ", wide(to));
+    say(b": ");
+}
+
+fn say_entry(s: &[u8]) {
+    if s.len() == 0 {
+        say_unknown();
+        return;
+    }
+    let Reading::Accepted(f) = frame_in(&s[1..]) else {
+        say_unknown();
+        return;
+    };
+    say_recipient(s[0]);
+    say_frame(f);
+}
+
+fn say_refused(s: &[u8], given: Line)
+    requires { ⌜ given .count ≤ 46 ⌝ }
+{
+    if s.len() != REFUSAL_LENGTH {
+        say_unknown();
+        return;
+    }
+    say_refusal(s[1], given);
+}
+
+// The line given before it is told for a refusal.
+pub(crate) fn say_printed(s: &[u8], given: Line)
+    requires { ⌜ given .count ≤ 46 ⌝ }
+{
+    if s.len() == 0 {
+        say_unknown();
+        return;
+    }
+    match s[0] {
         REFUSED => say_refused(s, given),
         HOST => say_host(s),
-        _ => say_entry(s, is_marked),
+        _ => say_entry(s),
     }
 }

@@ -2,158 +2,244 @@
 ghost use Prim.Native.Nat.{_≤_};
 ghost use lib.ListN.{length};
 use crate::words::say;
-use crate::words::tell;
+use crate::words::say_number;
 use lines::Spelling;
 
-// So much is kept of a line. A text that fills it has been cut.
+// So much is kept of a line. A text that fills it has been cut, and is not read.
 pub(crate) const TEXT: usize = 256;
 
-// The longest line that is printed has 46 bytes. Of a line that is given document 01 takes 90 digits.
-const BYTES: usize = 46;
+// The longest line that is printed is an entry of 46 bytes. Of a line that is given document 01 takes 90 digits.
+pub(crate) const BYTES: usize = 46;
 
 const DIGITS: usize = 92;
 
 const GIVEN_DIGITS: usize = 90;
 
-// What characters there are beside digits, a bit for each sort.
+// The sorts of characters.
+const DIGIT: u8 = 0;
+
 const CAPITAL: u8 = 1;
 
 const BLANK: u8 = 2;
 
-const RETURN: u8 = 4;
+const RETURN: u8 = 3;
 
-const STRANGE: u8 = 8;
+const STRANGE: u8 = 4;
 
-// A line as it was read: which sorts of characters it has, and how many digits it has once it is mended. Where these spell bytes, the first
-// count bytes are those.
-pub(crate) struct Line {
-    pub(crate) sorts: u8,
+// The ways to copy a text: as a terminal shows it, and as vaultlines takes it.
+const SHOWN: u8 = 0;
+
+const MENDED: u8 = 1;
+
+// How a line is written: how many characters are left where blanks and carriage returns are dropped, and how many are of each sort.
+pub(crate) struct Writing {
+    pub(crate) is_cut: bool,
     pub(crate) digits: usize,
+    pub(crate) capitals: usize,
+    pub(crate) blanks: usize,
+    pub(crate) returns: usize,
+    pub(crate) strange: usize,
+}
+
+// A line as it was read. Where it could be mended, the first count bytes are what it spells.
+pub(crate) struct Line {
     pub(crate) is_read: bool,
     pub(crate) count: usize,
     pub(crate) bytes: [u8; BYTES],
+    pub(crate) writing: Writing,
 }
 
+// ---- characters
+
 fn sort_of(b: u8) -> u8
-    ensures { λ r. ⌜ r ≤ 8 ⌝ }
+    ensures { λ r. ⌜ r ≤ 4 ⌝ }
 {
     match b {
-        b'0'..=b'9' => 0,
-        b'a'..=b'f' => 0,
+        b'0'..=b'9' => DIGIT,
+        b'a'..=b'f' => DIGIT,
         b'A'..=b'F' => CAPITAL,
-        b' ' | b'\t' => BLANK,
+        b' ' => BLANK,
+        b'\t' => BLANK,
         b'\r' => RETURN,
         _ => STRANGE,
     }
 }
 
-// Puts a character as vaultlines takes it, where there is room: a capital letter as a small one, and no blank or carriage return.
+fn one_if(b: u8, sort: u8) -> usize
+    ensures { λ r. ⌜ r ≤ 1 ⌝ }
+{
+    if sort_of(b) == sort { 1 } else { 0 }
+}
+
+// How many characters of a text are of a sort.
+fn count_of(text: &[u8], sort: u8) -> usize
+    ensures { λ r. ⌜ r ≤ length (now (text .entry)) ⌝ }
+{
+    let mut count = 0;
+    let mut i = 0;
+    while i < text.len() {
+        count += one_if(text[i], sort);
+        i += 1;
+    }
+    count
+}
+
+// Puts a character, where there is room for it.
+fn put(out: &mut [u8], at: usize, b: u8) -> usize
+    requires { ⌜ at ≤ length (now out) ⌝ }
+    ensures { λ r. ⌜ r ≤ length (now (out .entry)) ⌝ }
+{
+    if at < out.len() {
+        out[at] = b;
+        return at + 1;
+    }
+    at
+}
+
+// Puts a character as vaultlines takes it: a capital letter as a small one, and no blank or carriage return.
 fn put_mended(out: &mut [u8], at: usize, b: u8) -> usize
     requires { ⌜ at ≤ length (now out) ⌝ }
     ensures { λ r. ⌜ r ≤ length (now (out .entry)) ⌝ }
 {
-    if out.len() <= at {
-        return at;
-    }
     match b {
-        b' ' | b'\t' | b'\r' => at,
-        b'A'..=b'F' => {
-            out[at] = b + 32;
-            at + 1
-        }
-        _ => {
-            out[at] = b;
-            at + 1
-        }
+        b' ' => at,
+        b'\t' => at,
+        b'\r' => at,
+        b'A'..=b'F' => put(out, at, b + 32),
+        _ => put(out, at, b),
     }
 }
 
-struct Mended {
-    sorts: u8,
-    count: usize,
+// A character that a terminal can show; any other is shown as a question mark.
+fn visible(b: u8) -> u8
+    ensures { λ r. ⌜ r ≤ 126 ⌝ }
+{
+    match b {
+        b' '..=b'~' => b,
+        _ => b'?',
+    }
 }
 
-// A text as vaultlines takes it.
-fn mend(text: &[u8], out: &mut [u8]) -> Mended
-    ensures { λ r. ⌜ r .count ≤ length (now (out .entry)) ⌝ }
+fn put_as(way: u8, out: &mut [u8], at: usize, b: u8) -> usize
+    requires { ⌜ at ≤ length (now out) ⌝ }
+    ensures { λ r. ⌜ r ≤ length (now (out .entry)) ⌝ }
 {
-    let mut sorts = 0u8;
+    match way {
+        SHOWN => put(out, at, visible(b)),
+        _ => put_mended(out, at, b),
+    }
+}
+
+// ---- lines
+
+// Copies a text in one of the two ways: how many characters it then has.
+fn copy(way: u8, text: &[u8], out: &mut [u8]) -> usize
+    ensures { λ r. ⌜ r ≤ length (now (out .entry)) ⌝ }
+{
     let mut to = 0;
     let mut i = 0;
     while i < text.len() {
-        let b = text[i];
-        sorts = sorts | sort_of(b);
-        to = put_mended(out, to, b);
+        to = put_as(way, out, to, text[i]);
         i += 1;
     }
-    Mended { sorts, count: to }
+    to
 }
 
-// A line that spells no bytes; with nothing in it, no line.
-pub(crate) fn unread(sorts: u8, digits: usize) -> Line
+// Writes a line as it was read.
+pub(crate) fn show(text: &[u8]) {
+    let mut out = [0u8; TEXT];
+    let count = copy(SHOWN, text, &mut out);
+    say(&out[0..count]);
+    say(b"\n");
+}
+
+fn writing_of(text: &[u8], digits: usize) -> Writing
+    ensures { λ r. ⌜ r .capitals ≤ length (now (text .entry)) ⌝ }
+{
+    Writing {
+        is_cut: TEXT <= text.len(),
+        digits,
+        capitals: count_of(text, CAPITAL),
+        blanks: count_of(text, BLANK),
+        returns: count_of(text, RETURN),
+        strange: count_of(text, STRANGE),
+    }
+}
+
+// A line that spells no bytes, or no line.
+pub(crate) fn unread(writing: Writing) -> Line
     ensures { λ r. ⌜ r .count ≤ 46 ⌝ }
 {
     Line {
-        sorts,
-        digits,
         is_read: false,
         count: 0,
         bytes: [0; BYTES],
+        writing,
     }
 }
 
-// Reads a text: crate lines has the digits.
+// The bytes that mended digits spell, by crate lines.
+fn spelled(digits: &[u8], writing: Writing) -> Line
+    ensures { λ r. ⌜ r .count ≤ 46 ⌝ }
+{
+    let mut bytes = [0u8; BYTES];
+    let spelling = lines::bytes_in(digits, DIGITS, &mut bytes);
+    let Spelling::Count(count) = spelling else {
+        return unread(writing);
+    };
+    Line {
+        is_read: true,
+        count,
+        bytes,
+        writing,
+    }
+}
+
+// Reads a text.
 pub(crate) fn read(text: &[u8]) -> Line
     ensures { λ r. ⌜ r .count ≤ 46 ⌝ }
 {
     let mut digits = [0u8; TEXT];
-    let mended = mend(text, &mut digits);
-    let size = mended.count;
-    let mut bytes = [0u8; BYTES];
-    let spelling = lines::bytes_in(&digits[0..size], DIGITS, &mut bytes);
-    let Spelling::Count(count) = spelling else {
-        return unread(mended.sorts, size);
-    };
-    Line {
-        sorts: mended.sorts,
-        digits: size,
-        is_read: true,
-        count,
-        bytes,
+    let count = copy(MENDED, text, &mut digits);
+    let writing = writing_of(text, count);
+    if writing.is_cut {
+        return unread(writing);
     }
+    spelled(&digits[0..count], writing)
 }
 
-// What vaultlines would not take, sort by sort.
-pub(crate) fn say_sorts(sorts: u8) {
-    if sorts & CAPITAL != 0 {
+// ---- what is told of it
+
+// What is wrong with the characters.
+pub(crate) fn say_writing(w: Writing) {
+    if w.is_cut {
+        say(b"    256 characters or more\n");
+    }
+    if w.capitals != 0 {
         say(b"    written with capital letters, which vaultlines refuses with 20\n");
     }
-    if sorts & BLANK != 0 {
+    if w.blanks != 0 {
         say(b"    written with blanks, which vaultlines refuses with 20\n");
     }
-    if sorts & RETURN != 0 {
+    if w.returns != 0 {
         say(b"    written with a carriage return, which vaultlines refuses with 20\n");
     }
-    if sorts & STRANGE != 0 {
+    if w.strange != 0 {
         say(b"    written with characters that are no digits, which vaultlines refuses with 20\n");
     }
 }
 
-// What it would not take of a line that is given, by the count of digits.
-pub(crate) fn say_digits(sorts: u8, digits: usize) {
-    if sorts & STRANGE != 0 {
-        return;
+// What is wrong with the count of digits of a line that is given.
+pub(crate) fn say_digits(w: Writing) {
+    if w.digits % 2 != 0 {
+        say_count(b"    an odd count of digits, ", w.digits);
     }
-    if digits % 2 != 0 {
-        tell(
-            b"    an odd count of digits, {0}, which vaultlines refuses with 20\n",
-            &[digits as u64],
-        );
+    if GIVEN_DIGITS < w.digits {
+        say_count(b"    more than 90 digits, ", w.digits);
     }
-    if GIVEN_DIGITS < digits {
-        tell(
-            b"    more than 90 digits, {0}, which vaultlines refuses with 20\n",
-            &[digits as u64],
-        );
-    }
+}
+
+fn say_count(words: &[u8], count: usize) {
+    say_number(words, count as u64);
+    say(b", which vaultlines refuses with 20\n");
 }

@@ -13,11 +13,11 @@ Inv-loop text₀ place₀ turns₀ text place turns = (length text ≡ length te
 abbrev μ-loop : tie.MeasureT-loop
 μ-loop text₀ place₀ turns₀ text place turns = turns
 
-unread-requires : tie.Need-unread-requires Inv-loop μ-loop
-unread-requires c κs = tt
+no-line-requires : tie.Need-no-line-requires Inv-loop μ-loop
+no-line-requires c κs = tt
 
 loop-holds : tie.Need-loop-holds Inv-loop μ-loop
-loop-holds c = (refl, c .before .before .pre, omega arith, c .unread .ensures)
+loop-holds c = (refl, c .before .before .pre, omega arith, c .no-line .ensures)
 
 explain-some-requires : tie.Need-explain-some-requires Inv-loop μ-loop
 explain-some-requires c κs = (c .before .before .loop .inv .1, c .before .before .loop .inv .2, c .before .before .loop .inv .3)
@@ -52,7 +52,7 @@ explain-all-spec =
     (tie.spec
     Inv-loop
     μ-loop
-    unread-requires
+    no-line-requires
     loop-holds
     explain-some-requires
     same-length

@@ -18,26 +18,17 @@ part-s-end c =
     let s = c .before .before in
     let m : length (s .args .line .bytes) ≡ 46 = search needs in omega (arith, s .pre .0)
 
+was-printed-requires : tie.Need-was-printed-requires
+was-printed-requires c κs = search needs
+
 say-printed-requires : tie.Need-say-printed-requires
 say-printed-requires c κs = search needs
 
-unread-requires : tie.Need-unread-requires
-unread-requires c κs = search needs
+no-line-requires : tie.Need-no-line-requires
+no-line-requires c κs = search needs
 
 returns : tie.Need-returns
 returns c = search needs
-
-slice-aggregate-say : tie.Need-slice-aggregate-say
-slice-aggregate-say c = search needs
-
-say-requires : tie.Need-say-requires
-say-requires c κs = search needs
-
-unread-requires-2 : tie.Need-unread-requires-2
-unread-requires-2 c κs = search needs
-
-returns-2 : tie.Need-returns-2
-returns-2 c = search needs
 
 say-digits-requires : tie.Need-say-digits-requires
 say-digits-requires c κs = search needs
@@ -45,8 +36,8 @@ say-digits-requires c κs = search needs
 say-given-requires : tie.Need-say-given-requires
 say-given-requires c κs = search needs
 
-returns-3 : tie.Need-returns-3
-returns-3 c = search needs
+returns-2 : tie.Need-returns-2
+returns-2 c = search needs
 
 pub explain-read-spec : {M : Type 1} → statement M
 explain-read-spec =
@@ -55,13 +46,10 @@ explain-read-spec =
     sub-s
     part-s-start
     part-s-end
+    was-printed-requires
     say-printed-requires
-    unread-requires
+    no-line-requires
     returns
-    slice-aggregate-say
-    say-requires
-    unread-requires-2
-    returns-2
     say-digits-requires
     say-given-requires
-    returns-3)
+    returns-2)
