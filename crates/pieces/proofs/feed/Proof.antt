@@ -59,17 +59,13 @@ part-answer-line-end c = c .before .before .before .before .before .take-line .e
 
 answer-line-requires : tie.Need-answer-line-requires Inv-loop μ-loop
 answer-line-requires c κs =
-    let atTakeLine = c .before .before .before .before .before .before .before in
-    let atLoop = atTakeLine .before .before .before in
-    let t = atTakeLine .take-line in
-    let l = atLoop .loop in
+    let t = c .before .before .before .before .before .before .before .take-line in
+    let l = c .before .before .before .before .before .before .before .before .before .before .loop in
     roomThere (l .inv .3) (l .inv .1) (l .inv .2) (t .kept .0) (t .ensures .0) (t .ensures .1)
 
 add-i : tie.Need-add-i Inv-loop μ-loop
 add-i c =
-    let midway = c .before .before .before .before .before .before .before .before in
-    let atPlace = midway .before in
-    let e = atPlace in
+    let e = c .before .before .before .before .before .before .before .before .before in
     let t = e .before .before .before .take-line in
     let l = e .before .before .before .before .before .before .loop in
     let low = endWithin (l .inv .3) (l .inv .1) (l .inv .2) (t .kept .0) (t .ensures .0) (t .ensures .1) in
@@ -77,17 +73,13 @@ add-i c =
 
 loop-less : tie.Need-loop-less Inv-loop μ-loop
 loop-less c =
-    let midway = c .before .before .before .before .before .before .before .before in
-    let atPlace = midway .before .before .before .before in
-    let t = atPlace in
+    let t = c .before .before .before .before .before .before .before .before .before .before .before .before in
     omega (arith, t .take-line .ensures .1, t .before .before .loop-test .taken)
 
 loop-again : tie.Need-loop-again Inv-loop μ-loop
 loop-again c =
-    let atAnswerLine = c .before .before .before .before in
-    let atPlace = atAnswerLine .before .before .before .before .before in
-    let r = atAnswerLine .answer-line in
-    let e = atPlace in
+    let r = c .before .before .before .before .answer-line in
+    let e = c .before .before .before .before .before .before .before .before .before in
     let t = e .before .before .before .take-line in
     let l = e .before .before .before .before .before .before .loop in (
       r .kept .0 ∙ l .inv .0,
