@@ -8,10 +8,7 @@ use Rattle.settings.proofs.settings_refusal.Statement.{statement}
 use Rattle.settings.proofs.settings_refusal.Tie as tie
 
 returns : tie.Need-returns
-returns c =
-    let a = c .before .before .args .s in
-    let few : a .n < 4 = c .if1 .taken in
-    search tests
+returns c = search tests
 
 returns-2 : tie.Need-returns-2
 returns-2 c = search tests
@@ -42,7 +39,6 @@ returns-5 c =
     let atEntry = midway .before .before .before in
     let a = atEntry .args .s in
     let h : 3 * a .f < a .n = omega arith in
-    let none : a .n ≤ a .id = c .if5 .taken in
     search tests
 
 returns-6 : tie.Need-returns-6
@@ -51,7 +47,6 @@ returns-6 c =
     let atEntry = midway .before .before .before .before .before in
     let a = atEntry .args .s in
     let h : 3 * a .f < a .n = omega arith in
-    let beyond : 7 < a .class = c .if6 .taken in
     search tests
 
 returns-7 : tie.Need-returns-7
