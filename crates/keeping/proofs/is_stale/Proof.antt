@@ -1,5 +1,6 @@
 -- `keeping::is_stale` meets its contract: each branch decides one part.
 -- Assumes nothing.
+use Prim.Native.Nat.{_<_}
 use Rattle.frame.proofs.Laws.{tests}
 use Rattle.keeping.specs.inside.Keeping.{stale}
 use Rattle.keeping.proofs.is_stale.Statement.{statement}
@@ -7,7 +8,7 @@ use Rattle.keeping.proofs.is_stale.Tie as tie
 
 returns : tie.Need-returns
 unfolding stale
-returns c = search tests
+returns c = let below : c .before .args .view < c .before .args .current = c .if1 .taken in search tests
 
 returns-2 : tie.Need-returns-2
 unfolding stale

@@ -8,7 +8,10 @@ use Rattle.settings.proofs.settings_refusal.Statement.{statement}
 use Rattle.settings.proofs.settings_refusal.Tie as tie
 
 returns : tie.Need-returns
-returns c = search tests
+returns c =
+    let a = c .before .before .args .s in
+    let few : a .n < 4 = c .if1 .taken in
+    search tests
 
 returns-2 : tie.Need-returns-2
 returns-2 c = search tests
@@ -39,6 +42,7 @@ returns-5 c =
     let atEntry = midway .before .before .before in
     let a = atEntry .args .s in
     let h : 3 * a .f < a .n = omega arith in
+    let none : a .n ≤ a .id = c .if5 .taken in
     search tests
 
 returns-6 : tie.Need-returns-6
@@ -47,6 +51,7 @@ returns-6 c =
     let atEntry = midway .before .before .before .before .before in
     let a = atEntry .args .s in
     let h : 3 * a .f < a .n = omega arith in
+    let beyond : 7 < a .class = c .if6 .taken in
     search tests
 
 returns-7 : tie.Need-returns-7
