@@ -59,14 +59,14 @@ returns c =
     let top = c .before in
     let low = top .before .before .before in
     let r = here (low .before .before .before .before) in
-    asksFor _ _ r _ _ (low .change-above .ensures) (top .highest-change .ensures) (c .if1 .taken) ∙ ap actA (r .spelt)
+    asksFor _ _ r _ (top .highest-change .result) (low .change-above .ensures) (top .highest-change .ensures) (c .if1 .taken) ∙ ap actA (r .spelt)
 
 returns-2 : tie.Need-returns-2
 returns-2 c =
     let top = c .before in
     let low = top .before .before .before in
     let r = here (low .before .before .before .before) in
-    silent _ _ r _ _ (low .change-above .ensures) (top .highest-change .ensures) (c .if1 .left) ∙ ap actA (r .spelt)
+    silent _ _ r _ (top .highest-change .result) (low .change-above .ensures) (top .highest-change .ensures) (c .if1 .left) ∙ ap actA (r .spelt)
 
 pub act-a-spec : {M : Type 1} → statement M
 act-a-spec =
