@@ -5,7 +5,7 @@
 use Prim.Native.Nat.{ℕ, suc, _+_, _*_, _-_, _≤_, _<_}
 use mathlib.Core.Path.{_≡_, refl, sym, _∙_, ap}
 use mathlib.Core.Logic.{_≢_, _⊎_, inl, inr}
-use mathlib.Core.Bool.{Bool, true, false, not}
+use mathlib.Core.Bool.{Bool, true, false, cond, not}
 use mathlib.Core.List.{List}
 use mathlib.Core.Option.{Option, none, some}
 use native.Mathlib.Omega.{arith}
@@ -25,11 +25,11 @@ use Rattle.protocol.specs.Pass.{cast, decide, hasQuorum, agreed, actVote, actH}
 use Rattle.protocol.proofs.Agreed.{agreedIs}
 use Rattle.protocol.proofs.Tables.{eachNone, whenFalse}
 use Rattle.contents.specs.Contents.{contents}
-use Rattle.acts.specs.inside.Parts.{blockPart, blockPlace}
-use Rattle.acts.specs.inside.Votes.{voted, voteIn, votes, leading, quorumFor, agreedIn}
+use Rattle.tally.specs.inside.Parts.{blockPart, blockPlace}
+use Rattle.tally.specs.inside.Votes.{voted, voteIn, votes, leading, quorumFor, agreedIn}
 use Rattle.acts.proofs.Parts.{Reads}
 use Rattle.acts.proofs.Kept.{planAt}
-use Rattle.acts.proofs.Votes.{onlyLead}
+use Rattle.tally.proofs.Votes.{onlyLead}
 
 module _ (s : List ℕ) (r : slots.Record) (reads : Reads s r) where
   -- How many vaults there are, by the record's settings.
@@ -76,7 +76,7 @@ module _ (s : List ℕ) (r : slots.Record) (reads : Reads s r) where
             let only : q ≡ p = onlyLead ballots n f (reads .allows .third) q h in
             absurd (clash (rw only at h) off)
 
-        go : (quorumFor ballots n f p ≡ true) ⊎ (quorumFor ballots n f p ≡ false) → when (quorumFor ballots n f p) (some p) ≡ agreed (contents r) k
+        go : (quorumFor ballots n f p ≡ true) ⊎ (quorumFor ballots n f p ≡ false) → cond (quorumFor ballots n f p) (some p) none ≡ agreed (contents r) k
         go (inl on) = rw on (sym (agreedIs (contents r) (reads .allows .third) k p .1 (quorumSame p ∙ on)))
         go (inr off) = rw off (nothing (agreed (contents r) k) refl off)
 

@@ -11,7 +11,7 @@ use Rattle.rules.specs.Rules.{Reports, Rule}
 use Rattle.rules.specs.inside.Counts.{safe, choice}
 use Rattle.layout.specs.Layout.{decodeRecord}
 use Rattle.contents.specs.Contents.{contents, contentsIn}
-use Rattle.acts.specs.inside.Reports.{proposalOf, approvedBy}
+use Rattle.acts.specs.inside.Proposals.{proposalOf, approvedBy}
 
 -- In view 0 every plan is safe, whatever the reports.
 safeFirst : (rule : Rule) (vs : Vaults) (rs : Reports) (v p : ℕ) → v ≡ 0 → safe rule vs rs v p ≡ true

@@ -1,6 +1,3 @@
-pub mod Changes
-pub mod Votes
-pub mod Reports
 pub mod Parts
 pub mod Kept
 pub mod Asked

@@ -17,7 +17,7 @@ use Rattle.protocol.specs.Sound.{Sound}
 use Rattle.contents.specs.Contents.{contents, contentsIn}
 use Rattle.contents.specs.inside.Ready.{Ready}
 use Rattle.contents.proofs.Ready.{readyAllowed}
-use Rattle.acts.specs.inside.Parts.{sharedPart, blockPart, blockPlace}
+use Rattle.tally.specs.inside.Parts.{sharedPart, blockPart, blockPlace}
 
 -- ---- the slots of a record
 

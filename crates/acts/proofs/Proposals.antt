@@ -23,12 +23,13 @@ use Rattle.protocol.specs.Record.{Record, when, each, leader, leads, planNow, s
 use Rattle.protocol.specs.Pass.{cast, mayPropose, approves, actC, actD}
 use Rattle.protocol.proofs.Tables.{eachNone, whenFalse}
 use Rattle.contents.specs.Contents.{contents}
-use Rattle.acts.specs.inside.Parts.{blockPart, blockPlace}
-use Rattle.acts.specs.inside.Votes.{voted, voteIn}
-use Rattle.acts.specs.inside.Reports.{proposalOf, approvedBy, reportsBy, Filled}
+use Rattle.tally.specs.inside.Parts.{blockPart, blockPlace}
+use Rattle.tally.specs.inside.Votes.{voted, voteIn}
+use Rattle.tally.specs.inside.Reports.{reportsBy, Filled}
+use Rattle.acts.specs.inside.Proposals.{proposalOf, approvedBy}
 use Rattle.acts.proofs.Parts.{Reads}
 use Rattle.acts.proofs.Kept.{planAt, tableIs}
-use Rattle.acts.proofs.Votes.{votedPlan, toldNone}
+use Rattle.tally.proofs.Votes.{votedPlan, toldNone}
 use Rattle.acts.proofs.Agreed.{sentSame}
 
 module _ (s : List ℕ) (r : slots.Record) (reads : Reads s r) where

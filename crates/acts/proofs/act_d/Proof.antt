@@ -6,7 +6,7 @@ use mathlib.Core.Option.{some}
 use Rattle.protocol.specs.Record.{Record, when}
 use Rattle.protocol.specs.Pass.{cast, actD}
 use Rattle.contents.specs.Contents.{contentsIn}
-use Rattle.acts.specs.inside.Reports.{approvedBy}
+use Rattle.acts.specs.inside.Proposals.{approvedBy}
 use Rattle.acts.proofs.Parts.{Lent, lent}
 use Rattle.acts.proofs.Proposals.{votedOnce, unproposed, votesOne}
 use borrow.Author.Needs.{needs}

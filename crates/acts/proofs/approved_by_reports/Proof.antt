@@ -7,7 +7,7 @@ use Rattle.claims.specs.Table.{reportsInTable}
 use Rattle.settings.specs.Vaults.{vaultsOf}
 use Rattle.protocol.specs.Record.{Record}
 use Rattle.acts.proofs.Parts.{Lent, lent}
-use Rattle.acts.specs.inside.Reports.{approvedBy}
+use Rattle.acts.specs.inside.Proposals.{approvedBy}
 use Rattle.acts.proofs.Proposals.{approvedIs}
 use borrow.Author.Needs.{needs}
 use native.Mathlib.Omega.{arith}

@@ -2,7 +2,7 @@
 -- Assumes nothing.
 use mathlib.Core.Path.{_∙_, ap}
 use Rattle.acts.proofs.Parts.{Lent, lent}
-use Rattle.acts.specs.inside.Reports.{proposalOf}
+use Rattle.acts.specs.inside.Proposals.{proposalOf}
 use Rattle.acts.proofs.Proposals.{proposalIs}
 use borrow.Author.Needs.{needs}
 use native.Mathlib.Omega.{arith}
