@@ -27,7 +27,7 @@ use Rattle.protocol.proofs.Tables.{eachNone, whenFalse}
 use Rattle.contents.specs.Contents.{contents}
 use Rattle.tally.specs.inside.Parts.{blockPart, blockPlace}
 use Rattle.tally.specs.inside.Votes.{voted, voteIn, votes, leading, quorumFor, agreedIn}
-use Rattle.acts.proofs.Parts.{Reads}
+use Rattle.acts.specs.inside.Lent.{Reads}
 use Rattle.acts.proofs.Kept.{planAt}
 use Rattle.tally.proofs.Votes.{onlyLead}
 

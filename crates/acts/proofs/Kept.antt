@@ -11,7 +11,6 @@ use native.Mathlib.Omega.{arith}
 use lib.Dec.{eqb}
 use borrow.Author.Tests.{le-leb, lt-leb, ne-eqb}
 use Rattle.rules.specs.Rules as rules
-use Rattle.rules.specs.Rules.{Rule, rule1, rule3}
 use Rattle.claims.specs.Table.{voteAbove, reportsInTable}
 use Rattle.frame.specs.declared.Report.{Report}
 use Rattle.frame.specs.declared.Frame.{Frame}
@@ -21,7 +20,7 @@ use Rattle.record.specs.Slots as slots
 use Rattle.record.specs.Slots.{rows, frameSlot, reportSlot, slotOf}
 use Rattle.keeping.specs.Kept.{bodyIn, frameIn, keptIn}
 use Rattle.layout.specs.Layout.{slotIn}
-use Rattle.protocol.specs.Record.{when, each, reported, reportBy, kindOf, changeOf, planNow, reportsOf}
+use Rattle.protocol.specs.Record.{when, each, reported, reportBy, changeOf, planNow}
 use Rattle.contents.specs.Contents.{contents}
 use Rattle.contents.proofs.Clean.{keptAt}
 use Rattle.contents.proofs.Acts.{voteAt}
@@ -29,13 +28,14 @@ use Rattle.tally.specs.inside.Parts.{sharedPart, blockPart, blockPlace}
 use Rattle.tally.specs.inside.Changes.{asks, changeIn}
 use Rattle.tally.specs.inside.Votes.{voted, voteIn}
 use Rattle.tally.specs.inside.Reports.{aboveOf, voteBy, reportsBy, Filled}
-use Rattle.acts.proofs.Parts.{Reads}
+use Rattle.acts.specs.inside.Lent.{Reads}
+use Rattle.acts.specs.inside.Proposals.{reportsIn}
 use Rattle.tally.proofs.Reports.{filledSame, filledAll}
 
 -- An option that a test lets pass, as the slots have it.
-whenSome : {A : Type 0} (b : Bool) (x : A) → when b (some x) ≡ cond b (some x) none
-whenSome true x = refl
-whenSome false x = refl
+whenIs : {A : Type 0} (b : Bool) (x : A) → when b (some x) ≡ cond b (some x) none
+whenIs true x = refl
+whenIs false x = refl
 
 -- The vote that a slot reports, where that is of view v.
 votedBy : (v : ℕ) (x : Report) → each (reported x) (λ y. when (eqb (y .view) v) (some (y .plan))) ≡ voted v x
@@ -47,7 +47,7 @@ votedBy v x = go (present x)
 
     go : (b : Bool) → each (cond b (some there) none) (λ y. when (eqb (y .view) v) (some (y .plan)))
         ≡ cond (b && eqb (x .view) v) (some (x .plan)) none
-    go true = whenSome (eqb (x .view) v) (x .plan)
+    go true = whenIs (eqb (x .view) v) (x .plan)
     go false = refl
 
 -- The vote that the table tells of a slot is the one that the slot reports.
@@ -70,7 +70,7 @@ reportRead : (s : Report) (f : Frame) (v : ℕ) (x : rules.Report) → f .view �
 reportRead s f v x view told = go (present s)
   where
     go : (b : Bool) → each (when b (some f)) (λ g. when (eqb (g .view) v) (reportBy (g .body))) ≡ cond (b && eqb (s .view) v) (some x) none
-    go true = rw (view, told) (whenSome (eqb (s .view) v) x)
+    go true = rw (view, told) (whenIs (eqb (s .view) v) x)
     go false = refl
 
 module _ (r : slots.Record) where
@@ -91,7 +91,7 @@ module _ (r : slots.Record) where
   frameAt : (kind j : ℕ) → 1 ≤ kind → kind ≤ 8 → j < rows
       → contents r .kept kind j ≡ when (present (slotOf r (frameSlot kind j))) (some (frameIn (slotOf r) kind j))
   unfolding keptIn
-  frameAt kind j low high row = keptAt r kind j low high row ∙ sym (whenSome (present (slotOf r (frameSlot kind j))) (frameIn (slotOf r) kind j))
+  frameAt kind j low high row = keptAt r kind j low high row ∙ sym (whenIs (present (slotOf r (frameSlot kind j))) (frameIn (slotOf r) kind j))
 
   -- The plan of a vote of this view, by contents, is the one in its slot.
   planSlot : (k j : ℕ) → k ≤ 4 → j < rows → planNow (contents r) k j ≡ voted (r .view) (slotOf r (frameSlot (suc k) j))
@@ -163,19 +163,11 @@ module _ (s : List ℕ) (r : slots.Record) (reads : Reads s r) where
           below x e = reads .sound .kept kind j x e .row
 
   -- The table that is gathered has the reports kept.
-  pub tableIs : (rule : Rule) (t : List ℕ) → Filled (reportsBy (blockPart s) (kindOf rule) (r .view)) (r .set .n) t
-      → reportsInTable t ≡ reportsOf (contents r) rule
+  pub tableIs : (kind : ℕ) → 7 ≤ kind → kind ≤ 8 → (t : List ℕ) → Filled (reportsBy (blockPart s) kind (r .view)) (r .set .n) t
+      → reportsInTable t ≡ reportsIn (contents r) kind
   unfolding contents
-  tableIs rule t f =
-      filledAll (reportsOf (contents r) rule) (r .set .n) t (reads .allows .most)
-      (filledSame (reportsBy (blockPart s) (kindOf rule) (r .view)) (reportsOf (contents r) rule) (r .set .n) t
-      (λ j low. reportAt (kindOf rule) j (lowKind rule) (highKind rule) (omega (arith, reads .allows .most))) f)
-      (λ j over. noneFrom (kindOf rule) j over)
-    where
-      lowKind : (rule : Rule) → 7 ≤ kindOf rule
-      lowKind rule1 = omega arith
-      lowKind rule3 = omega arith
-
-      highKind : (rule : Rule) → kindOf rule ≤ 8
-      highKind rule1 = omega arith
-      highKind rule3 = omega arith
+  tableIs kind low high t f =
+      filledAll (reportsIn (contents r) kind) (r .set .n) t (reads .allows .most)
+      (filledSame (reportsBy (blockPart s) kind (r .view)) (reportsIn (contents r) kind) (r .set .n) t
+      (λ j below. reportAt kind j low high (omega (arith, reads .allows .most))) f)
+      (λ j over. noneFrom kind j over)

@@ -27,7 +27,7 @@ use Rattle.tally.specs.inside.Parts.{blockPart, blockPlace}
 use Rattle.tally.specs.inside.Votes.{voted, voteIn}
 use Rattle.tally.specs.inside.Reports.{reportsBy, Filled}
 use Rattle.acts.specs.inside.Proposals.{proposalOf, approvedBy}
-use Rattle.acts.proofs.Parts.{Reads}
+use Rattle.acts.specs.inside.Lent.{Reads}
 use Rattle.acts.proofs.Kept.{planAt, tableIs}
 use Rattle.tally.proofs.Votes.{votedPlan, toldNone}
 use Rattle.acts.proofs.Agreed.{sentSame}
@@ -55,19 +55,7 @@ module _ (s : List ℕ) (r : slots.Record) (reads : Reads s r) where
         let same : told ≡ sentNow (contents r) 0 = sent ∙ sentSame s r reads 0 (omega arith) in
         rw (led, same)
 
-  -- 'proposes its starting plan if that is safe by Rule 1, else the smallest safe plan': by the table of the suggests kept.
-  pub proposalIs : (t : List ℕ) (start : ℕ) → Filled (reportsBy (blockPart s) 7 (r .view)) (r .set .n) t → start ≡ r .plan
-      → choice (vaultsOf (r .set)) (reportsInTable t) (r .view) start ≡ proposalOf (contents r)
-  unfolding contents
-  proposalIs t start filled plan = λ i. choice (vaultsOf (r .set)) (tableIs s r reads rule1 t filled i) (r .view) (plan i)
-
   -- ---- D
-
-  -- 'safe by Rule 3': by the table of the proofs kept.
-  pub approvedIs : (t : List ℕ) (p : ℕ) → Filled (reportsBy (blockPart s) 8 (r .view)) (r .set .n) t
-      → safe rule3 (vaultsOf (r .set)) (reportsInTable t) (r .view) p ≡ approvedBy (contents r) p
-  unfolding contents
-  approvedIs t p filled = λ i. safe rule3 (vaultsOf (r .set)) (tableIs s r reads rule3 t filled i) (r .view) p
 
   -- 'If vote-1 was not sent in this view'.
   module _ (told : Bool) (sent : told ≡ not (isNone (voteIn (blockPart s) (r .view) 1 (r .set .id)))) where

@@ -11,7 +11,8 @@ ghost use Rattle.protocol.specs.Pass.{mayPropose, actA, actB, actC, actD, actVo
 ghost use Rattle.contents.specs.Contents.{contentsIn};
 ghost use Rattle.contents.specs.inside.Ready.{Ready};
 ghost use Rattle.acts.specs.inside.Acts.{asAct, actAt};
-ghost use Rattle.acts.specs.inside.Proposals.{proposalOf, approvedBy};
+ghost use Rattle.acts.specs.inside.Lent.{Lent};
+ghost use Rattle.acts.specs.inside.Proposals.{proposalOf, approvedBy, reportsIn, Searched};
 
 // What a step does: ask for a view, enter it, send a vote (0: a proposal) for a plan, decide a plan, or nothing.
 pub enum Act {
@@ -26,7 +27,7 @@ pub enum Act {
 
 // Step A.
 fn act_a(rec: &[u8], set: Settings, view: u32) -> Act
-    requires { ⌜ Ready (now rec) × (set ≡ decodeRecord (now rec) .set) × (view ≡ decodeRecord (now rec) .view) ⌝ }
+    requires { ⌜ Lent (now rec) set view ⌝ }
     ensures { λ r. ⌜ asAct r ≡ actA (contentsIn (now (rec .entry))) ⌝ }
 {
     let shared = &rec[0..layout::SHARED];
@@ -44,7 +45,7 @@ fn act_a(rec: &[u8], set: Settings, view: u32) -> Act
 
 // Step B.
 fn act_b(rec: &[u8], set: Settings, view: u32) -> Act
-    requires { ⌜ Ready (now rec) × (set ≡ decodeRecord (now rec) .set) × (view ≡ decodeRecord (now rec) .view) ⌝ }
+    requires { ⌜ Lent (now rec) set view ⌝ }
     ensures { λ r. ⌜ asAct r ≡ actB (contentsIn (now (rec .entry))) ⌝ }
 {
     let n = set.n as usize;
@@ -59,7 +60,7 @@ fn act_b(rec: &[u8], set: Settings, view: u32) -> Act
 
 // Whether the vault leads this view, and has not proposed in it.
 fn may_propose(rec: &[u8], set: Settings, view: u32) -> bool
-    requires { ⌜ Ready (now rec) × (set ≡ decodeRecord (now rec) .set) × (view ≡ decodeRecord (now rec) .view) ⌝ }
+    requires { ⌜ Lent (now rec) set view ⌝ }
     ensures { λ b. ⌜ b ≡ mayPropose (contentsIn (now (rec .entry))) ⌝ }
 {
     if tally::leader(view, set.n as usize) != set.id as usize {
@@ -68,34 +69,30 @@ fn may_propose(rec: &[u8], set: Settings, view: u32) -> bool
     !tally::sent(&rec[layout::SHARED..layout::SIZE], 0, set.id, view)
 }
 
-// The plan to propose by the kept suggests.
-fn plan_by_reports(rec: &[u8], set: Settings, view: u32) -> Choice
-    requires { ⌜ Ready (now rec) × (set ≡ decodeRecord (now rec) .set) × (view ≡ decodeRecord (now rec) .view) ⌝ }
-    ensures { λ c. ⌜ chosen c ≡ proposalOf (contentsIn (now (rec .entry))) ⌝ }
-{
-    let table = tally::gather(
-        &rec[layout::SHARED..layout::SIZE],
-        numbers::SUGGEST,
-        set.n,
-        view,
-    );
-    safe::choose(&table, set, view, layout::plan_of(rec))
-}
-
-// The plan to propose: in view 0 every plan is safe, and no report is read.
-fn proposal(rec: &[u8], set: Settings, view: u32) -> Choice
-    requires { ⌜ Ready (now rec) × (set ≡ decodeRecord (now rec) .set) × (view ≡ decodeRecord (now rec) .view) ⌝ }
-    ensures { λ c. ⌜ chosen c ≡ proposalOf (contentsIn (now (rec .entry))) ⌝ }
+// The table of reports for the search: those kept of this view, in suggests (kind 7) or proofs (kind 8).
+// In view 0 every plan is safe, and no report is read.
+fn reports(rec: &[u8], set: Settings, view: u32, kind: u8) -> [u64; claims::TABLE]
+    requires { ⌜ Lent (now rec) set view × (7 ≤ kind) × (kind ≤ 8) ⌝ }
+    ensures { λ t. ⌜ Searched (reportsIn (contentsIn (now (rec .entry))) kind) view t ⌝ }
 {
     if view == 0 {
-        return Choice::Plan(layout::plan_of(rec));
+        return [0u64; claims::TABLE];
     }
-    plan_by_reports(rec, set, view)
+    tally::gather(&rec[layout::SHARED..layout::SIZE], kind, set.n, view)
+}
+
+// The plan to propose.
+fn proposal(rec: &[u8], set: Settings, view: u32) -> Choice
+    requires { ⌜ Lent (now rec) set view ⌝ }
+    ensures { λ c. ⌜ chosen c ≡ proposalOf (contentsIn (now (rec .entry))) ⌝ }
+{
+    let table = reports(rec, set, view, numbers::SUGGEST);
+    safe::choose(&table, set, view, layout::plan_of(rec))
 }
 
 // Step C.
 fn act_c(rec: &[u8], set: Settings, view: u32) -> Act
-    requires { ⌜ Ready (now rec) × (set ≡ decodeRecord (now rec) .set) × (view ≡ decodeRecord (now rec) .view) ⌝ }
+    requires { ⌜ Lent (now rec) set view ⌝ }
     ensures { λ r. ⌜ asAct r ≡ actC (contentsIn (now (rec .entry))) ⌝ }
 {
     if may_propose(rec, set, view) {
@@ -108,34 +105,18 @@ fn act_c(rec: &[u8], set: Settings, view: u32) -> Act
     Act::Nothing
 }
 
-// Whether p is safe by the kept proofs.
-fn approved_by_reports(rec: &[u8], set: Settings, view: u32, p: u64) -> bool
-    requires { ⌜ Ready (now rec) × (set ≡ decodeRecord (now rec) .set) × (view ≡ decodeRecord (now rec) .view) ⌝ }
-    ensures { λ b. ⌜ b ≡ approvedBy (contentsIn (now (rec .entry))) p ⌝ }
-{
-    let table = tally::gather(
-        &rec[layout::SHARED..layout::SIZE],
-        numbers::PROOF,
-        set.n,
-        view,
-    );
-    safe::safe_by(&table, set, view, p, true)
-}
-
-// Whether a plan is safe by Rule 3: in view 0 every plan is, and no report is read.
+// Whether a plan is safe by Rule 3.
 fn approved(rec: &[u8], set: Settings, view: u32, p: u64) -> bool
-    requires { ⌜ Ready (now rec) × (set ≡ decodeRecord (now rec) .set) × (view ≡ decodeRecord (now rec) .view) ⌝ }
+    requires { ⌜ Lent (now rec) set view ⌝ }
     ensures { λ b. ⌜ b ≡ approvedBy (contentsIn (now (rec .entry))) p ⌝ }
 {
-    if view == 0 {
-        return true;
-    }
-    approved_by_reports(rec, set, view, p)
+    let table = reports(rec, set, view, numbers::PROOF);
+    safe::safe_by(&table, set, view, p, true)
 }
 
 // Step D.
 fn act_d(rec: &[u8], set: Settings, view: u32) -> Act
-    requires { ⌜ Ready (now rec) × (set ≡ decodeRecord (now rec) .set) × (view ≡ decodeRecord (now rec) .view) ⌝ }
+    requires { ⌜ Lent (now rec) set view ⌝ }
     ensures { λ r. ⌜ asAct r ≡ actD (contentsIn (now (rec .entry))) ⌝ }
 {
     let block = &rec[layout::SHARED..layout::SIZE];
@@ -157,7 +138,7 @@ fn act_d(rec: &[u8], set: Settings, view: u32) -> Act
 
 // Steps E, F, G for k = 1, 2, 3.
 fn act_vote(rec: &[u8], set: Settings, view: u32, k: u8) -> Act
-    requires { ⌜ Ready (now rec) × (set ≡ decodeRecord (now rec) .set) × (view ≡ decodeRecord (now rec) .view) × (1 ≤ k) × (k ≤ 3) ⌝ }
+    requires { ⌜ Lent (now rec) set view × (1 ≤ k) × (k ≤ 3) ⌝ }
     ensures { λ r. ⌜ asAct r ≡ actVote (contentsIn (now (rec .entry))) k ⌝ }
 {
     let block = &rec[layout::SHARED..layout::SIZE];
@@ -175,7 +156,7 @@ const DECIDED: usize = layout::HEAD + layout::SLOT * (layout::DECISION - layout:
 
 // Step H.
 fn act_h(rec: &[u8], set: Settings, view: u32) -> Act
-    requires { ⌜ Ready (now rec) × (set ≡ decodeRecord (now rec) .set) × (view ≡ decodeRecord (now rec) .view) ⌝ }
+    requires { ⌜ Lent (now rec) set view ⌝ }
     ensures { λ r. ⌜ asAct r ≡ actH (contentsIn (now (rec .entry))) ⌝ }
 {
     let block = &rec[layout::SHARED..layout::SIZE];

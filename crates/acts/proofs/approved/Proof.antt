@@ -1,20 +1,33 @@
--- `acts::approved` meets its contract: in view 0 every plan is safe, else the reports tell.
+-- `acts::approved` meets its contract: the search goes by the table of the proofs kept.
 -- Assumes nothing.
-use Rattle.acts.proofs.First.{approvedFirst}
+use mathlib.Core.Path.{_≡_, _∙_}
+use Rattle.rules.specs.Rules.{rule3}
+use Rattle.rules.specs.inside.Counts.{safe}
+use Rattle.claims.specs.Table.{reportsInTable}
+use Rattle.settings.specs.Vaults.{vaultsOf}
+use Rattle.acts.proofs.First.{approvedIs}
 use borrow.Author.Needs.{needs}
+use native.Mathlib.Omega.{arith}
 use Rattle.acts.proofs.approved.Statement.{statement}
 use Rattle.acts.proofs.approved.Tie as tie
 
+reports-requires : tie.Need-reports-requires
+reports-requires c κs = search needs
+
+slice-aggregate-safe-by : tie.Need-slice-aggregate-safe-by
+slice-aggregate-safe-by c = search needs
+
+safe-by-requires : tie.Need-safe-by-requires
+safe-by-requires c κs = search needs
+
 returns : tie.Need-returns
 returns c =
-    let e = c .before .before in
-    approvedFirst (e .args .rec .now) (e .pre .2) (c .if1 .taken) (e .args .p)
-
-approved-by-reports-requires : tie.Need-approved-by-reports-requires
-approved-by-reports-requires c κs = search needs
-
-returns-2 : tie.Need-returns-2
-returns-2 c = search needs
+    let table = c .before .before in
+    let e = table .before .before in
+    let a = e .args in
+    let told : c .safe-by .result ≡ safe rule3 (vaultsOf (a .set)) (reportsInTable (table .reports .result)) (a .view) (a .p) = c .safe-by .ensures in
+    told ∙ approvedIs _ _ (e .pre) (table .reports .result) (a .p) (table .reports .ensures)
 
 pub approved-spec : {M : Type 1} → statement M
-approved-spec = tie.close (tie.spec returns approved-by-reports-requires returns-2)
+approved-spec =
+    tie.close (tie.spec reports-requires slice-aggregate-safe-by safe-by-requires returns)

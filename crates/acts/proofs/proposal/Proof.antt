@@ -1,23 +1,32 @@
--- `acts::proposal` meets its contract: in view 0 the starting plan, else the plan that the reports give.
+-- `acts::proposal` meets its contract: the search goes by the table of the suggests kept.
 -- Assumes nothing.
-use Rattle.acts.proofs.First.{proposedFirst}
+use mathlib.Core.Path.{_∙_}
+use Rattle.acts.proofs.First.{proposalIs}
 use borrow.Author.Needs.{needs}
+use native.Mathlib.Omega.{arith}
 use Rattle.acts.proofs.proposal.Statement.{statement}
 use Rattle.acts.proofs.proposal.Tie as tie
+
+reports-requires : tie.Need-reports-requires
+reports-requires c κs = search needs
+
+slice-aggregate-choose : tie.Need-slice-aggregate-choose
+slice-aggregate-choose c = search needs
 
 plan-of-requires : tie.Need-plan-of-requires
 plan-of-requires c κs = search needs
 
+choose-requires : tie.Need-choose-requires
+choose-requires c κs = search needs
+
 returns : tie.Need-returns
 returns c =
-    let e = c .before .before .before in
-    proposedFirst (e .args .rec .now) (e .pre .2) (c .before .if1 .taken) (c .plan-of .result) (c .plan-of .ensures)
-
-plan-by-reports-requires : tie.Need-plan-by-reports-requires
-plan-by-reports-requires c κs = search needs
-
-returns-2 : tie.Need-returns-2
-returns-2 c = search needs
+    let start = c .before in
+    let table = start .before .before in
+    let r = table .before .before .pre in
+    c .choose .ensures ∙ proposalIs _ _ r (table .reports .result) (start .plan-of .result) (table .reports .ensures) (start .plan-of .ensures)
 
 pub proposal-spec : {M : Type 1} → statement M
-proposal-spec = tie.close (tie.spec plan-of-requires returns plan-by-reports-requires returns-2)
+proposal-spec =
+    tie.close
+    (tie.spec reports-requires slice-aggregate-choose plan-of-requires choose-requires returns)
