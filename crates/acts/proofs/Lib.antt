@@ -4,4 +4,4 @@ pub mod Asked
 pub mod Agreed
 pub mod Proposals
 pub mod Numbers
-pub mod First
+pub mod Searched

@@ -1,4 +1,4 @@
--- The record that lent bytes spell, seen through the two parts that steps are lent: its slots are those of the shared part, and then
+-- The record that ready bytes spell, seen through the two parts that steps are lent: its slots are those of the shared part, and then
 -- those of the block. The settings and the current view are at hand, as the caller has read them.
 -- Assumes nothing.
 use Prim.Native.Nat.{ℕ, _+_, _≤_, _<_}

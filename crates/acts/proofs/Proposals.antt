@@ -1,5 +1,5 @@
--- Steps C and D by slots (document 01, 'One pass'): who leads, what was sent and what is proposed stand in slots, and the plans
--- that are safe by the reports in the table are those that are safe by the reports kept.
+-- Steps C and D by slots (document 01, 'One pass'): who leads, what was sent and what is proposed stand in slots. What is safe is told
+-- by the search.
 -- Assumes nothing.
 use Prim.Native.Nat.{ℕ, _<_}
 use mathlib.Core.Path.{_≡_, sym, _∙_, ap}
@@ -11,11 +11,7 @@ use native.Mathlib.Omega.{arith}
 use lib.Dec.{eqb}
 use borrow.Author.Tests.{eq-eqb, ne-eqb}
 use Rattle.rules.specs.Options.{isNone}
-use Rattle.rules.specs.Rules.{rule1, rule3}
-use Rattle.rules.specs.inside.Counts.{safe, choice}
-use Rattle.claims.specs.Table.{reportsInTable}
 use Rattle.frame.specs.Refusal.{leaderOf}
-use Rattle.settings.specs.Vaults.{vaultsOf}
 use Rattle.record.specs.Slots as slots
 use Rattle.record.specs.Slots.{frameSlot}
 use Rattle.layout.specs.Layout.{slotIn}
@@ -25,10 +21,9 @@ use Rattle.protocol.proofs.Tables.{eachNone, whenFalse}
 use Rattle.contents.specs.Contents.{contents}
 use Rattle.tally.specs.inside.Parts.{blockPart, blockPlace}
 use Rattle.tally.specs.inside.Votes.{voted, voteIn}
-use Rattle.tally.specs.inside.Reports.{reportsBy, Filled}
 use Rattle.acts.specs.inside.Proposals.{proposalOf, approvedBy}
 use Rattle.acts.specs.inside.Lent.{Reads}
-use Rattle.acts.proofs.Kept.{planAt, tableIs}
+use Rattle.acts.proofs.Kept.{planAt}
 use Rattle.tally.proofs.Votes.{votedPlan, toldNone}
 use Rattle.acts.proofs.Agreed.{sentSame}
 

@@ -11,7 +11,7 @@ use native.Mathlib.Omega.{arith}
 use native.Mathlib.Decide.{ℕ-discrete}
 use native.Mathlib.Numerals.{add-one}
 use lib.Dec.{leb, eqb}
-use borrow.Author.Tests.{eq-eqb, ne-eqb, le-leb, lt-leb}
+use borrow.Author.Tests.{eq-eqb, ne-eqb}
 use Rattle.quorum.specs.Sets.{equals, weigh}
 use Rattle.quorum.proofs.Bools.{notTrue}
 use Rattle.quorum.proofs.Laws.{quorumWeighs, totalEquals, quorumCount}
@@ -217,14 +217,10 @@ module _ (vote : ℕ → Option ℕ) (n f : ℕ) where
       counts : leb (n - f) count ≡ quorumFor vote n f (leading vote n .plan)
       counts = quorumCount n f (λ j. holds (eqb (b .plan)) (vote j)) count counted ∙ ap (λ (x : Lead). quorumFor vote n f (x .plan)) leadIs
 
-      -- Too few were: no plan is agreed on.
-      pub agreedOther : count < n - f → none ≡ agreedIn vote n f
-      agreedOther few = agreedNone (sym counts ∙ lt-leb (n - f) count few)
-
-      -- Enough were: that plan is.
-      pub agreedOn : n - f ≤ count → some (b .plan) ≡ agreedIn vote n f
+      -- So that plan is agreed on where enough were counted, and otherwise none is.
+      pub agreedCount : cond (leb (n - f) count) (some (b .plan)) none ≡ agreedIn vote n f
       unfolding agreedIn
-      agreedOn enough = rw (← counts, le-leb (n - f) count enough) (ap (λ (x : Lead). some (x .plan)) leadIs)
+      agreedCount = λ i. cond (counts i) (some (leadIs i .plan)) none
 
   -- A quorum is for no other plan than the one that leads.
   pub onlyLead : 3 * f < n → (q : ℕ) → quorumFor vote n f q ≡ true → q ≡ leading vote n .plan

@@ -4,7 +4,6 @@ use mathlib.Core.Path.{_∙_, ap}
 use Rattle.protocol.specs.Pass.{actA}
 use Rattle.acts.proofs.Asked.{asksFor, silent}
 use borrow.Author.Needs.{needs}
-use native.Mathlib.Omega.{arith}
 use Rattle.acts.proofs.act_a.Statement.{statement}
 use Rattle.acts.proofs.act_a.Tie as tie
 

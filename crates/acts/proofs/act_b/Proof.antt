@@ -4,7 +4,6 @@ use mathlib.Core.Path.{_∙_, ap}
 use Rattle.protocol.specs.Pass.{actB}
 use Rattle.acts.proofs.Asked.{enters, stays}
 use borrow.Author.Needs.{needs}
-use native.Mathlib.Omega.{arith}
 use Rattle.acts.proofs.act_b.Statement.{statement}
 use Rattle.acts.proofs.act_b.Tie as tie
 

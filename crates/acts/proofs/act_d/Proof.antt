@@ -9,7 +9,6 @@ use Rattle.contents.specs.Contents.{contentsIn}
 use Rattle.acts.specs.inside.Proposals.{approvedBy}
 use Rattle.acts.proofs.Proposals.{votedOnce, unproposed, votesOne}
 use borrow.Author.Needs.{needs}
-use native.Mathlib.Omega.{arith}
 use Rattle.acts.proofs.act_d.Statement.{statement}
 use Rattle.acts.proofs.act_d.Tie as tie
 

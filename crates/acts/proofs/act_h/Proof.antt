@@ -9,7 +9,6 @@ use Rattle.protocol.specs.Pass.{decide, actH}
 use Rattle.contents.specs.Contents.{contentsIn}
 use Rattle.acts.proofs.Agreed.{decidedAlready, decides}
 use borrow.Author.Needs.{needs}
-use native.Mathlib.Omega.{arith}
 use Rattle.acts.proofs.act_h.Statement.{statement}
 use Rattle.acts.proofs.act_h.Tie as tie
 

@@ -9,7 +9,6 @@ use Rattle.protocol.specs.Pass.{cast, actVote}
 use Rattle.contents.specs.Contents.{contentsIn}
 use Rattle.acts.proofs.Agreed.{voteSent, voteActs}
 use borrow.Author.Needs.{needs}
-use native.Mathlib.Omega.{arith}
 use Rattle.acts.proofs.act_vote.Statement.{statement}
 use Rattle.acts.proofs.act_vote.Tie as tie
 
@@ -50,6 +49,7 @@ add-t14 c = search needs
 enum-told : tie.Need-enum-told
 enum-told c = search needs
 
+-- What the function was lent.
 abbrev entry : tie.After-agreed-plan → tie.Start
 entry c = c .before .before .before .before .before .before
 

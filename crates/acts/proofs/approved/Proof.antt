@@ -5,9 +5,8 @@ use Rattle.rules.specs.Rules.{rule3}
 use Rattle.rules.specs.inside.Counts.{safe}
 use Rattle.claims.specs.Table.{reportsInTable}
 use Rattle.settings.specs.Vaults.{vaultsOf}
-use Rattle.acts.proofs.First.{approvedIs}
+use Rattle.acts.proofs.Searched.{approvedIs}
 use borrow.Author.Needs.{needs}
-use native.Mathlib.Omega.{arith}
 use Rattle.acts.proofs.approved.Statement.{statement}
 use Rattle.acts.proofs.approved.Tie as tie
 

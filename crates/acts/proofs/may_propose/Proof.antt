@@ -4,7 +4,6 @@ use mathlib.Core.Path.{_∙_, ap}
 use Rattle.protocol.specs.Pass.{mayPropose}
 use Rattle.acts.proofs.Proposals.{leadsNot, leadsOwn}
 use borrow.Author.Needs.{needs}
-use native.Mathlib.Omega.{arith}
 use Rattle.acts.proofs.may_propose.Statement.{statement}
 use Rattle.acts.proofs.may_propose.Tie as tie
 

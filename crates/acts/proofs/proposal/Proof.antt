@@ -1,9 +1,8 @@
 -- `acts::proposal` meets its contract: the search goes by the table of the suggests kept.
 -- Assumes nothing.
 use mathlib.Core.Path.{_∙_}
-use Rattle.acts.proofs.First.{proposalIs}
+use Rattle.acts.proofs.Searched.{proposalIs}
 use borrow.Author.Needs.{needs}
-use native.Mathlib.Omega.{arith}
 use Rattle.acts.proofs.proposal.Statement.{statement}
 use Rattle.acts.proofs.proposal.Tie as tie
 

@@ -4,9 +4,8 @@ use mathlib.Core.Path.{_∙_, ap}
 use Rattle.protocol.specs.Record.{Record}
 use Rattle.acts.specs.inside.Proposals.{reportsIn}
 use Rattle.acts.proofs.Kept.{tableIs}
-use Rattle.acts.proofs.First.{searchedFirst}
+use Rattle.acts.proofs.Searched.{searchedFirst}
 use borrow.Author.Needs.{needs}
-use native.Mathlib.Omega.{arith}
 use Rattle.acts.proofs.reports.Statement.{statement}
 use Rattle.acts.proofs.reports.Tie as tie
 

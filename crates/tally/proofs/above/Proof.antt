@@ -1,6 +1,5 @@
 -- `tally::above` meets its contract: the mark tells whether there is a vote.
 -- Assumes nothing.
-use Prim.Native.Nat.{ℕ, _+_}
 use borrow.Author.Tests.{eq-eqb, ne-eqb}
 use Rattle.tally.specs.inside.Reports.{aboveOf}
 use borrow.Author.Needs.{needs}

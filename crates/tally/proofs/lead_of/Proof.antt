@@ -58,7 +58,8 @@ loop-again c =
     let at = c .before .before .before .before in
     let e = at .before .before in
     let a = e .args in
-    (omega arith, leadMore (votes (a .block .now) (a .v) (a .from)) (at .loop .j) (at .loop .b) (c .lead-after .result) (at .loop .inv .1) (c .lead-after .ensures))
+    let next = c .lead-after in
+    (omega arith, leadMore (votes (a .block .now) (a .v) (a .from)) (at .loop .j) (at .loop .b) (next .result) (at .loop .inv .1) (next .ensures))
 
 returns-2 : tie.Need-returns-2 Inv-loop μ-loop
 returns-2 c =

@@ -34,7 +34,8 @@ toldIn block kind j = record {
 -- 'Reports are those in kept suggests (Rule 1) or proofs (Rule 3) of view v'.
 unfoldable pub reportsBy : List ℕ → ℕ → ℕ → Reports
 reportsBy block kind v j =
-    cond (present (slotIn block (blockPlace (frameSlot kind j))) && eqb (slotIn block (blockPlace (frameSlot kind j)) .view) v) (some (toldIn block kind j)) none
+    cond (present (slotIn block (blockPlace (frameSlot kind j))) && eqb (slotIn block (blockPlace (frameSlot kind j)) .view) v)
+    (some (toldIn block kind j)) none
 
 -- The table with a vote in two columns.
 abbrev pub withVote : List ℕ → ℕ → Slot.Report → List ℕ

@@ -1,5 +1,5 @@
--- View 0 (document 01, 'in view 0 every plan is safe'): what is safe, and which plan is chosen, does not depend on reports there. So
--- the search may go by a table in which no report was put.
+-- The table that the search for safe plans goes by (document 01, 'in view 0 every plan is safe'): what is safe there, and which plan is
+-- chosen, does not depend on reports, so that a table will do in which none was put. In later views it has the reports kept.
 -- Assumes nothing.
 use Prim.Native.Nat.{ℕ, zero, suc}
 use mathlib.Core.Path.{_≡_, refl, sym, _∙_, ap}
