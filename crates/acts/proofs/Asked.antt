@@ -24,9 +24,9 @@ use Rattle.protocol.proofs.Tables.{highestHas, highestMost}
 use Rattle.contents.specs.Contents.{contents}
 use Rattle.tally.specs.inside.Parts.{sharedPart}
 use Rattle.tally.specs.inside.Changes.{changeIn, newsFrom, askers, enough, Highest}
+use Rattle.tally.proofs.Changes.{highestBoth}
 use Rattle.acts.specs.inside.Lent.{Reads}
 use Rattle.acts.proofs.Kept.{changeAt}
-use Rattle.tally.proofs.Changes.{highestBoth}
 
 -- ---- the highest
 

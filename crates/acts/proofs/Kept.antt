@@ -28,9 +28,9 @@ use Rattle.tally.specs.inside.Parts.{sharedPart, blockPart, blockPlace}
 use Rattle.tally.specs.inside.Changes.{asks, changeIn}
 use Rattle.tally.specs.inside.Votes.{voted, voteIn}
 use Rattle.tally.specs.inside.Reports.{aboveOf, voteBy, reportsBy, Filled}
+use Rattle.tally.proofs.Reports.{filledSame, filledAll}
 use Rattle.acts.specs.inside.Lent.{Reads}
 use Rattle.acts.specs.inside.Proposals.{reportsIn}
-use Rattle.tally.proofs.Reports.{filledSame, filledAll}
 
 -- An option that a test lets pass, as the slots have it.
 whenIs : {A : Type 0} (b : Bool) (x : A) → when b (some x) ≡ cond b (some x) none

@@ -21,10 +21,10 @@ use Rattle.protocol.proofs.Tables.{eachNone, whenFalse}
 use Rattle.contents.specs.Contents.{contents}
 use Rattle.tally.specs.inside.Parts.{blockPart, blockPlace}
 use Rattle.tally.specs.inside.Votes.{voted, voteIn}
+use Rattle.tally.proofs.Votes.{votedPlan, toldNone}
 use Rattle.acts.specs.inside.Proposals.{proposalOf, approvedBy}
 use Rattle.acts.specs.inside.Lent.{Reads}
 use Rattle.acts.proofs.Kept.{planAt}
-use Rattle.tally.proofs.Votes.{votedPlan, toldNone}
 use Rattle.acts.proofs.Agreed.{sentSame}
 
 module _ (s : List ℕ) (r : slots.Record) (reads : Reads s r) where

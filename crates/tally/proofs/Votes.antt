@@ -223,9 +223,24 @@ module _ (vote : ℕ → Option ℕ) (n f : ℕ) where
       agreedCount = λ i. cond (counts i) (some (leadIs i .plan)) none
 
   -- A quorum is for no other plan than the one that leads.
-  pub onlyLead : 3 * f < n → (q : ℕ) → quorumFor vote n f q ≡ true → q ≡ leading vote n .plan
+  onlyLead : 3 * f < n → (q : ℕ) → quorumFor vote n f q ≡ true → q ≡ leading vote n .plan
   onlyLead third q h = go (ℕ-discrete q (leading vote n .plan))
     where
       go : Dec (q ≡ leading vote n .plan) → q ≡ leading vote n .plan
       go (yes e) = e
       go (no off) = absurd (omega (arith, quorumIs q h, aheadLeads vote n .other q off, aheadLeads vote n .most))
+
+  -- So a plan that a quorum is for is agreed on.
+  pub agreedWhere : 3 * f < n → (q : ℕ) → quorumFor vote n f q ≡ true → agreedIn vote n f ≡ some q
+  unfolding agreedIn
+  agreedWhere third q h =
+      ap (λ (p : ℕ). cond (quorumFor vote n f p) (some p) none) (sym (onlyLead third q h)) ∙ ap (λ (b : Bool). cond b (some q) none) h
+
+  -- And a quorum is for the plan agreed on.
+  pub agreedHas : (q : ℕ) → agreedIn vote n f ≡ some q → quorumFor vote n f q ≡ true
+  unfolding agreedIn
+  agreedHas q e = go (quorumFor vote n f (leading vote n .plan)) refl e
+    where
+      go : (b : Bool) → quorumFor vote n f (leading vote n .plan) ≡ b → cond b (some (leading vote n .plan)) none ≡ some q → quorumFor vote n f q ≡ true
+      go true on is = let same : q ≡ leading vote n .plan = cc in ap (quorumFor vote n f) same ∙ on
+      go false off is = let z : _≡_ {A = ℕ} 0 1 = cc in absurd (omega arith)

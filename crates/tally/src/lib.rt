@@ -236,10 +236,10 @@ pub fn gather(block: &[u8], kind: u8, n: u8, v: u32) -> [u64; claims::TABLE]
 // ---- votes, for E to H
 
 // The plan that leads among votes, by how many, and how many the votes are.
-pub struct Lead {
-    pub plan: u64,
-    pub margin: usize,
-    pub votes: usize,
+struct Lead {
+    plan: u64,
+    margin: usize,
+    votes: usize,
 }
 
 // The lead, with a vote for x counted.
