@@ -2,9 +2,9 @@
 -- by the search.
 -- Assumes nothing.
 use Prim.Native.Nat.{ℕ, _<_}
-use mathlib.Core.Path.{_≡_, sym, _∙_, ap}
+use mathlib.Core.Path.{_≡_, refl, sym, _∙_, ap}
 use mathlib.Core.Logic.{_≢_}
-use mathlib.Core.Bool.{Bool, true, false, not, _&&_}
+use mathlib.Core.Bool.{Bool, true, false, cond, not, _&&_}
 use mathlib.Core.List.{List}
 use mathlib.Core.Option.{Option, none, some}
 use native.Mathlib.Omega.{arith}
@@ -22,10 +22,11 @@ use Rattle.contents.specs.Contents.{contents}
 use Rattle.tally.specs.inside.Parts.{blockPart, blockPlace}
 use Rattle.tally.specs.inside.Votes.{voted, voteIn}
 use Rattle.tally.proofs.Votes.{votedPlan, toldNone}
-use Rattle.acts.specs.inside.Proposals.{proposalOf, approvedBy}
+use Rattle.acts.specs.inside.Proposals.{proposalOf, approvedBy, safePlan}
 use Rattle.acts.specs.inside.Lent.{Reads}
 use Rattle.acts.proofs.Kept.{planAt}
 use Rattle.acts.proofs.Agreed.{sentSame}
+use Rattle.acts.proofs.Searched.{planThree}
 
 module _ (s : List ℕ) (r : slots.Record) (reads : Reads s r) where
   -- ---- C
@@ -88,12 +89,17 @@ module _ (s : List ℕ) (r : slots.Record) (reads : Reads s r) where
         unproposed off = actOn none (toldNone proposed (sym kept ∙ off))
 
         -- 'and safe by Rule 3: vote-1'.
-        pub votesOne : told ≡ false → there ≡ true → (p : ℕ) (b : Bool) → p ≡ slotIn (blockPart s) at .plan → b ≡ approvedBy (contents r) p
-            → when b (some (cast 1 p)) ≡ actD (contents r)
-        votesOne unsent on p b plan e =
+        pub votesOne : told ≡ false → there ≡ true → (p : ℕ) (o : Option ℕ) → p ≡ slotIn (blockPart s) at .plan → o ≡ safePlan (contents r) 8 p
+            → each o (λ q. some (cast 1 q)) ≡ actD (contents r)
+        votesOne unsent on p o plan e =
             let off : false ≡ sentNow (contents r) 1 = sym unsent ∙ votedIs in
             let is-p : proposed ≡ some p = votedPlan (r .view) (slotIn (blockPart s) at) (sym kept ∙ on) ∙ ap some (sym plan) in
-            (λ i. when (not (off i) && e i) (some (cast 1 p))) ∙ actOn (some p) is-p
+            ap (λ (x : Option ℕ). each x (λ q. some (cast 1 q))) (e ∙ planThree (contents r) p) ∙ by (approvedBy (contents r) p)
+            ∙ (λ i. when (not (off i) && approvedBy (contents r) p) (some (cast 1 p))) ∙ actOn (some p) is-p
+          where
+            by : (b : Bool) → each (cond b (some p) none) (λ q. some (cast 1 q)) ≡ when b (some (cast 1 p))
+            by true = refl
+            by false = refl
 
 -- C. 'A leader that has not proposed in this view proposes .., else waits.'
 module _ (c : Record) (may : Bool) (is : may ≡ mayPropose c) where

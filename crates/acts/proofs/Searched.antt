@@ -1,52 +1,85 @@
--- The table that the search for safe plans goes by (document 01, 'in view 0 every plan is safe'): what is safe there, and which plan is
--- chosen, does not depend on reports, so that a table will do in which none was put. In later views it has the reports kept.
+-- What the search for safe plans tells (document 01, 'When a plan is safe'): by the table of the reports kept it tells what is safe by
+-- the record's contents. In view 0 every plan is safe, whatever the reports.
 -- Assumes nothing.
-use Prim.Native.Nat.{ℕ, zero, suc}
-use mathlib.Core.Path.{_≡_, refl, sym, _∙_, ap}
+use Prim.Native.Nat.{ℕ, _≤_}
+use mathlib.Core.Path.{_≡_, refl, sym, _∙_, ap, subst}
 use mathlib.Core.Logic.{_≢_}
+use mathlib.Core.Bool.{Bool, true, false, cond}
 use mathlib.Core.List.{List}
-use native.Mathlib.Omega.{arith}
-use lib.ListN.{replicate, length-replicate}
+use mathlib.Core.Option.{none, some}
+use lib.Dec.{eqb}
+use borrow.Author.Tests.{eq-eqb, ne-eqb}
 use Rattle.quorum.specs.Sets.{Vaults}
 use Rattle.rules.specs.Rules.{Reports, Rule, rule3}
 use Rattle.rules.specs.inside.Counts.{safe, choice}
-use Rattle.claims.specs.Table.{tableSize, reportsInTable}
+use Rattle.claims.specs.Table.{reportsInTable}
 use Rattle.settings.specs.Vaults.{vaultsOf}
 use Rattle.record.specs.Slots as slots
+use Rattle.layout.specs.Layout.{decodeRecord}
 use Rattle.protocol.specs.Record.{Record}
 use Rattle.contents.specs.Contents.{contents, contentsIn}
+use Rattle.tally.specs.inside.Parts.{blockPart}
+use Rattle.tally.specs.inside.Reports.{reportsBy, Filled}
 use Rattle.acts.specs.inside.Lent.{Reads}
-use Rattle.acts.specs.inside.Proposals.{proposalOf, approvedBy, reportsIn, Searched}
+use Rattle.acts.specs.inside.Proposals.{proposalOf, approvedBy, reportsIn, safePlan}
+use Rattle.acts.proofs.Kept.{tableIs}
 
--- Reports that are the same but in view 0 make the same plans safe.
-safeSame : (rule : Rule) (vs : Vaults) (a b : Reports) (v p : ℕ) → (v ≢ 0 → a ≡ b) → safe rule vs a v p ≡ safe rule vs b v p
+-- In view 0 every plan is safe, whatever the reports.
+safeFirst : (rule : Rule) (vs : Vaults) (rs : Reports) (v p : ℕ) → v ≡ 0 → safe rule vs rs v p ≡ true
 unfolding safe
-safeSame rule vs a b zero p same = refl
-safeSame rule vs a b (suc v) p same = ap (λ (rs : Reports). safe rule vs rs (suc v) p) (same (λ (e : suc v ≡ 0). omega arith))
+safeFirst rule vs rs v p e = subst (λ (w : ℕ). safe rule vs rs w p ≡ true) (sym e) refl
 
--- And they give the same choice.
-choiceSame : (vs : Vaults) (a b : Reports) (v start : ℕ) → (v ≢ 0 → a ≡ b) → choice vs a v start ≡ choice vs b v start
+-- So the first plan tried is the choice there.
+choiceFirst : (vs : Vaults) (rs : Reports) (v p : ℕ) → v ≡ 0 → choice vs rs v p ≡ some p
 unfolding choice safe
-choiceSame vs a b zero start same = refl
-choiceSame vs a b (suc v) start same = ap (λ (rs : Reports). choice vs rs (suc v) start) (same (λ (e : suc v ≡ 0). omega arith))
+choiceFirst vs rs v p e = subst (λ (w : ℕ). choice vs rs w p ≡ some p) (sym e) refl
 
--- In view 0 the search may go by a table of zeros.
-pub searchedFirst : (reports : Reports) (view : ℕ) → view ≡ 0 → Searched reports view (replicate {A = ℕ} tableSize 0)
-searchedFirst reports view first = record { size = length-replicate {A = ℕ} tableSize 0; same = λ later. absurd (later first) }
+module _ (s : List ℕ) (r : slots.Record) (reads : Reads s r) (kind p : ℕ) where
+  -- What is safe by a record is safe by the bytes that spell it.
+  spells : safePlan (contents r) kind p ≡ safePlan (contentsIn s) kind p
+  spells = ap (λ (c : Record). safePlan c kind p) (reads .spelt)
 
-module _ (s : List ℕ) (r : slots.Record) (reads : Reads s r) (t : List ℕ) where
-  -- 'proposes its starting plan if that is safe by Rule 1, else the smallest safe plan': by the table of the suggests kept.
-  pub proposalIs : (start : ℕ) → Searched (reportsIn (contentsIn s) 7) (r .view) t → start ≡ r .plan
-      → choice (vaultsOf (r .set)) (reportsInTable t) (r .view) start ≡ proposalOf (contentsIn s)
-  unfolding contents
-  proposalIs start table plan =
-      choiceSame (vaultsOf (r .set)) (reportsInTable t) (reportsIn (contentsIn s) 7) (r .view) start (table .same)
-      ∙ (λ i. choice (vaultsOf (r .set)) (reportsIn (sym (reads .spelt) i) 7) (r .view) (plan i)) ∙ ap proposalOf (reads .spelt)
+  -- In view 0, p is safe.
+  pub plannedFirst : r .view ≡ 0 → some p ≡ safePlan (contentsIn s) kind p
+  unfolding contents safePlan
+  plannedFirst e = go ∙ spells
+    where
+      both : (b : Bool) → some p ≡ cond b (some p) (some p)
+      both true = refl
+      both false = refl
 
-  -- 'safe by Rule 3': by the table of the proofs kept.
-  pub approvedIs : (p : ℕ) → Searched (reportsIn (contentsIn s) 8) (r .view) t
-      → safe rule3 (vaultsOf (r .set)) (reportsInTable t) (r .view) p ≡ approvedBy (contentsIn s) p
-  unfolding contents
-  approvedIs p table =
-      safeSame rule3 (vaultsOf (r .set)) (reportsInTable t) (reportsIn (contentsIn s) 8) (r .view) p (table .same)
-      ∙ (λ i. safe rule3 (vaultsOf (r .set)) (reportsIn (sym (reads .spelt) i) 8) (r .view) p) ∙ ap (λ (c : Record). approvedBy c p) (reads .spelt)
+      go : some p ≡ safePlan (contents r) kind p
+      go =
+          rw (choiceFirst (vaultsOf (r .set)) (reportsIn (contents r) kind) (r .view) p e)
+          (rw (safeFirst rule3 (vaultsOf (r .set)) (reportsIn (contents r) kind) (r .view) p e) (both (eqb kind 7)))
+
+  module _ (low : 7 ≤ kind) (high : kind ≤ 8) (t : List ℕ) (table : Filled (reportsBy (blockPart s) kind (r .view)) (r .set .n) t) where
+    -- By suggests, it is what the search chooses.
+    pub plannedOne : kind ≡ 7 → choice (vaultsOf (r .set)) (reportsInTable t) (r .view) p ≡ safePlan (contentsIn s) kind p
+    unfolding contents safePlan
+    plannedOne e = go ∙ spells
+      where
+        go : choice (vaultsOf (r .set)) (reportsInTable t) (r .view) p ≡ safePlan (contents r) kind p
+        go = rw (eq-eqb kind 7 e) (ap (λ (rs : Reports). choice (vaultsOf (r .set)) rs (r .view) p) (tableIs s r reads kind low high t table))
+
+    -- By proofs, it is p where the search says so.
+    pub plannedThree : kind ≢ 7 → (b : Bool) → b ≡ safe rule3 (vaultsOf (r .set)) (reportsInTable t) (r .view) p
+        → cond b (some p) none ≡ safePlan (contentsIn s) kind p
+    unfolding contents safePlan
+    plannedThree off b is = go ∙ spells
+      where
+        told : b ≡ safe rule3 (vaultsOf (r .set)) (reportsIn (contents r) kind) (r .view) p
+        told = is ∙ ap (λ (rs : Reports). safe rule3 (vaultsOf (r .set)) rs (r .view) p) (tableIs s r reads kind low high t table)
+
+        go : cond b (some p) none ≡ safePlan (contents r) kind p
+        go = rw (ne-eqb kind 7 off) (ap (λ (x : Bool). cond x (some p) none) told)
+
+-- By suggests, with the starting plan as p, it is C's plan.
+pub planOne : (s : List ℕ) (start : ℕ) → start ≡ decodeRecord s .plan → safePlan (contentsIn s) 7 start ≡ proposalOf (contentsIn s)
+unfolding contents safePlan
+planOne s start e = ap (choice (vaultsOf (decodeRecord s .set)) (reportsIn (contentsIn s) 7) (decodeRecord s .view)) e
+
+-- By proofs it is the plan that D asks for, where that is safe.
+pub planThree : (c : Record) (p : ℕ) → safePlan c 8 p ≡ cond (approvedBy c p) (some p) none
+unfolding safePlan
+planThree c p = refl

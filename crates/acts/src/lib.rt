@@ -12,7 +12,7 @@ ghost use Rattle.contents.specs.Contents.{contentsIn};
 ghost use Rattle.contents.specs.inside.Ready.{Ready};
 ghost use Rattle.acts.specs.inside.Acts.{asAct, actAt};
 ghost use Rattle.acts.specs.inside.Lent.{Lent};
-ghost use Rattle.acts.specs.inside.Proposals.{proposalOf, approvedBy, reportsIn, Searched};
+ghost use Rattle.acts.specs.inside.Proposals.{safePlan};
 
 // What a step does: ask for a view, enter it, send a vote (0: a proposal) for a plan, decide a plan, or nothing.
 pub enum Act {
@@ -69,25 +69,23 @@ fn may_propose(rec: &[u8], set: Settings, view: u32) -> bool
     !tally::sent(&rec[layout::SHARED..layout::SIZE], 0, set.id, view)
 }
 
-// The table of reports for the search: those kept of this view, in suggests (kind 7) or proofs (kind 8).
+// What is safe by the reports kept of this view. In suggests (kind 7), for C: p, else the smallest safe plan. In proofs (kind 8), for D: p.
 // In view 0 every plan is safe, and no report is read.
-fn reports(rec: &[u8], set: Settings, view: u32, kind: u8) -> [u64; claims::TABLE]
+fn safe_plan(rec: &[u8], set: Settings, view: u32, kind: u8, p: u64) -> Choice
     requires { ⌜ Lent (now rec) set view × (7 ≤ kind) × (kind ≤ 8) ⌝ }
-    ensures { λ t. ⌜ Searched (reportsIn (contentsIn (now (rec .entry))) kind) view t ⌝ }
+    ensures { λ c. ⌜ chosen c ≡ safePlan (contentsIn (now (rec .entry))) kind p ⌝ }
 {
     if view == 0 {
-        return [0u64; claims::TABLE];
+        return Choice::Plan(p);
     }
-    tally::gather(&rec[layout::SHARED..layout::SIZE], kind, set.n, view)
-}
-
-// The plan to propose.
-fn proposal(rec: &[u8], set: Settings, view: u32) -> Choice
-    requires { ⌜ Lent (now rec) set view ⌝ }
-    ensures { λ c. ⌜ chosen c ≡ proposalOf (contentsIn (now (rec .entry))) ⌝ }
-{
-    let table = reports(rec, set, view, numbers::SUGGEST);
-    safe::choose(&table, set, view, layout::plan_of(rec))
+    let table = tally::gather(&rec[layout::SHARED..layout::SIZE], kind, set.n, view);
+    if kind == numbers::SUGGEST {
+        return safe::choose(&table, set, view, p);
+    }
+    if safe::safe_by(&table, set, view, p, true) {
+        return Choice::Plan(p);
+    }
+    Choice::Nothing
 }
 
 // Step C.
@@ -96,22 +94,13 @@ fn act_c(rec: &[u8], set: Settings, view: u32) -> Act
     ensures { λ r. ⌜ asAct r ≡ actC (contentsIn (now (rec .entry))) ⌝ }
 {
     if may_propose(rec, set, view) {
-        let choice = proposal(rec, set, view);
+        let choice = safe_plan(rec, set, view, numbers::SUGGEST, layout::plan_of(rec));
         let Choice::Plan(p) = choice else {
             return Act::Nothing;
         };
         return Act::Cast(0, p);
     }
     Act::Nothing
-}
-
-// Whether a plan is safe by Rule 3.
-fn approved(rec: &[u8], set: Settings, view: u32, p: u64) -> bool
-    requires { ⌜ Lent (now rec) set view ⌝ }
-    ensures { λ b. ⌜ b ≡ approvedBy (contentsIn (now (rec .entry))) p ⌝ }
-{
-    let table = reports(rec, set, view, numbers::PROOF);
-    safe::safe_by(&table, set, view, p, true)
 }
 
 // Step D.
@@ -125,11 +114,11 @@ fn act_d(rec: &[u8], set: Settings, view: u32) -> Act
     }
     let at = tally::vote_place(0, tally::leader(view, set.n as usize) as u8);
     if tally::is_of_view(block, at, view) {
-        let p = layout::plan_at(block, at);
-        if approved(rec, set, view, p) {
-            return Act::Cast(1, p);
-        }
-        return Act::Nothing;
+        let choice = safe_plan(rec, set, view, numbers::PROOF, layout::plan_at(block, at));
+        let Choice::Plan(p) = choice else {
+            return Act::Nothing;
+        };
+        return Act::Cast(1, p);
     }
     Act::Nothing
 }

@@ -1,12 +1,13 @@
 -- `acts::act_d` meets its contract: vote-1 was not sent, the leader's proposal is kept, and the search says whether it is safe.
 -- Assumes nothing.
+use Prim.Native.Nat.{ℕ}
 use mathlib.Core.Path.{_≡_, sym, _∙_, ap}
-use mathlib.Core.Bool.{Bool, true, false}
-use mathlib.Core.Option.{some}
-use Rattle.protocol.specs.Record.{Record, when}
+use mathlib.Core.Option.{Option, none, some}
+use Rattle.safe.specs.Choices.{chosen}
+use Rattle.protocol.specs.Record.{Record, each}
 use Rattle.protocol.specs.Pass.{cast, actD}
 use Rattle.contents.specs.Contents.{contentsIn}
-use Rattle.acts.specs.inside.Proposals.{approvedBy}
+use Rattle.acts.specs.inside.Proposals.{safePlan}
 use Rattle.acts.proofs.Proposals.{votedOnce, unproposed, votesOne}
 use borrow.Author.Needs.{needs}
 use Rattle.acts.proofs.act_d.Statement.{statement}
@@ -48,17 +49,23 @@ is-of-view-requires c κs = search needs
 plan-at-requires : tie.Need-plan-at-requires
 plan-at-requires c κs = search needs
 
-approved-requires : tie.Need-approved-requires
-approved-requires c κs = search needs
+safe-plan-requires : tie.Need-safe-plan-requires
+safe-plan-requires c κs = search needs
+
+enum-known-choice : tie.Need-enum-known-choice
+enum-known-choice c = search needs
+
+enum-told : tie.Need-enum-told
+enum-told c = search needs
 
 -- Where it was asked whether vote-1 was sent.
-abbrev asked : tie.After-approved → tie.After-sent
+abbrev asked : tie.After-safe-plan → tie.After-sent
 asked c = c .before .before .before .before .before .before .before .before
 
 -- The search has told whether the proposal is safe.
-told : (c : tie.After-approved) (b : Bool) → c .approved .result ≡ b
-    → when b (some (cast 1 (c .before .plan-at .result))) ≡ actD (contentsIn (asked c .before .before .before .args .rec .now))
-told c b is =
+told : (c : tie.After-safe-plan) (o : Option ℕ) → chosen (c .safe-plan .result) ≡ o
+    → each o (λ p. some (cast 1 p)) ≡ actD (contentsIn (asked c .before .before .before .args .rec .now))
+told c o is =
     let plan = c .before in
     let kept = plan .before in
     let there = kept .before in
@@ -66,15 +73,15 @@ told c b is =
     let l = at .before in
     let sent = asked c in
     let r = sent .before .before .before .pre in
-    let safe = sym is ∙ c .approved .ensures ∙ ap (λ (x : Record). approvedBy x (plan .plan-at .result)) (sym (r .spelt)) in
+    let safe = sym is ∙ c .safe-plan .ensures ∙ ap (λ (x : Record). safePlan x 8 (plan .plan-at .result)) (sym (r .spelt)) in
     votesOne _ _ r _ (sent .sent .ensures) _ _ (l .leader .ensures .0) (l .leader .ensures .1) (at .vote-place .ensures .0) _ (there .is-of-view .ensures)
-    (l .before .before .if1 .left) (kept .if2 .taken) _ b (plan .plan-at .ensures) safe ∙ ap actD (r .spelt)
+    (l .before .before .if1 .left) (kept .if2 .taken) _ o (plan .plan-at .ensures) safe ∙ ap actD (r .spelt)
 
 returns-2 : tie.Need-returns-2
-returns-2 c = told (c .before) true (c .if3 .taken)
+returns-2 c = told (c .before .before) none (ap chosen (c .enum-told .given .1))
 
 returns-3 : tie.Need-returns-3
-returns-3 c = told (c .before) false (c .if3 .left)
+returns-3 c = told (c .before .before .before) (some (c .before .choice .given .0 .0)) (ap chosen (c .before .choice .given .1))
 
 returns-4 : tie.Need-returns-4
 returns-4 c =
@@ -101,7 +108,9 @@ act-d-spec =
     vote-place-requires
     is-of-view-requires
     plan-at-requires
-    approved-requires
+    safe-plan-requires
+    enum-known-choice
+    enum-told
     returns-2
     returns-3
     returns-4)

@@ -1,16 +1,11 @@
 -- What steps C and D go by, of a record's contents (document 01, 'When a plan is safe').
 -- Assumes nothing.
 use Prim.Native.Nat.{ℕ}
-use mathlib.Core.Path.{_≡_}
-use mathlib.Core.Logic.{_≢_}
-use mathlib.Core.Bool.{Bool}
-use mathlib.Core.List.{List}
-use mathlib.Core.Option.{Option}
+use mathlib.Core.Bool.{Bool, cond}
+use mathlib.Core.Option.{Option, none, some}
 use lib.Dec.{eqb}
-use lib.ListN.{length}
 use Rattle.rules.specs.Rules.{Reports, rule3}
-use Rattle.rules.specs.inside.Counts.{safe}
-use Rattle.claims.specs.Table.{tableSize, reportsInTable}
+use Rattle.rules.specs.inside.Counts.{safe, choice}
 use Rattle.protocol.specs.Record.{Record, when, each, reportBy, vaults, reportsOf}
 use Rattle.protocol.specs.Pass as pass
 
@@ -26,7 +21,7 @@ approvedBy c p = safe rule3 (vaults c) (reportsOf c rule3) (c .view) p
 abbrev pub reportsIn : Record → ℕ → Reports
 reportsIn c kind j = each (c .kept kind j) (λ f. when (eqb (f .view) (c .view)) (reportBy (f .body)))
 
--- A table that the search for safe plans may go by: it has the reports, but in view 0, where none is read.
-pub record Searched (reports : Reports) (view : ℕ) (t : List ℕ) : Type 0 where
-  pub size : length t ≡ tableSize
-  pub same : view ≢ 0 → reportsInTable t ≡ reports
+-- By suggests (kind 7): p if that is safe by Rule 1, else the smallest safe plan. By proofs (kind 8): p if that is safe by Rule 3.
+unfoldable pub safePlan : Record → ℕ → ℕ → Option ℕ
+safePlan c kind p =
+    cond (eqb kind 7) (choice (vaults c) (reportsIn c kind) (c .view) p) (cond (safe rule3 (vaults c) (reportsIn c kind) (c .view) p) (some p) none)
