@@ -1,10 +1,9 @@
--- Steps E to H by slots (document 01, 'One pass'): the plan that protocol's step acts on is the plan that leads among the votes in
--- the slots, where a quorum is for it. Sets of voters are the same below n, so quorums are; a quorum for any other plan would be
--- more than half of the vaults against the lead.
+-- Steps E to H by slots (document 01, 'One pass'): the plan that protocol's step acts on is the plan agreed on by the votes in the
+-- slots. Sets of voters are the same below n, so quorums are; and by both a plan is agreed on just where a quorum is for it.
 -- Assumes nothing.
 use Prim.Native.Nat.{ℕ, suc, _+_, _*_, _-_, _≤_, _<_}
 use mathlib.Core.Path.{_≡_, refl, sym, _∙_, ap}
-use mathlib.Core.Logic.{_≢_, _⊎_, inl, inr}
+use mathlib.Core.Logic.{_≢_}
 use mathlib.Core.Bool.{Bool, true, false, not}
 use mathlib.Core.List.{List}
 use mathlib.Core.Option.{Option, none, some}
@@ -13,23 +12,23 @@ use lib.Dec.{leb, eqb}
 use borrow.Author.Tests.{eq-eqb, ne-eqb}
 use Rattle.quorum.specs.Sets.{equals, total}
 use Rattle.quorum.specs.Quorums.{isQuorum}
-use Rattle.quorum.proofs.Bools.{which, clash}
 use Rattle.quorum.proofs.Laws.{weighSame}
 use Rattle.rules.specs.Options.{isNone, holds}
 use Rattle.frame.specs.declared.Report.{Report}
 use Rattle.record.specs.Slots as slots
 use Rattle.record.specs.Slots.{frameSlot, decisionSlot, slotOf}
 use Rattle.layout.specs.Layout.{slotIn}
+use Rattle.agreement.proofs.Reports.{none≢some}
 use Rattle.protocol.specs.Record.{when, each, reported, planNow, sentNow}
 use Rattle.protocol.specs.Pass.{cast, decide, hasQuorum, agreed, actVote, actH}
 use Rattle.protocol.proofs.Agreed.{agreedIs}
 use Rattle.protocol.proofs.Tables.{eachNone, whenFalse}
 use Rattle.contents.specs.Contents.{contents}
-use Rattle.acts.specs.inside.Parts.{blockPart, blockPlace}
-use Rattle.acts.specs.inside.Votes.{voted, voteIn, votes, leading, quorumFor, agreedIn}
-use Rattle.acts.proofs.Parts.{Reads}
+use Rattle.tally.specs.inside.Parts.{blockPart, blockPlace}
+use Rattle.tally.specs.inside.Votes.{voted, voteIn, votes, quorumFor, agreedIn}
+use Rattle.tally.proofs.Votes.{agreedWhere, agreedHas}
+use Rattle.acts.specs.inside.Lent.{Reads}
 use Rattle.acts.proofs.Kept.{planAt}
-use Rattle.acts.proofs.Votes.{onlyLead}
 
 module _ (s : List ℕ) (r : slots.Record) (reads : Reads s r) where
   -- How many vaults there are, by the record's settings.
@@ -61,24 +60,21 @@ module _ (s : List ℕ) (r : slots.Record) (reads : Reads s r) where
         (weighSame (λ i. 1) (λ j. holds (eqb q) (planNow (contents r) k j)) (λ j. holds (eqb q) (ballots j)) n
         (λ j below. ap (λ (o : Option ℕ). holds (eqb q) o) (ballotAt j below)))
 
-    -- And the plan that leads, where a quorum is for it, is the plan that steps E to H act on.
+    -- And the plan agreed on by the votes in the slots is the plan that steps E to H act on.
     pub agreedSame : agreedIn ballots n f ≡ agreed (contents r) k
-    unfolding contents agreedIn
-    agreedSame = go (which (quorumFor ballots n f p))
+    unfolding contents
+    agreedSame = go (agreed (contents r) k) refl
       where
-        p : ℕ
-        p = leading ballots n .plan
+        nothing : agreed (contents r) k ≡ none → (o : Option ℕ) → agreedIn ballots n f ≡ o → o ≡ none
+        nothing e none is = refl
+        nothing e (some p) is =
+            let on : agreed (contents r) k ≡ some p = agreedIs (contents r) (reads .allows .third) k p .1 (quorumSame p ∙ agreedHas ballots n f p is) in
+            absurd (none≢some (sym e ∙ on))
 
-        nothing : (o : Option ℕ) → agreed (contents r) k ≡ o → quorumFor ballots n f p ≡ false → none ≡ o
-        nothing none e off = refl
-        nothing (some q) e off =
-            let h : quorumFor ballots n f q ≡ true = sym (quorumSame q) ∙ agreedIs (contents r) (reads .allows .third) k q .0 e in
-            let only : q ≡ p = onlyLead ballots n f (reads .allows .third) q h in
-            absurd (clash (rw only at h) off)
-
-        go : (quorumFor ballots n f p ≡ true) ⊎ (quorumFor ballots n f p ≡ false) → when (quorumFor ballots n f p) (some p) ≡ agreed (contents r) k
-        go (inl on) = rw on (sym (agreedIs (contents r) (reads .allows .third) k p .1 (quorumSame p ∙ on)))
-        go (inr off) = rw off (nothing (agreed (contents r) k) refl off)
+        go : (o : Option ℕ) → agreed (contents r) k ≡ o → agreedIn ballots n f ≡ o
+        go none e = nothing e (agreedIn ballots n f) refl
+        go (some q) e =
+            agreedWhere ballots n f (reads .allows .third) q (sym (quorumSame q) ∙ agreedIs (contents r) (reads .allows .third) k q .0 e)
 
   -- ---- what was sent
 

@@ -22,11 +22,11 @@ use Rattle.protocol.specs.Record.{when, each, changeOf, highest}
 use Rattle.protocol.specs.Pass.{Act, ask, enter, asked, isNews, canEnter, actA, actB}
 use Rattle.protocol.proofs.Tables.{highestHas, highestMost}
 use Rattle.contents.specs.Contents.{contents}
-use Rattle.acts.specs.inside.Parts.{sharedPart}
-use Rattle.acts.specs.inside.Changes.{changeIn, newsFrom, askers, enough, Highest}
-use Rattle.acts.proofs.Parts.{Reads}
+use Rattle.tally.specs.inside.Parts.{sharedPart}
+use Rattle.tally.specs.inside.Changes.{changeIn, newsFrom, askers, enough, Highest}
+use Rattle.tally.proofs.Changes.{highestBoth}
+use Rattle.acts.specs.inside.Lent.{Reads}
 use Rattle.acts.proofs.Kept.{changeAt}
-use Rattle.acts.proofs.Changes.{highestBoth}
 
 -- ---- the highest
 

@@ -2,7 +2,7 @@
 -- contents of a record have the frame of a kind and a sender where that slot is present, for the 64 senders that have one. So the
 -- sets that steps count are the same, below n.
 -- Assumes nothing.
-use Prim.Native.Nat.{ℕ, suc, _+_, _≤_, _<_}
+use Prim.Native.Nat.{ℕ, suc, _+_, _-_, _≤_, _<_}
 use mathlib.Core.Path.{_≡_, refl, sym, _∙_, ap}
 use mathlib.Core.Bool.{Bool, true, false, cond, _&&_}
 use mathlib.Core.List.{List}
@@ -11,8 +11,7 @@ use native.Mathlib.Omega.{arith}
 use lib.Dec.{eqb}
 use borrow.Author.Tests.{le-leb, lt-leb, ne-eqb}
 use Rattle.rules.specs.Rules as rules
-use Rattle.rules.specs.Rules.{Rule, rule1, rule3}
-use Rattle.claims.specs.Table.{reportsInTable}
+use Rattle.claims.specs.Table.{voteAbove, reportsInTable}
 use Rattle.frame.specs.declared.Report.{Report}
 use Rattle.frame.specs.declared.Frame.{Frame}
 use Rattle.frame.specs.Format.{within}
@@ -21,16 +20,22 @@ use Rattle.record.specs.Slots as slots
 use Rattle.record.specs.Slots.{rows, frameSlot, reportSlot, slotOf}
 use Rattle.keeping.specs.Kept.{bodyIn, frameIn, keptIn}
 use Rattle.layout.specs.Layout.{slotIn}
-use Rattle.protocol.specs.Record.{when, each, reported, reportBy, kindOf, changeOf, planNow, reportsOf}
+use Rattle.protocol.specs.Record.{when, each, reported, reportBy, changeOf, planNow}
 use Rattle.contents.specs.Contents.{contents}
 use Rattle.contents.proofs.Clean.{keptAt}
 use Rattle.contents.proofs.Acts.{voteAt}
-use Rattle.acts.specs.inside.Parts.{sharedPart, blockPart, blockPlace}
-use Rattle.acts.specs.inside.Changes.{asks, changeIn}
-use Rattle.acts.specs.inside.Votes.{voted, voteIn}
-use Rattle.acts.specs.inside.Reports.{reportsBy, Filled}
-use Rattle.acts.proofs.Parts.{Reads}
-use Rattle.acts.proofs.Reports.{filledSame, filledAll}
+use Rattle.tally.specs.inside.Parts.{sharedPart, blockPart, blockPlace}
+use Rattle.tally.specs.inside.Changes.{asks, changeIn}
+use Rattle.tally.specs.inside.Votes.{voted, voteIn}
+use Rattle.tally.specs.inside.Reports.{aboveOf, voteBy, reportsBy, Filled}
+use Rattle.tally.proofs.Reports.{filledSame, filledAll}
+use Rattle.acts.specs.inside.Lent.{Reads}
+use Rattle.acts.specs.inside.Proposals.{reportsIn}
+
+-- An option that a test lets pass, as the slots have it.
+whenIs : {A : Type 0} (b : Bool) (x : A) → when b (some x) ≡ cond b (some x) none
+whenIs true x = refl
+whenIs false x = refl
 
 -- The vote that a slot reports, where that is of view v.
 votedBy : (v : ℕ) (x : Report) → each (reported x) (λ y. when (eqb (y .view) v) (some (y .plan))) ≡ voted v x
@@ -41,17 +46,31 @@ votedBy v x = go (present x)
     there = record { view = x .view; plan = x .plan }
 
     go : (b : Bool) → each (cond b (some there) none) (λ y. when (eqb (y .view) v) (some (y .plan)))
-        ≡ when (b && eqb (x .view) v) (some (x .plan))
-    go true = refl
+        ≡ cond (b && eqb (x .view) v) (some (x .plan)) none
+    go true = whenIs (eqb (x .view) v) (x .plan)
+    go false = refl
+
+-- The vote that the table tells of a slot is the one that the slot reports.
+voteBack : (x : Report) → voteBy x ≡ reported x
+unfolding voteAbove aboveOf
+voteBack x = go (eqb (x .mark) 1)
+  where
+    vote : ℕ → ℕ → Option rules.Vote
+    vote w p = some (record { view = w; plan = p })
+
+    go : (b : Bool) → cond (eqb (cond b (x .view + 1) 0) 0) none (vote (cond b (x .view + 1) 0 - 1) (x .plan)) ≡ cond b (vote (x .view) (x .plan)) none
+    go true =
+        let same : x .view + 1 - 1 ≡ x .view = omega arith in
+        rw (ne-eqb (x .view + 1) 0 (λ (e : x .view + 1 ≡ 0). omega arith)) (ap (λ (w : ℕ). vote w (x .plan)) same)
     go false = refl
 
 -- A frame with a slot's view that tells x, as a report of view v.
 reportRead : (s : Report) (f : Frame) (v : ℕ) (x : rules.Report) → f .view ≡ s .view → reportBy (f .body) ≡ some x
-    → each (when (present s) (some f)) (λ g. when (eqb (g .view) v) (reportBy (g .body))) ≡ when (present s && eqb (s .view) v) (some x)
+    → each (when (present s) (some f)) (λ g. when (eqb (g .view) v) (reportBy (g .body))) ≡ cond (present s && eqb (s .view) v) (some x) none
 reportRead s f v x view told = go (present s)
   where
-    go : (b : Bool) → each (when b (some f)) (λ g. when (eqb (g .view) v) (reportBy (g .body))) ≡ when (b && eqb (s .view) v) (some x)
-    go true = rw (view, told)
+    go : (b : Bool) → each (when b (some f)) (λ g. when (eqb (g .view) v) (reportBy (g .body))) ≡ cond (b && eqb (s .view) v) (some x) none
+    go true = rw (view, told) (whenIs (eqb (s .view) v) x)
     go false = refl
 
 module _ (r : slots.Record) where
@@ -72,11 +91,7 @@ module _ (r : slots.Record) where
   frameAt : (kind j : ℕ) → 1 ≤ kind → kind ≤ 8 → j < rows
       → contents r .kept kind j ≡ when (present (slotOf r (frameSlot kind j))) (some (frameIn (slotOf r) kind j))
   unfolding keptIn
-  frameAt kind j low high row = keptAt r kind j low high row ∙ go (present (slotOf r (frameSlot kind j)))
-    where
-      go : (b : Bool) → cond b (some (frameIn (slotOf r) kind j)) none ≡ when b (some (frameIn (slotOf r) kind j))
-      go true = refl
-      go false = refl
+  frameAt kind j low high row = keptAt r kind j low high row ∙ sym (whenIs (present (slotOf r (frameSlot kind j))) (frameIn (slotOf r) kind j))
 
   -- The plan of a vote of this view, by contents, is the one in its slot.
   planSlot : (k j : ℕ) → k ≤ 4 → j < rows → planNow (contents r) k j ≡ voted (r .view) (slotOf r (frameSlot (suc k) j))
@@ -91,14 +106,14 @@ module _ (r : slots.Record) where
   changeSlot j row =
       ap (λ (o : Option Frame). each o (λ f. some (f .view))) (frameAt 6 j (omega arith) (omega arith) row) ∙ go (present (slotOf r (frameSlot 6 j)))
     where
-      go : (b : Bool) → each (when b (some (frameIn (slotOf r) 6 j))) (λ f. some (f .view)) ≡ when b (some (slotOf r (frameSlot 6 j) .view))
+      go : (b : Bool) → each (when b (some (frameIn (slotOf r) 6 j))) (λ f. some (f .view)) ≡ cond b (some (slotOf r (frameSlot 6 j) .view)) none
       go true = refl
       go false = refl
 
   -- What a sender reports in this view, by contents, stands in its four slots.
   reportSlots : (kind j : ℕ) → 7 ≤ kind → kind ≤ 8 → j < rows
       → each (contents r .kept kind j) (λ f. when (eqb (f .view) (r .view)) (reportBy (f .body)))
-      ≡ when (present (slotOf r (frameSlot kind j)) && eqb (slotOf r (frameSlot kind j) .view) (r .view)) (some (three kind j))
+      ≡ cond (present (slotOf r (frameSlot kind j)) && eqb (slotOf r (frameSlot kind j) .view) (r .view)) (some (three kind j)) none
   unfolding frameIn
   reportSlots kind j low high row =
       ap (λ (o : Option Frame). each o (λ f. when (eqb (f .view) (r .view)) (reportBy (f .body)))) (frameAt kind j (omega arith) high row)
@@ -127,13 +142,13 @@ module _ (s : List ℕ) (r : slots.Record) (reads : Reads s r) where
   unfolding reportsBy
   reportAt kind j low high row =
       let head = reads .block (frameSlot kind j) (omega arith) (omega arith) in
-      let told : (w : ℕ) → w < 3 → slotOf r (reportSlot kind w j) ≡ slotIn (blockPart s) (blockPlace (reportSlot kind w j)) = λ w less.
-      reads .block (reportSlot kind w j) (omega arith) (omega arith) in
-      sym (reportSlots r kind j low high row ∙ (λ i. when (present (head i) && eqb (head i .view) (r .view)) (some (record {
-        highest = reported (told 0 (omega arith) i);
-        previous = reported (told 1 (omega arith) i);
-        lock = reported (told 2 (omega arith) i);
-      }))))
+      let told : (w : ℕ) → w < 3 → reported (slotOf r (reportSlot kind w j)) ≡ voteBy (slotIn (blockPart s) (blockPlace (reportSlot kind w j))) = λ w less.
+      ap reported (reads .block (reportSlot kind w j) (omega arith) (omega arith)) ∙ sym (voteBack (slotIn (blockPart s) (blockPlace (reportSlot kind w j)))) in
+      sym (reportSlots r kind j low high row ∙ (λ i. cond (present (head i) && eqb (head i .view) (r .view)) (some (record {
+        highest = told 0 (omega arith) i;
+        previous = told 1 (omega arith) i;
+        lock = told 2 (omega arith) i;
+      })) none))
 
   -- No frame is kept from n on.
   noneFrom : (kind j : ℕ) → r .set .n ≤ j → each (contents r .kept kind j) (λ f. when (eqb (f .view) (r .view)) (reportBy (f .body))) ≡ none
@@ -148,19 +163,11 @@ module _ (s : List ℕ) (r : slots.Record) (reads : Reads s r) where
           below x e = reads .sound .kept kind j x e .row
 
   -- The table that is gathered has the reports kept.
-  pub tableIs : (rule : Rule) (t : List ℕ) → Filled (reportsBy (blockPart s) (kindOf rule) (r .view)) (r .set .n) t
-      → reportsInTable t ≡ reportsOf (contents r) rule
+  pub tableIs : (kind : ℕ) → 7 ≤ kind → kind ≤ 8 → (t : List ℕ) → Filled (reportsBy (blockPart s) kind (r .view)) (r .set .n) t
+      → reportsInTable t ≡ reportsIn (contents r) kind
   unfolding contents
-  tableIs rule t f =
-      filledAll (reportsOf (contents r) rule) (r .set .n) t (reads .allows .most)
-      (filledSame (reportsBy (blockPart s) (kindOf rule) (r .view)) (reportsOf (contents r) rule) (r .set .n) t
-      (λ j low. reportAt (kindOf rule) j (lowKind rule) (highKind rule) (omega (arith, reads .allows .most))) f)
-      (λ j over. noneFrom (kindOf rule) j over)
-    where
-      lowKind : (rule : Rule) → 7 ≤ kindOf rule
-      lowKind rule1 = omega arith
-      lowKind rule3 = omega arith
-
-      highKind : (rule : Rule) → kindOf rule ≤ 8
-      highKind rule1 = omega arith
-      highKind rule3 = omega arith
+  tableIs kind low high t f =
+      filledAll (reportsIn (contents r) kind) (r .set .n) t (reads .allows .most)
+      (filledSame (reportsBy (blockPart s) kind (r .view)) (reportsIn (contents r) kind) (r .set .n) t
+      (λ j below. reportAt kind j low high (omega (arith, reads .allows .most))) f)
+      (λ j over. noneFrom kind j over)

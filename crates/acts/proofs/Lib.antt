@@ -1,10 +1,7 @@
-pub mod Changes
-pub mod Votes
-pub mod Reports
 pub mod Parts
 pub mod Kept
 pub mod Asked
 pub mod Agreed
 pub mod Proposals
 pub mod Numbers
-pub mod First
+pub mod Searched

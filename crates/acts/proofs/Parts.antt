@@ -1,4 +1,4 @@
--- The record that lent bytes spell, seen through the two parts that steps are lent: its slots are those of the shared part, and then
+-- The record that ready bytes spell, seen through the two parts that steps are lent: its slots are those of the shared part, and then
 -- those of the block. The settings and the current view are at hand, as the caller has read them.
 -- Assumes nothing.
 use Prim.Native.Nat.{ℕ, _+_, _≤_, _<_}
@@ -8,7 +8,6 @@ use native.Mathlib.Omega.{arith}
 use lib.ListN.{length, drop, length-take, length-drop}
 use Rattle.settings.specs.declared.Settings.{Settings}
 use Rattle.settings.specs.inside.Allowed.{Allowed}
-use Rattle.record.specs.Slots as slots
 use Rattle.record.specs.Slots.{rows, slotCount, slotOf}
 use Rattle.layout.specs.Layout.{sharedSize, partPlace, slotIn, decodeRecord}
 use Rattle.layout.specs.inside.Layout.{blockSize}
@@ -17,7 +16,8 @@ use Rattle.protocol.specs.Sound.{Sound}
 use Rattle.contents.specs.Contents.{contents, contentsIn}
 use Rattle.contents.specs.inside.Ready.{Ready}
 use Rattle.contents.proofs.Ready.{readyAllowed}
-use Rattle.acts.specs.inside.Parts.{sharedPart, blockPart, blockPlace}
+use Rattle.tally.specs.inside.Parts.{sharedPart, blockPart, blockPlace}
+use Rattle.acts.specs.inside.Lent.{Lent}
 
 -- ---- the slots of a record
 
@@ -42,22 +42,6 @@ module _ (s : List ℕ) (ready : Ready s) where
   blockLength : length (blockPart s) ≡ blockSize
   blockLength = length-take blockSize (drop sharedSize s) ∙ omega (arith, length-drop sharedSize s, ready .size)
 
--- ---- the record, with its settings and its view at hand
-
--- A sound record whose slots stand in the two parts of some bytes that spell it.
-pub record Reads (s : List ℕ) (r : slots.Record) : Type 0 where
-  pub allows : Allowed (r .set)
-  pub sound : Sound (contents r)
-  pub shared : (i : ℕ) → i < rows → slotOf r i ≡ slotIn (sharedPart s) (partPlace i)
-  pub block : (i : ℕ) → rows ≤ i → i < slotCount → slotOf r i ≡ slotIn (blockPart s) (blockPlace i)
-  pub sharedLength : length (sharedPart s) ≡ sharedSize
-  pub blockLength : length (blockPart s) ≡ blockSize
-  pub spelt : contents r ≡ contentsIn s
-
--- The record that a step is lent: the bytes, with the settings and the view that they spell.
-abbrev pub Lent : List ℕ → Settings → ℕ → Type 0
-Lent s set view = Reads s (record { set = set; view = view; plan = decodeRecord s .plan; slots = decodeRecord s .slots })
-
 -- Ready bytes are lent so: the slots can be read in the two parts, and the record is sound.
 pub lent : (s : List ℕ) (set : Settings) (view : ℕ) → Ready s → set ≡ decodeRecord s .set → view ≡ decodeRecord s .view → Lent s set view
 unfolding decodeRecord
@@ -66,6 +50,7 @@ lent s set view ready isSet isView = record {
   sound = subst Sound (sym same) (ready .sound);
   shared = λ i low. sharedSlot s i low;
   block = λ i least low. blockSlot s i least low;
+  size = ready .size;
   sharedLength = sharedLength s ready;
   blockLength = blockLength s ready;
   spelt = same;

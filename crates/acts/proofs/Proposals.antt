@@ -1,21 +1,17 @@
--- Steps C and D by slots (document 01, 'One pass'): who leads, what was sent and what is proposed stand in slots, and the plans
--- that are safe by the reports in the table are those that are safe by the reports kept.
+-- Steps C and D by slots (document 01, 'One pass'): who leads, what was sent and what is proposed stand in slots. What is safe is told
+-- by the search.
 -- Assumes nothing.
 use Prim.Native.Nat.{ℕ, _<_}
-use mathlib.Core.Path.{_≡_, sym, _∙_, ap}
+use mathlib.Core.Path.{_≡_, refl, sym, _∙_, ap}
 use mathlib.Core.Logic.{_≢_}
-use mathlib.Core.Bool.{Bool, true, false, not, _&&_}
+use mathlib.Core.Bool.{Bool, true, false, cond, not, _&&_}
 use mathlib.Core.List.{List}
 use mathlib.Core.Option.{Option, none, some}
 use native.Mathlib.Omega.{arith}
 use lib.Dec.{eqb}
 use borrow.Author.Tests.{eq-eqb, ne-eqb}
 use Rattle.rules.specs.Options.{isNone}
-use Rattle.rules.specs.Rules.{rule1, rule3}
-use Rattle.rules.specs.inside.Counts.{safe, choice}
-use Rattle.claims.specs.Table.{reportsInTable}
 use Rattle.frame.specs.Refusal.{leaderOf}
-use Rattle.settings.specs.Vaults.{vaultsOf}
 use Rattle.record.specs.Slots as slots
 use Rattle.record.specs.Slots.{frameSlot}
 use Rattle.layout.specs.Layout.{slotIn}
@@ -23,13 +19,14 @@ use Rattle.protocol.specs.Record.{Record, when, each, leader, leads, planNow, s
 use Rattle.protocol.specs.Pass.{cast, mayPropose, approves, actC, actD}
 use Rattle.protocol.proofs.Tables.{eachNone, whenFalse}
 use Rattle.contents.specs.Contents.{contents}
-use Rattle.acts.specs.inside.Parts.{blockPart, blockPlace}
-use Rattle.acts.specs.inside.Votes.{voted, voteIn}
-use Rattle.acts.specs.inside.Reports.{proposalOf, approvedBy, reportsBy, Filled}
-use Rattle.acts.proofs.Parts.{Reads}
-use Rattle.acts.proofs.Kept.{planAt, tableIs}
-use Rattle.acts.proofs.Votes.{votedPlan, toldNone}
+use Rattle.tally.specs.inside.Parts.{blockPart, blockPlace}
+use Rattle.tally.specs.inside.Votes.{voted, voteIn}
+use Rattle.tally.proofs.Votes.{votedPlan, toldNone}
+use Rattle.acts.specs.inside.Proposals.{proposalOf, approvedBy, safePlan}
+use Rattle.acts.specs.inside.Lent.{Reads}
+use Rattle.acts.proofs.Kept.{planAt}
 use Rattle.acts.proofs.Agreed.{sentSame}
+use Rattle.acts.proofs.Searched.{planThree}
 
 module _ (s : List ℕ) (r : slots.Record) (reads : Reads s r) where
   -- ---- C
@@ -54,19 +51,7 @@ module _ (s : List ℕ) (r : slots.Record) (reads : Reads s r) where
         let same : told ≡ sentNow (contents r) 0 = sent ∙ sentSame s r reads 0 (omega arith) in
         rw (led, same)
 
-  -- 'proposes its starting plan if that is safe by Rule 1, else the smallest safe plan': by the table of the suggests kept.
-  pub proposalIs : (t : List ℕ) (start : ℕ) → Filled (reportsBy (blockPart s) 7 (r .view)) (r .set .n) t → start ≡ r .plan
-      → choice (vaultsOf (r .set)) (reportsInTable t) (r .view) start ≡ proposalOf (contents r)
-  unfolding contents
-  proposalIs t start filled plan = λ i. choice (vaultsOf (r .set)) (tableIs s r reads rule1 t filled i) (r .view) (plan i)
-
   -- ---- D
-
-  -- 'safe by Rule 3': by the table of the proofs kept.
-  pub approvedIs : (t : List ℕ) (p : ℕ) → Filled (reportsBy (blockPart s) 8 (r .view)) (r .set .n) t
-      → safe rule3 (vaultsOf (r .set)) (reportsInTable t) (r .view) p ≡ approvedBy (contents r) p
-  unfolding contents
-  approvedIs t p filled = λ i. safe rule3 (vaultsOf (r .set)) (tableIs s r reads rule3 t filled i) (r .view) p
 
   -- 'If vote-1 was not sent in this view'.
   module _ (told : Bool) (sent : told ≡ not (isNone (voteIn (blockPart s) (r .view) 1 (r .set .id)))) where
@@ -104,12 +89,17 @@ module _ (s : List ℕ) (r : slots.Record) (reads : Reads s r) where
         unproposed off = actOn none (toldNone proposed (sym kept ∙ off))
 
         -- 'and safe by Rule 3: vote-1'.
-        pub votesOne : told ≡ false → there ≡ true → (p : ℕ) (b : Bool) → p ≡ slotIn (blockPart s) at .plan → b ≡ approvedBy (contents r) p
-            → when b (some (cast 1 p)) ≡ actD (contents r)
-        votesOne unsent on p b plan e =
+        pub votesOne : told ≡ false → there ≡ true → (p : ℕ) (o : Option ℕ) → p ≡ slotIn (blockPart s) at .plan → o ≡ safePlan (contents r) 8 p
+            → each o (λ q. some (cast 1 q)) ≡ actD (contents r)
+        votesOne unsent on p o plan e =
             let off : false ≡ sentNow (contents r) 1 = sym unsent ∙ votedIs in
             let is-p : proposed ≡ some p = votedPlan (r .view) (slotIn (blockPart s) at) (sym kept ∙ on) ∙ ap some (sym plan) in
-            (λ i. when (not (off i) && e i) (some (cast 1 p))) ∙ actOn (some p) is-p
+            ap (λ (x : Option ℕ). each x (λ q. some (cast 1 q))) (e ∙ planThree (contents r) p) ∙ by (approvedBy (contents r) p)
+            ∙ (λ i. when (not (off i) && approvedBy (contents r) p) (some (cast 1 p))) ∙ actOn (some p) is-p
+          where
+            by : (b : Bool) → each (cond b (some p) none) (λ q. some (cast 1 q)) ≡ when b (some (cast 1 p))
+            by true = refl
+            by false = refl
 
 -- C. 'A leader that has not proposed in this view proposes .., else waits.'
 module _ (c : Record) (may : Bool) (is : may ≡ mayPropose c) where

@@ -1,6 +1,4 @@
 -- What inner functions promise each other, and what proofs go by. Nothing in these files has to be believed.
 pub mod Acts
-pub mod Changes
-pub mod Parts
-pub mod Reports
-pub mod Votes
+pub mod Lent
+pub mod Proposals

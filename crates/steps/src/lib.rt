@@ -118,7 +118,7 @@ fn enter_in(rec: &mut [u8], set: Settings, w: u32) -> Entries
     let proof = reports_of(rec, set.id, 2, 5);
     let suggest = reports_of(rec, set.id, 3, 4);
     let millis = settings::timer_millis(set.class);
-    let to = acts::leader(w, wide(set.n)) as u8;
+    let to = tally::leader(w, wide(set.n)) as u8;
     layout::put_view(rec, w);
     keeping::keep_told(rec, set.id, 8, w, proof);
     let all = Frame {

@@ -2,16 +2,10 @@
 -- Assumes nothing.
 use mathlib.Core.Path.{_∙_, ap}
 use Rattle.protocol.specs.Pass.{actA}
-use Rattle.acts.proofs.Parts.{Lent, lent}
 use Rattle.acts.proofs.Asked.{asksFor, silent}
 use borrow.Author.Needs.{needs}
-use native.Mathlib.Omega.{arith}
 use Rattle.acts.proofs.act_a.Statement.{statement}
 use Rattle.acts.proofs.act_a.Tie as tie
-
--- The record that the step is lent.
-here : (e : tie.Start) → Lent (e .args .rec .now) (e .args .set) (e .args .view)
-here e = lent (e .args .rec .now) (e .args .set) (e .args .view) (e .pre .0) (e .pre .1) (e .pre .2)
 
 sub-shared : tie.Need-sub-shared
 sub-shared c = search needs
@@ -32,11 +26,7 @@ add-change-above : tie.Need-add-change-above
 add-change-above c = search needs
 
 change-above-requires : tie.Need-change-above-requires
-change-above-requires c κs =
-    let r = here (c .before .before .before) in
-    let set = r .allows in
-    let size = r .sharedLength in
-    omega arith
+change-above-requires c κs = search needs
 
 cast-highest-change : tie.Need-cast-highest-change
 cast-highest-change c = search needs
@@ -48,25 +38,21 @@ add-highest-change : tie.Need-add-highest-change
 add-highest-change c = search needs
 
 highest-change-requires : tie.Need-highest-change-requires
-highest-change-requires c κs =
-    let r = here (c .before .before .before .before .before .before) in
-    let set = r .allows in
-    let size = r .sharedLength in
-    (size, set .most, omega arith, omega arith)
+highest-change-requires c κs = search needs
 
 returns : tie.Need-returns
 returns c =
     let top = c .before in
     let low = top .before .before .before in
-    let r = here (low .before .before .before .before) in
-    asksFor _ _ r _ _ (low .change-above .ensures) (top .highest-change .ensures) (c .if1 .taken) ∙ ap actA (r .spelt)
+    let r = low .before .before .before .before .pre in
+    asksFor _ _ r _ (top .highest-change .result) (low .change-above .ensures) (top .highest-change .ensures) (c .if1 .taken) ∙ ap actA (r .spelt)
 
 returns-2 : tie.Need-returns-2
 returns-2 c =
     let top = c .before in
     let low = top .before .before .before in
-    let r = here (low .before .before .before .before) in
-    silent _ _ r _ _ (low .change-above .ensures) (top .highest-change .ensures) (c .if1 .left) ∙ ap actA (r .spelt)
+    let r = low .before .before .before .before .pre in
+    silent _ _ r _ (top .highest-change .result) (low .change-above .ensures) (top .highest-change .ensures) (c .if1 .left) ∙ ap actA (r .spelt)
 
 pub act-a-spec : {M : Type 1} → statement M
 act-a-spec =

@@ -3,32 +3,38 @@
 use Prim.Native.Nat.{_+_, _-_, _≤_}
 use mathlib.Core.Path.{_≡_, _∙_}
 use Rattle.acts.specs.inside.Acts.{actAt}
+use Rattle.acts.specs.inside.Lent.{Lent}
+use Rattle.acts.proofs.Parts.{lent}
 use Rattle.acts.proofs.Numbers.{actVotes, numbered}
 use borrow.Author.Needs.{needs}
 use native.Mathlib.Omega.{arith}
 use Rattle.acts.proofs.act_at.Statement.{statement}
 use Rattle.acts.proofs.act_at.Tie as tie
 
+-- The record that the step is lent.
+here : (e : tie.Start) → Lent (e .args .rec .now) (e .args .set) (e .args .view)
+here e = lent (e .args .rec .now) (e .args .set) (e .args .view) (e .pre .0) (e .pre .1) (e .pre .2)
+
 act-a-requires : tie.Need-act-a-requires
-act-a-requires c κs = search needs
+act-a-requires c κs = here (c .before .before)
 
 act-b-requires : tie.Need-act-b-requires
-act-b-requires c κs = search needs
+act-b-requires c κs = here (c .before .before)
 
 act-c-requires : tie.Need-act-c-requires
-act-c-requires c κs = search needs
+act-c-requires c κs = here (c .before .before)
 
 act-d-requires : tie.Need-act-d-requires
-act-d-requires c κs = search needs
+act-d-requires c κs = here (c .before .before)
 
 sub-act-vote : tie.Need-sub-act-vote
 sub-act-vote c = search needs
 
 act-vote-requires : tie.Need-act-vote-requires
-act-vote-requires c κs = search needs
+act-vote-requires c κs = (here (c .before .before .before), omega arith, omega arith)
 
 act-h-requires : tie.Need-act-h-requires
-act-h-requires c κs = search needs
+act-h-requires c κs = here (c .before .before .before)
 
 returns : tie.Need-returns
 unfolding actAt

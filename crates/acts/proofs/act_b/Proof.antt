@@ -2,16 +2,10 @@
 -- Assumes nothing.
 use mathlib.Core.Path.{_∙_, ap}
 use Rattle.protocol.specs.Pass.{actB}
-use Rattle.acts.proofs.Parts.{Lent, lent}
 use Rattle.acts.proofs.Asked.{enters, stays}
 use borrow.Author.Needs.{needs}
-use native.Mathlib.Omega.{arith}
 use Rattle.acts.proofs.act_b.Statement.{statement}
 use Rattle.acts.proofs.act_b.Tie as tie
-
--- The record that the step is lent.
-here : (e : tie.Start) → Lent (e .args .rec .now) (e .args .set) (e .args .view)
-here e = lent (e .args .rec .now) (e .args .set) (e .args .view) (e .pre .0) (e .pre .1) (e .pre .2)
 
 cast-n : tie.Need-cast-n
 cast-n c = search needs
@@ -29,28 +23,20 @@ cast-highest-change : tie.Need-cast-highest-change
 cast-highest-change c = search needs
 
 sub-highest-change-2 : tie.Need-sub-highest-change-2
-sub-highest-change-2 c =
-    let r = here (c .before .before .before .before) in
-    let set = r .allows in
-    let size = r .sharedLength in
-    omega arith
+sub-highest-change-2 c = search needs
 
 highest-change-requires : tie.Need-highest-change-requires
-highest-change-requires c κs =
-    let r = here (c .before .before .before .before) in
-    let set = r .allows in
-    let size = r .sharedLength in
-    (size, set .most, omega arith, omega arith)
+highest-change-requires c κs = search needs
 
 returns : tie.Need-returns
 returns c =
-    let r = here (c .before .before .before .before .before .before) in
+    let r = c .before .before .before .before .before .before .pre in
     let top = c .before .highest-change in
     enters _ _ r (top .result) (top .ensures) (c .if1 .taken) ∙ ap actB (r .spelt)
 
 returns-2 : tie.Need-returns-2
 returns-2 c =
-    let r = here (c .before .before .before .before .before .before) in
+    let r = c .before .before .before .before .before .before .pre in
     let top = c .before .highest-change in
     stays _ _ r (top .result) (top .ensures) (c .if1 .left) ∙ ap actB (r .spelt)
 

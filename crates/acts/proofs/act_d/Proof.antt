@@ -1,22 +1,17 @@
 -- `acts::act_d` meets its contract: vote-1 was not sent, the leader's proposal is kept, and the search says whether it is safe.
 -- Assumes nothing.
+use Prim.Native.Nat.{ℕ}
 use mathlib.Core.Path.{_≡_, sym, _∙_, ap}
-use mathlib.Core.Bool.{Bool, true, false}
-use mathlib.Core.Option.{some}
-use Rattle.protocol.specs.Record.{Record, when}
+use mathlib.Core.Option.{Option, none, some}
+use Rattle.safe.specs.Choices.{chosen}
+use Rattle.protocol.specs.Record.{Record, each}
 use Rattle.protocol.specs.Pass.{cast, actD}
 use Rattle.contents.specs.Contents.{contentsIn}
-use Rattle.acts.specs.inside.Reports.{approvedBy}
-use Rattle.acts.proofs.Parts.{Lent, lent}
+use Rattle.acts.specs.inside.Proposals.{safePlan}
 use Rattle.acts.proofs.Proposals.{votedOnce, unproposed, votesOne}
 use borrow.Author.Needs.{needs}
-use native.Mathlib.Omega.{arith}
 use Rattle.acts.proofs.act_d.Statement.{statement}
 use Rattle.acts.proofs.act_d.Tie as tie
-
--- The record that the step is lent.
-here : (e : tie.Start) → Lent (e .args .rec .now) (e .args .set) (e .args .view)
-here e = lent (e .args .rec .now) (e .args .set) (e .args .view) (e .pre .0) (e .pre .1) (e .pre .2)
 
 sub-block : tie.Need-sub-block
 sub-block c = search needs
@@ -28,77 +23,65 @@ part-block-end : tie.Need-part-block-end
 part-block-end c = search needs
 
 sent-requires : tie.Need-sent-requires
-sent-requires c κs =
-    let r = here (c .before .before) in
-    let set = r .allows in
-    let size = r .blockLength in
-    (size, omega arith, omega (arith, set .most, set .own))
+sent-requires c κs = search needs
 
 returns : tie.Need-returns
 returns c =
     let told = c .before in
-    let r = here (told .before .before .before) in
+    let r = told .before .before .before .pre in
     votedOnce _ _ r _ (told .sent .ensures) (c .if1 .taken) ∙ ap actD (r .spelt)
 
 cast-leader : tie.Need-cast-leader
 cast-leader c = search needs
 
 leader-requires : tie.Need-leader-requires
-leader-requires c κs =
-    let set = here (c .before .before .before .before .before) .allows in
-    omega (arith, set .least)
+leader-requires c κs = search needs
 
 cast-vote-place : tie.Need-cast-vote-place
-cast-vote-place c =
-    let set = here (c .before .before .before .before .before .before) .allows in
-    omega (arith, set .most, c .leader .ensures .1)
+cast-vote-place c = search needs
 
 vote-place-requires : tie.Need-vote-place-requires
-vote-place-requires c κs =
-    let set = here (c .before .before .before .before .before .before) .allows in
-    (omega arith, omega (arith, set .most, c .leader .ensures .1))
+vote-place-requires c κs = search needs
 
 is-of-view-requires : tie.Need-is-of-view-requires
-is-of-view-requires c κs =
-    let r = here (c .before .before .before .before .before .before .before) in
-    let set = r .allows in
-    let size = r .blockLength in
-    omega (arith, size, set .most, c .before .leader .ensures .1, c .vote-place .ensures .1)
+is-of-view-requires c κs = search needs
 
 plan-at-requires : tie.Need-plan-at-requires
-plan-at-requires c κs =
-    let r = here (c .before .before .before .before .before .before .before .before .before) in
-    let set = r .allows in
-    let size = r .blockLength in
-    omega (arith, size, set .most, c .before .before .before .leader .ensures .1, c .before .before .vote-place .ensures .1)
+plan-at-requires c κs = search needs
 
-approved-requires : tie.Need-approved-requires
-approved-requires c κs = search needs
+safe-plan-requires : tie.Need-safe-plan-requires
+safe-plan-requires c κs = search needs
+
+enum-known-choice : tie.Need-enum-known-choice
+enum-known-choice c = search needs
+
+enum-told : tie.Need-enum-told
+enum-told c = search needs
 
 -- Where it was asked whether vote-1 was sent.
-abbrev asked : tie.After-approved → tie.After-sent
+abbrev asked : tie.After-safe-plan → tie.After-sent
 asked c = c .before .before .before .before .before .before .before .before
 
 -- The search has told whether the proposal is safe.
-told : (c : tie.After-approved) (b : Bool) → c .approved .result ≡ b
-    → when b (some (cast 1 (c .before .plan-at .result))) ≡ actD (contentsIn (asked c .before .before .before .args .rec .now))
-told c b is =
+told : (c : tie.After-safe-plan) (o : Option ℕ) → chosen (c .safe-plan .result) ≡ o
+    → each o (λ p. some (cast 1 p)) ≡ actD (contentsIn (asked c .before .before .before .args .rec .now))
+told c o is =
     let plan = c .before in
     let kept = plan .before in
     let there = kept .before in
     let at = there .before in
     let l = at .before in
     let sent = asked c in
-    let r = here (sent .before .before .before) in
-    let safe = sym is ∙ c .approved .ensures ∙ ap (λ (x : Record). approvedBy x (plan .plan-at .result)) (sym (r .spelt)) in
+    let r = sent .before .before .before .pre in
+    let safe = sym is ∙ c .safe-plan .ensures ∙ ap (λ (x : Record). safePlan x 8 (plan .plan-at .result)) (sym (r .spelt)) in
     votesOne _ _ r _ (sent .sent .ensures) _ _ (l .leader .ensures .0) (l .leader .ensures .1) (at .vote-place .ensures .0) _ (there .is-of-view .ensures)
-    (l .before .before .if1 .left) (kept .if2 .taken) _ b (plan .plan-at .ensures) safe ∙ ap actD (r .spelt)
+    (l .before .before .if1 .left) (kept .if2 .taken) _ o (plan .plan-at .ensures) safe ∙ ap actD (r .spelt)
 
 returns-2 : tie.Need-returns-2
-returns-2 c = told (c .before) true (c .if3 .taken)
+returns-2 c = told (c .before .before) none (ap chosen (c .enum-told .given .1))
 
 returns-3 : tie.Need-returns-3
-returns-3 c = told (c .before) false (c .if3 .left)
+returns-3 c = told (c .before .before .before) (some (c .before .choice .given .0 .0)) (ap chosen (c .before .choice .given .1))
 
 returns-4 : tie.Need-returns-4
 returns-4 c =
@@ -106,7 +89,7 @@ returns-4 c =
     let at = there .before in
     let l = at .before in
     let told = l .before .before .before in
-    let r = here (told .before .before .before) in
+    let r = told .before .before .before .pre in
     unproposed _ _ r _ (told .sent .ensures) _ _ (l .leader .ensures .0) (l .leader .ensures .1) (at .vote-place .ensures .0) _ (there .is-of-view .ensures)
     (c .if2 .left) ∙ ap actD (r .spelt)
 
@@ -125,7 +108,9 @@ act-d-spec =
     vote-place-requires
     is-of-view-requires
     plan-at-requires
-    approved-requires
+    safe-plan-requires
+    enum-known-choice
+    enum-told
     returns-2
     returns-3
     returns-4)

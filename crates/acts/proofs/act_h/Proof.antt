@@ -7,16 +7,10 @@ use Rattle.safe.specs.Choices.{chosen}
 use Rattle.protocol.specs.Record.{each}
 use Rattle.protocol.specs.Pass.{decide, actH}
 use Rattle.contents.specs.Contents.{contentsIn}
-use Rattle.acts.proofs.Parts.{Lent, lent}
 use Rattle.acts.proofs.Agreed.{decidedAlready, decides}
 use borrow.Author.Needs.{needs}
-use native.Mathlib.Omega.{arith}
 use Rattle.acts.proofs.act_h.Statement.{statement}
 use Rattle.acts.proofs.act_h.Tie as tie
-
--- The record that the step is lent.
-here : (e : tie.Start) → Lent (e .args .rec .now) (e .args .set) (e .args .view)
-here e = lent (e .args .rec .now) (e .args .set) (e .args .view) (e .pre .0) (e .pre .1) (e .pre .2)
 
 sub-block : tie.Need-sub-block
 sub-block c = search needs
@@ -28,24 +22,18 @@ part-block-end : tie.Need-part-block-end
 part-block-end c = search needs
 
 shared-slice-read-if1 : tie.Need-shared-slice-read-if1
-shared-slice-read-if1 c = omega (arith, here (c .before .before .before) .blockLength)
+shared-slice-read-if1 c = search needs
 
 returns : tie.Need-returns
 returns c =
-    let r = here (c .before .before .before .before) in
+    let r = c .before .before .before .before .pre in
     decidedAlready _ _ r (c .if1 .taken) ∙ ap actH (r .spelt)
 
 vote-place-requires : tie.Need-vote-place-requires
-vote-place-requires c κs =
-    let set = here (c .before .before .before .before) .allows in
-    (omega arith, omega (arith, set .most, set .own))
+vote-place-requires c κs = search needs
 
 agreed-plan-requires : tie.Need-agreed-plan-requires
-agreed-plan-requires c κs =
-    let r = here (c .before .before .before .before .before) in
-    let set = r .allows in
-    let size = r .blockLength in
-    (omega (arith, set .most, set .own, size, c .vote-place .ensures .1), omega (arith, set .most), omega (arith, set .third))
+agreed-plan-requires c κs = search needs
 
 enum-known-p : tie.Need-enum-known-p
 enum-known-p c = search needs
@@ -59,7 +47,7 @@ told : (c : tie.After-agreed-plan) (o : Option ℕ) → chosen (c .agreed-plan .
 told c o is =
     let from = c .before in
     let undecided = from .before in
-    let r = here (undecided .before .before .before .before) in
+    let r = undecided .before .before .before .before .pre in
     decides _ _ r (undecided .if1 .left) _ (from .vote-place .ensures .0) o (sym is ∙ c .agreed-plan .ensures) ∙ ap actH (r .spelt)
 
 returns-2 : tie.Need-returns-2

@@ -7,16 +7,10 @@ use Rattle.safe.specs.Choices.{chosen}
 use Rattle.protocol.specs.Record.{Record, each}
 use Rattle.protocol.specs.Pass.{cast, actVote}
 use Rattle.contents.specs.Contents.{contentsIn}
-use Rattle.acts.proofs.Parts.{Lent, lent}
 use Rattle.acts.proofs.Agreed.{voteSent, voteActs}
 use borrow.Author.Needs.{needs}
-use native.Mathlib.Omega.{arith}
 use Rattle.acts.proofs.act_vote.Statement.{statement}
 use Rattle.acts.proofs.act_vote.Tie as tie
-
--- The record that the step is lent.
-here : (e : tie.Start) → Lent (e .args .rec .now) (e .args .set) (e .args .view)
-here e = lent (e .args .rec .now) (e .args .set) (e .args .view) (e .pre .0) (e .pre .1) (e .pre .2)
 
 sub-block : tie.Need-sub-block
 sub-block c = search needs
@@ -31,28 +25,20 @@ add-sent : tie.Need-add-sent
 add-sent c = search needs
 
 sent-requires : tie.Need-sent-requires
-sent-requires c κs =
-    let r = here (c .before .before) in
-    let set = r .allows in
-    let size = r .blockLength in
-    (size, omega arith, omega (arith, set .most, set .own))
+sent-requires c κs = search needs
 
 returns : tie.Need-returns
 returns c =
     let told = c .before in
     let e = told .before .before .before in
-    let r = here e in
-    voteSent _ _ r (e .args .k) (e .pre .4) _ (told .sent .ensures) (c .if1 .taken) ∙ ap (λ (x : Record). actVote x (e .args .k)) (r .spelt)
+    let r = e .pre .0 in
+    voteSent _ _ r (e .args .k) (e .pre .2) _ (told .sent .ensures) (c .if1 .taken) ∙ ap (λ (x : Record). actVote x (e .args .k)) (r .spelt)
 
 vote-place-requires : tie.Need-vote-place-requires
 vote-place-requires c κs = search needs
 
 agreed-plan-requires : tie.Need-agreed-plan-requires
-agreed-plan-requires c κs =
-    let r = here (c .before .before .before .before .before) in
-    let set = r .allows in
-    let size = r .blockLength in
-    (omega (arith, set .most, size, c .vote-place .ensures .1), set .most, set .third)
+agreed-plan-requires c κs = search needs
 
 enum-known-p : tie.Need-enum-known-p
 enum-known-p c = search needs
@@ -63,6 +49,7 @@ add-t14 c = search needs
 enum-told : tie.Need-enum-told
 enum-told c = search needs
 
+-- What the function was lent.
 abbrev entry : tie.After-agreed-plan → tie.Start
 entry c = c .before .before .before .before .before .before
 
@@ -74,8 +61,8 @@ told c o is =
     let unsent = at .before in
     let sent = unsent .before in
     let e = entry c in
-    let r = here e in
-    voteActs _ _ r (e .args .k) (e .pre .4) _ (sent .sent .ensures) (unsent .if1 .left) _ (at .vote-place .ensures .0) o (sym is ∙ c .agreed-plan .ensures)
+    let r = e .pre .0 in
+    voteActs _ _ r (e .args .k) (e .pre .2) _ (sent .sent .ensures) (unsent .if1 .left) _ (at .vote-place .ensures .0) o (sym is ∙ c .agreed-plan .ensures)
     ∙ ap (λ (x : Record). actVote x (e .args .k)) (r .spelt)
 
 returns-2 : tie.Need-returns-2

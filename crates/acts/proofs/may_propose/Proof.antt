@@ -2,24 +2,16 @@
 -- Assumes nothing.
 use mathlib.Core.Path.{_∙_, ap}
 use Rattle.protocol.specs.Pass.{mayPropose}
-use Rattle.acts.proofs.Parts.{Lent, lent}
 use Rattle.acts.proofs.Proposals.{leadsNot, leadsOwn}
 use borrow.Author.Needs.{needs}
-use native.Mathlib.Omega.{arith}
 use Rattle.acts.proofs.may_propose.Statement.{statement}
 use Rattle.acts.proofs.may_propose.Tie as tie
-
--- The record that the step is lent.
-here : (e : tie.Start) → Lent (e .args .rec .now) (e .args .set) (e .args .view)
-here e = lent (e .args .rec .now) (e .args .set) (e .args .view) (e .pre .0) (e .pre .1) (e .pre .2)
 
 cast-leader : tie.Need-cast-leader
 cast-leader c = search needs
 
 leader-requires : tie.Need-leader-requires
-leader-requires c κs =
-    let set = here (c .before .before) .allows in
-    omega (arith, set .least)
+leader-requires c κs = search needs
 
 cast-if1 : tie.Need-cast-if1
 cast-if1 c = search needs
@@ -27,7 +19,7 @@ cast-if1 c = search needs
 returns : tie.Need-returns
 returns c =
     let l = c .before .before in
-    let r = here (l .before .before .before) in
+    let r = l .before .before .before .pre in
     leadsNot _ _ r (l .leader .result) (l .leader .ensures .0) (c .if1 .taken) ∙ ap mayPropose (r .spelt)
 
 sub-sent : tie.Need-sub-sent
@@ -40,17 +32,13 @@ part-sent-end : tie.Need-part-sent-end
 part-sent-end c = search needs
 
 sent-requires : tie.Need-sent-requires
-sent-requires c κs =
-    let r = here (c .before .before .before .before .before .before) in
-    let set = r .allows in
-    let size = r .blockLength in
-    (size, omega arith, omega (arith, set .most, set .own))
+sent-requires c κs = search needs
 
 returns-2 : tie.Need-returns-2
 returns-2 c =
     let led = c .before .before in
     let l = led .before .before in
-    let r = here (l .before .before .before) in
+    let r = l .before .before .before .pre in
     leadsOwn _ _ r (l .leader .result) (l .leader .ensures .0) (led .if1 .left) (c .sent .result) (c .sent .ensures) ∙ ap mayPropose (r .spelt)
 
 pub may-propose-spec : {M : Type 1} → statement M

@@ -1,0 +1,56 @@
+-- View-changes, slot by slot, and the highest view with enough of them (document 01, 'One pass', A and B).
+-- Assumes nothing.
+use Prim.Native.Nat.{ℕ, _+_, _≤_, _<_, max}
+use mathlib.Core.Path.{_≡_}
+use mathlib.Core.Bool.{Bool, true, cond, _&&_}
+use mathlib.Core.List.{List}
+use mathlib.Core.Option.{Option, none, some}
+use lib.Dec.{leb, ltb, eqb}
+use lib.ListN.{length, getD}
+use Rattle.quorum.specs.Sets.{Set, weigh}
+use Rattle.rules.specs.Options.{holds}
+use Rattle.frame.specs.declared.Report.{Report}
+use Rattle.frame.specs.Refusal.{present}
+use Rattle.layout.specs.Layout.{headSize}
+use Rattle.tally.specs.inside.Parts.{rowIn}
+
+-- 'view-changes are for w': the view for which the one in a slot is, where one is kept.
+unfoldable pub asks : Report → Option ℕ
+asks slot = cond (present slot) (some (slot .view)) none
+
+-- The view for which sender j's view-change is, in the shared part.
+abbrev pub changeIn : List ℕ → ℕ → Option ℕ
+changeIn shared j = asks (rowIn shared headSize j)
+
+-- 'above the current view and above the vault's own view-change, where it has sent one': above this.
+abbrev pub newsFrom : ℕ → Option ℕ → ℕ
+newsFrom view none = view
+newsFrom view (some own) = max view own
+
+-- 'kept view-changes are for w': their senders.
+abbrev pub askers : (ℕ → Option ℕ) → ℕ → Set
+askers change w j = holds (eqb w) (change j)
+
+-- They are as many as are needed, of n.
+unfoldable pub enough : (ℕ → Option ℕ) → ℕ → ℕ → ℕ → Bool
+enough change n need w = leb need (weigh (λ i. 1) (askers change w) n)
+
+-- How many of the first k views are w.
+abbrev pub times : List ℕ → ℕ → ℕ → ℕ
+times views k w = weigh (λ i. 1) (λ j. eqb w (getD views j 0)) k
+
+-- The first `count` views have each view above low as often as is needed where so many of n view-changes are for it.
+pub record Gathered (change : ℕ → Option ℕ) (n need low : ℕ) (views : List ℕ) (count : ℕ) : Type 0 where
+  pub most : count ≤ n
+  pub same : (w : ℕ) → low < w → leb need (times views count w) ≡ enough change n need w
+
+-- The highest view so far, once the one at place i is tried: it is there as often as is needed, from here on.
+unfoldable pub raisedAt : List ℕ → ℕ → ℕ → ℕ → ℕ
+raisedAt views i need best =
+    cond (ltb best (getD views i 0) && leb (times views i (getD views i 0) + need) (times views (length views) (getD views i 0))) (getD views i 0) best
+
+-- 'Take the highest ..': the highest view above low that passes a test, low where there is none.
+pub record Highest (test : ℕ → Bool) (low best : ℕ) : Type 0 where
+  pub least : low ≤ best
+  pub passes : low < best → test best ≡ true
+  pub most : (w : ℕ) → low < w → test w ≡ true → w ≤ best
