@@ -52,26 +52,14 @@ fn empty(slot: Report) -> bool
 fn well_formed(slot: Report) -> bool
     ensures { λ b. ⌜ b ≡ not (badForm slot) ⌝ }
 {
-    if slot.mark == numbers::PRESENT {
-        return true;
-    }
-    empty(slot)
+    !frame::bad_form(slot)
 }
 
 // A previous vote against its highest, but for its form.
 fn follows(highest: Report, previous: Report) -> bool
     ensures { λ b. ⌜ b ≡ not (badPrevious highest previous) ⌝ }
 {
-    if previous.mark != numbers::PRESENT {
-        return true;
-    }
-    if highest.mark != numbers::PRESENT {
-        return false;
-    }
-    if highest.view <= previous.view {
-        return false;
-    }
-    highest.plan != previous.plan
+    !frame::bad_previous(highest, previous)
 }
 
 // A previous vote against its highest.
