@@ -47,25 +47,21 @@ spansLock n f v rs spans are =
 -- ---- the lock of one report
 
 module _ (t : List ℕ) (r : ℕ) (reports : reporter t r ≡ true) where
-  -- The view + 1 of vault r's lock, 0 where it has none.
-  abbrev above : ℕ
-  above = getD t (column * 5 + r) 0
-
-  -- The plan of its lock.
+  -- The plan of vault r's lock.
   abbrev plan : ℕ
   plan = getD t (column * 6 + r) 0
 
   -- Its span goes by its view.
-  pub spanIn : (v : ℕ) → lockSpan v (reportsInTable t r) ≡ min (above - 1) v
+  pub spanIn : (v : ℕ) → lockSpan v (reportsInTable t r) ≡ min (getD t (column * 5 + r) 0 - 1) v
   unfolding reportsInTable
-  spanIn v = rw (reports, viewIn above plan)
+  spanIn v = rw (reports, viewIn (getD t (column * 5 + r) 0) plan)
 
-  -- It allows p at view u where it is absent or does not stand against p.
-  module _ (u p : ℕ) where
+  -- It allows p at view u where it is absent or does not stand against p. Its view + 1 is above, 0 where there is none.
+  module _ (above : ℕ) (lock : above ≡ getD t (column * 5 + r) 0) (u p : ℕ) where
     -- Whether the report allows p, by its two columns of the table.
     allowsIn : reporting (reportsInTable t) (allows p u) r ≡ (isNone (voteAbove above plan) || holds (lockAllows p u) (voteAbove above plan))
     unfolding reportsInTable allows
-    allowsIn = rw reports
+    allowsIn = rw (reports, lock)
 
     -- Where it has a lock, that lock alone decides.
     there : above ≢ 0 → reporting (reportsInTable t) (allows p u) r ≡ lockAllows p u (record { view = above - 1; plan = plan })

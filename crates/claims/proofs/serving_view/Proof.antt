@@ -1,173 +1,102 @@
 -- `claims::serving_view` meets its contract.
--- The search over candidate views. Outer invariant: no view tried so far serves. Inner invariant: the count is that of the claimers
--- among those that are for every plan and the first r of the row. A view that f + 1 claim serves (`walkFound`); else the next is tried.
+-- The search over candidate views: no view tried so far serves. A view that f + 1 claim serves; else the next is tried (`walked`).
 -- Assumes nothing.
-use Prim.Native.Nat.{_+_, _-_, _≤_}
+use Prim.Native.Nat.{ℕ, _-_}
 use mathlib.Core.Path.{_≡_, refl, sym, _∙_, ap}
+use mathlib.Core.Bool.{Bool, true, false, cond}
 use native.Mathlib.Omega.{arith}
 use borrow.Author.Needs.{needs}
-use lib.Dec.{eqb}
-use lib.ListN.{getD}
-use Rattle.claims.proofs.Rows.{countNone, countStep, rowFits, Below, walkOver, walkFound, walkOn}
-use Rattle.claims.specs.inside.Rows.{countOf, claimedIn, endOf, servingView}
-use Rattle.claims.specs.Table.{column}
-use Rattle.quorum.proofs.Laws.{shareMost}
+use Rattle.claims.proofs.Rows.{rowFits, Below, walkOver, walked}
+use Rattle.claims.specs.inside.Rows.{claimedIn, endOf, servingView}
 use Rattle.claims.proofs.serving_view.Statement.{statement}
 use Rattle.claims.proofs.serving_view.Tie as tie
 
-abbrev Inv-reporters : tie.InvT-reporters
-Inv-reporters plans c low p end w row some claimers₀ r₀ claimers r =
-    (r ≤ some) × (claimers ≤ claimers₀ + r) × (claimers ≡ claimers₀ + countOf plans row r p) × (row ≤ column) × (claimers₀ ≤ column) × (some ≤ column)
+abbrev Inv-loop : tie.InvT-loop
+Inv-loop plans c low p end₀ end = Below plans c low p end
 
-abbrev μ-reporters : tie.MeasureT-reporters
-μ-reporters plans c low p end w row some claimers₀ r₀ claimers r = some - r
+abbrev μ-loop : tie.MeasureT-loop
+μ-loop plans c low p end₀ end = end
 
-abbrev Inv-views : tie.InvT-views
-Inv-views plans c low p end₀ end = Below plans c low p end
-
-abbrev μ-views : tie.MeasureT-views
-μ-views plans c low p end₀ end = end
-
-end-of-requires : tie.Need-end-of-requires Inv-reporters μ-reporters Inv-views μ-views
+end-of-requires : tie.Need-end-of-requires Inv-loop μ-loop
 end-of-requires c κs = search needs
 
-views-holds : tie.Need-views-holds Inv-reporters μ-reporters Inv-views μ-views
-views-holds c =
+loop-holds : tie.Need-loop-holds Inv-loop μ-loop
+loop-holds c =
     let a = c .before .before .args in
     ap (servingView (claimedIn (a .plans .now) (a .c) (a .p)) (a .low) (a .c .v)) (sym (c .end-of .ensures))
 
-sub-w : tie.Need-sub-w Inv-reporters μ-reporters Inv-views μ-views
+sub-w : tie.Need-sub-w Inv-loop μ-loop
 sub-w c = search needs
 
-place-at-requires : tie.Need-place-at-requires Inv-reporters μ-reporters Inv-views μ-views
+place-at-requires : tie.Need-place-at-requires Inv-loop μ-loop
 place-at-requires c κs = search needs
 
-tally-at-requires : tie.Need-tally-at-requires Inv-reporters μ-reporters Inv-views μ-views
+tally-at-requires : tie.Need-tally-at-requires Inv-loop μ-loop
 tally-at-requires c κs = search needs
 
-reporters-holds : tie.Need-reporters-holds Inv-reporters μ-reporters Inv-views μ-views
-reporters-holds c =
-    let a = c .before .before .before .before .before .before .args in
-    let pre = c .before .before .before .before .before .before .pre in
+count-for-requires : tie.Need-count-for-requires Inv-loop μ-loop
+count-for-requires c κs =
+    let entry = c .before .before .before .before .before .before in
+    let pre = entry .pre in
+    let w = c .before .before .before .loop .end - 1 in
     let row = c .before .place-at in
     let t = c .tally-at in
-    let (low, fits) = rowFits (a .c) (c .before .before .before .views .end - 1) (row .result) (t .result) (row .ensures) (t .ensures) (pre .2) (pre .3) in
-    (omega arith, omega arith, omega (arith, countNone (a .plans .now) (row .result) (a .p)), low, fits .0, fits .1)
+    let (low, fits) = rowFits (entry .args .c) w (row .result) (t .result) (row .ensures) (t .ensures) (pre .2) (pre .3) in
+    (pre .0, omega (arith, low), fits)
 
-is-blocking-requires : tie.Need-is-blocking-requires Inv-reporters μ-reporters Inv-views μ-views
+is-blocking-requires : tie.Need-is-blocking-requires Inv-loop μ-loop
 is-blocking-requires c κs = search needs
 
-add-same : tie.Need-add-same Inv-reporters μ-reporters Inv-views μ-views
-add-same c = omega arith
+-- What the search begins with, and the view that is tried.
+abbrev entry : tie.After-is-blocking Inv-loop μ-loop → tie.Start Inv-loop μ-loop
+entry c = c .before .before .before .before .before .before .before .before
 
-mul-same : tie.Need-mul-same Inv-reporters μ-reporters Inv-views μ-views
-mul-same c = omega arith
+abbrev view : tie.After-is-blocking Inv-loop μ-loop → ℕ
+view c = c .before .before .before .before .before .loop .end - 1
 
-shared-slice-read-same :
-    tie.Need-shared-slice-read-same Inv-reporters μ-reporters Inv-views μ-views
-shared-slice-read-same c = omega arith
+-- What the search finds below a view.
+abbrev serves : tie.After-is-blocking Inv-loop μ-loop → ℕ → ℕ
+serves c end = let a = entry c .args in servingView (claimedIn (a .plans .now) (a .c) (a .p)) (a .low) (a .c .v) end
 
-same-requires : tie.Need-same-requires Inv-reporters μ-reporters Inv-views μ-views
-same-requires c κs = search needs
+-- The view is tried: the search ends there, or goes on below it.
+next : (c : tie.After-is-blocking Inv-loop μ-loop) (b : Bool) → c .is-blocking .result ≡ b
+    → serves c (endOf (entry c .args .c)) ≡ cond b (view c) (serves c (view c))
+next c b is =
+    let tally = c .before .before in
+    let loop = tally .before .before .before in
+    let a = loop .before .before .before .args in
+    walked (a .plans .now) (a .c) (a .low) (a .p) (loop .loop .end) _ _ _ _ (loop .loop .inv) (tally .before .before .loop-test .taken) refl
+    (tally .before .place-at .ensures) (tally .tally-at .ensures) (c .before .count-for .ensures) b (sym (c .is-blocking .ensures) ∙ is)
 
-add-claimers : tie.Need-add-claimers Inv-reporters μ-reporters Inv-views μ-views
-add-claimers c =
-    let atPlaceAt = c .before .before .before .before .before in
-    let atEntry = atPlaceAt .before .before .before .before .before in
-    let a = atEntry .args in
-    let at = c .before .before .before .reporters in
-    let row = atPlaceAt .place-at .result in
-    omega (arith, shareMost (eqb (getD (a .plans .now) (row + at .r) 0) (a .p)) 1 (c .same .result) (c .same .ensures))
+returns : tie.Need-returns Inv-loop μ-loop
+returns c = sym (next (c .before) true (c .if1 .taken))
 
-add-r : tie.Need-add-r Inv-reporters μ-reporters Inv-views μ-views
-add-r c = omega arith
+loop-less : tie.Need-loop-less Inv-loop μ-loop
+loop-less c = search needs
 
-reporters-less : tie.Need-reporters-less Inv-reporters μ-reporters Inv-views μ-views
-reporters-less c = search needs
+loop-again : tie.Need-loop-again Inv-loop μ-loop
+loop-again c = next (c .before) false (c .if1 .left)
 
-reporters-again : tie.Need-reporters-again Inv-reporters μ-reporters Inv-views μ-views
-reporters-again c =
-    let atTallyAt = c .before .before .before .before in
-    let atPlaceAt = atTallyAt .before in
-    let atEntry = atPlaceAt .before .before .before .before .before in
-    let a = atEntry .args in
-    let at = c .before .before .before .reporters in
-    let t = atTallyAt .tally-at .result in
-    let row = atPlaceAt .place-at .result in
-    let most = shareMost (eqb (getD (a .plans .now) (row + at .r) 0) (a .p)) 1 (c .same .result) (c .same .ensures) in (
-      omega arith,
-      omega (arith, most),
-      countStep (a .plans .now) row (at .r) (a .p) (t .every) (at .claimers) (c .same .result) (at .inv .2) (c .same .ensures),
-      at .inv .3,
-      at .inv .4,
-      at .inv .5,
-    )
-
-views-less : tie.Need-views-less Inv-reporters μ-reporters Inv-views μ-views
-views-less c = search needs
-
-views-again : tie.Need-views-again Inv-reporters μ-reporters Inv-views μ-views
-views-again c =
-    let atTallyAt = c .before .before .before .before in
-    let atPlaceAt = atTallyAt .before in
-    let atIf1 = atPlaceAt .before in
-    let atViews = atIf1 .before in
-    let atEntry = atViews .before .before .before in
-    let a = atEntry .args in
-    let at = c .before .before .before .reporters in
-    let t = atTallyAt .tally-at in
-    let row = atPlaceAt .place-at in
-    let last = atViews .views in
-    walkOn (a .plans .now) (a .c) (a .low) (a .p) (last .end) _ _ _ _ _ (last .inv) (atIf1 .if1 .left) refl
-    (row .ensures) (t .ensures) (c .before .before .if2 .taken) (at .inv .2)
-    (sym (c .before .is-blocking .ensures) ∙ c .if3 .left)
-
-returns : tie.Need-returns Inv-reporters μ-reporters Inv-views μ-views
-returns c =
-    let a = c .before .before .before .before .args in
-    let last = c .before .views in
-    walkOver (a .plans .now) (a .c) (a .low) (a .p) (last .end) (last .inv) (c .if1 .taken)
-
-returns-2 : tie.Need-returns-2 Inv-reporters μ-reporters Inv-views μ-views
+returns-2 : tie.Need-returns-2 Inv-loop μ-loop
 returns-2 c =
-    let atTallyAt = c .before .before .before .before in
-    let atPlaceAt = atTallyAt .before in
-    let atIf1 = atPlaceAt .before in
-    let atViews = atIf1 .before in
-    let atEntry = atViews .before .before .before in
-    let a = atEntry .args in
-    let at = c .before .before .before .reporters in
-    let t = atTallyAt .tally-at in
-    let row = atPlaceAt .place-at in
-    let last = atViews .views in
-    walkFound (a .plans .now) (a .c) (a .low) (a .p) (last .end) _ _ _ _ _ (last .inv) (atIf1 .if1 .left) refl
-    (row .ensures) (t .ensures) (c .before .before .if2 .taken) (at .inv .2)
-    (sym (c .before .is-blocking .ensures) ∙ c .if3 .taken)
+    let loop = c .before .loop in
+    let a = c .before .before .before .before .args in
+    walkOver (a .plans .now) (a .c) (a .low) (a .p) (loop .end) (loop .inv) (c .loop-test .left)
 
 pub serving-view-spec : {M : Type 1} → statement M
 serving-view-spec =
     tie.close
     (tie.spec
-    Inv-reporters
-    μ-reporters
-    Inv-views
-    μ-views
+    Inv-loop
+    μ-loop
     end-of-requires
-    views-holds
+    loop-holds
     sub-w
     place-at-requires
     tally-at-requires
-    reporters-holds
+    count-for-requires
     is-blocking-requires
-    add-same
-    mul-same
-    shared-slice-read-same
-    same-requires
-    add-claimers
-    add-r
-    reporters-less
-    reporters-again
-    views-less
-    views-again
     returns
+    loop-less
+    loop-again
     returns-2)

@@ -34,6 +34,10 @@ pub data Stance (test : ℕ → Bool) (x every some : ℕ) : Type 0 where
   forOne : every ≡ 0 → some ≡ 1 → ((p : ℕ) → test p ≡ eqb x p) → Stance test x every some
   forNone : every ≡ 0 → some ≡ 0 → ((p : ℕ) → test p ≡ false) → Stance test x every some
 
+-- A tally with what one report adds.
+abbrev pub added : Tally → Tally → Tally
+added t share = record { every = t .every + share .every; some = t .some + share .some }
+
 -- The row tells of every plan how many of the first n reports pass its test.
 pub record Tells (rs : Reports) (n : ℕ) (test : ℕ → Report → Bool) (plans : List ℕ) (at : ℕ) (t : Tally) : Type 0 where
   pub most : t .every + t .some ≤ n
