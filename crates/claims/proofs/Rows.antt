@@ -13,9 +13,9 @@ use native.Mathlib.Decide.{ℕ-discrete, decLt}
 use lib.Dec.{leb, ltb, eqb}
 use lib.ListN.{length, length-set, getD, set}
 use lib.Seq.{getD-set-same, getD-set-other}
-use borrow.Author.Tests.{leb-true, leb-false, le-leb, lt-leb, lt-ltb, le-ltb, eq-eqb, ne-eqb, eqb-true}
+use borrow.Author.Tests.{leb-true, leb-false, le-leb, lt-leb, lt-ltb, le-ltb, eq-eqb, ne-eqb}
 use Rattle.quorum.specs.Sets.{weigh}
-use Rattle.quorum.proofs.Laws.{weighNone, weighMore, weighSame, outside}
+use Rattle.quorum.proofs.Laws.{weighNone, weighMore, weighSame}
 use Rattle.rules.specs.Rules.{Report, Reports, viewOf, viewFor, reach, claims, reporting}
 use Rattle.claims.specs.declared.Search.{Search}
 use Rattle.claims.specs.declared.Tally.{Tally}

@@ -5,7 +5,7 @@
 use Prim.Native.Nat.{ℕ, zero, suc, _+_, _-_, _*_, _≤_, _<_, min, max}
 use mathlib.Core.Path.{_≡_, refl, sym, _∙_, ap}
 use mathlib.Core.Logic.{_≢_, _⊎_, inl, inr, ⊎-elim}
-use mathlib.Core.Bool.{Bool, true, false, cond, not, _||_, false≢true}
+use mathlib.Core.Bool.{true, false, not, _||_, false≢true}
 use mathlib.Core.Option.{Option, none, some}
 use mathlib.Core.List.{List}
 use native.Mathlib.Omega.{arith}
@@ -15,7 +15,7 @@ use lib.ListN.{getD}
 use borrow.Author.Tests.{le-leb, lt-leb, leb-true, eqb-true, eqb-false, eq-eqb, ne-eqb, not-true}
 use Rattle.quorum.specs.Sets.{Vaults, equals}
 use Rattle.quorum.specs.Quorums.{isQuorum}
-use Rattle.quorum.proofs.Bools.{which, clash, notTrue, bothSplit, either}
+use Rattle.quorum.proofs.Bools.{clash, notTrue, bothSplit, either}
 use Rattle.quorum.proofs.Laws.{blockingRest, quorumByWeight}
 use Rattle.rules.specs.Options.{isNone, holds}
 use Rattle.rules.specs.Rules.{Vote, Report, Reports, viewOf, lockAllows, allows, unlocked, reporting}

@@ -14,21 +14,21 @@ use native.Mathlib.Numerals.{add-one}
 use native.Mathlib.Decide.{ℕ-discrete, decLt}
 use lib.Dec.{leb, ltb, eqb}
 use lib.ListN.{length, getD}
-use borrow.Author.Tests.{leb-true, leb-false, le-leb, lt-ltb, le-ltb, ltb-true, ltb-false, eqb-true, eqb-false, eq-eqb, ne-eqb, not-true, not-false}
+use borrow.Author.Tests.{leb-true, leb-false, lt-ltb, le-ltb, ltb-true, ltb-false, eqb-true, eqb-false, eq-eqb, ne-eqb, not-true, not-false}
 use Rattle.quorum.specs.inside.Bools.{any}
-use Rattle.quorum.specs.Sets.{Vaults, equals, weigh}
+use Rattle.quorum.specs.Sets.{Vaults, equals}
 use Rattle.quorum.specs.Quorums.{isBlocking}
 use Rattle.quorum.proofs.Bools.{which, clash, notTrue, bothSplit, bothJoin, orLeft, orRight}
 use Rattle.quorum.proofs.Laws.{quorumCount}
 use Rattle.rules.specs.Options.{isNone}
-use Rattle.rules.specs.Rules.{Reports, Rule, rule1, rule3, claims, allows, reporting, Safe, atStart, noLock, since, IsSmallest, own, other}
+use Rattle.rules.specs.Rules.{Reports, Rule, rule1, rule3, claims, allows, reporting, Safe, atStart, noLock, since, IsSmallest, other}
 use Rattle.rules.specs.inside.Counts.{claimed, free, allowed, twoSets, backed, safe, smaller, choice}
 use Rattle.rules.specs.inside.Views.{lowestView, Lowest}
 use Rattle.rules.proofs.Laws.{claimedFalls, safeIff, choiceIs, chosenOne}
 use Rattle.rules.proofs.Views.{twoLate, twoNone, twoLone, twoBoth, firstServes, nextServes, neverSafe}
 use Rattle.claims.specs.declared.Search.{Search}
 use Rattle.claims.specs.declared.Tally.{Tally}
-use Rattle.claims.specs.inside.Rows.{rowsSize, countOf, forPlan, Fits, Tells, SameBelow, tallyAt, placeAt, claimedIn, endOf, servingView}
+use Rattle.claims.specs.inside.Rows.{rowsSize, forPlan, Fits, Tells, SameBelow, tallyAt, placeAt, claimedIn, endOf, servingView}
 use Rattle.claims.specs.Table.{column}
 use Rattle.claims.proofs.Rows.{countWhere, rowKept, servingNone, servingNext}
 use Rattle.safe.specs.Choices.{ruleOf}

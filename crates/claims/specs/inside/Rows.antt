@@ -5,7 +5,7 @@ use mathlib.Core.Path.{_≡_}
 use mathlib.Core.Bool.{Bool, true, false, cond}
 use mathlib.Core.List.{List}
 use lib.Dec.{leb, ltb, eqb}
-use lib.ListN.{getD, length}
+use lib.ListN.{getD}
 use Rattle.quorum.specs.Sets.{weigh}
 use Rattle.rules.specs.Rules.{Report, Reports, reporting}
 use Rattle.claims.specs.declared.Search.{Search}

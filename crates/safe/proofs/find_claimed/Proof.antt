@@ -2,16 +2,14 @@
 -- Neither the plan tried last nor the first r of the row pass; where none of the row does, none is claimed (`noneFound`).
 -- Assumes nothing.
 use Prim.Native.Nat.{ℕ, _+_, _-_, _≤_}
-use mathlib.Core.Bool.{true, false}
-use mathlib.Core.Path.{_≡_, refl, sym, _∙_, ap, subst}
+use mathlib.Core.Bool.{false}
+use mathlib.Core.Path.{_≡_, sym, _∙_, ap}
 use native.Mathlib.Omega.{arith}
 use lib.ListN.{getD}
 use borrow.Author.Needs.{needs}
 use Rattle.claims.proofs.Rows.{rowFits}
-use Rattle.claims.specs.inside.Rows.{placeAt}
 use Rattle.claims.specs.Table.{column}
 use Rattle.claims.specs.declared.Tally.{Tally}
-use Rattle.quorum.proofs.Bools.{bothJoin}
 use Rattle.safe.proofs.Searches.{servedAt, tried, NonePass, untriedFirst, nonePassMore, foundFirst, foundOther, noneFound}
 use Rattle.safe.specs.Choices.{chosen}
 use Rattle.safe.proofs.find_claimed.Statement.{statement}
