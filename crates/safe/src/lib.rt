@@ -335,10 +335,12 @@ fn begin<'a>(table: &'a [u64], n: usize, f: usize, u: u32, v: u32) -> Parts
 }
 
 // Whether p is safe in view v: by Rule 3 where three is set, by Rule 1 where not.
-fn safe_among<'a>(table: &'a [u64], n: usize, f: usize, v: u32, p: u64, three: bool) -> bool
-    requires { ⌜ (length (now table) ≡ tableSize) × (n ≤ column) × (f < n) ⌝ }
-    ensures { λ b. ⌜ b ≡ safe (ruleOf three) (equals n f) (reportsInTable (now (table .entry))) v p ⌝ }
+pub fn safe_by<'a>(table: &'a [u64], set: Settings, v: u32, p: u64, three: bool) -> bool
+    requires { ⌜ (length (now table) ≡ tableSize) × (set .n ≤ 64) × (set .f < set .n) ⌝ }
+    ensures { λ b. ⌜ b ≡ safe (ruleOf three) (vaultsOf set) (reportsInTable (now (table .entry))) v p ⌝ }
 {
+    let n = set.n as usize;
+    let f = set.f as usize;
     if every_safe(table, n, f, v) {
         return true;
     }
@@ -351,13 +353,6 @@ fn safe_among<'a>(table: &'a [u64], n: usize, f: usize, v: u32, p: u64, three: b
         return safe_one(&s.plans, s.search, p);
     }
     false
-}
-
-pub fn safe_by<'a>(table: &'a [u64], set: Settings, v: u32, p: u64, three: bool) -> bool
-    requires { ⌜ (length (now table) ≡ tableSize) × (set .n ≤ 64) × (set .f < set .n) ⌝ }
-    ensures { λ b. ⌜ b ≡ safe (ruleOf three) (vaultsOf set) (reportsInTable (now (table .entry))) v p ⌝ }
-{
-    safe_among(table, set.n as usize, set.f as usize, v, p, three)
 }
 
 // ---- step C
@@ -452,10 +447,12 @@ fn smallest_safe<'a>(plans: &'a [u64], c: Search, start: u64) -> Choice
 }
 
 // Step C: 'proposes its starting plan if that is safe by Rule 1, else the smallest safe plan, else waits'.
-fn choose_among<'a>(table: &'a [u64], n: usize, f: usize, v: u32, start: u64) -> Choice
-    requires { ⌜ (length (now table) ≡ tableSize) × (n ≤ column) × (f < n) ⌝ }
-    ensures { λ c. ⌜ chosen c ≡ choice (equals n f) (reportsInTable (now (table .entry))) v start ⌝ }
+pub fn choose<'a>(table: &'a [u64], set: Settings, v: u32, start: u64) -> Choice
+    requires { ⌜ (length (now table) ≡ tableSize) × (set .n ≤ 64) × (set .f < set .n) ⌝ }
+    ensures { λ c. ⌜ chosen c ≡ choice (vaultsOf set) (reportsInTable (now (table .entry))) v start ⌝ }
 {
+    let n = set.n as usize;
+    let f = set.f as usize;
     if every_safe(table, n, f, v) {
         return Choice::Plan(start);
     }
@@ -468,11 +465,4 @@ fn choose_among<'a>(table: &'a [u64], n: usize, f: usize, v: u32, start: u64) ->
         return smallest_safe(&s.plans, s.search, start);
     }
     Choice::Nothing
-}
-
-pub fn choose<'a>(table: &'a [u64], set: Settings, v: u32, start: u64) -> Choice
-    requires { ⌜ (length (now table) ≡ tableSize) × (set .n ≤ 64) × (set .f < set .n) ⌝ }
-    ensures { λ c. ⌜ chosen c ≡ choice (vaultsOf set) (reportsInTable (now (table .entry))) v start ⌝ }
-{
-    choose_among(table, set.n as usize, set.f as usize, v, start)
 }

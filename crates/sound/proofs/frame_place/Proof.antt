@@ -21,7 +21,8 @@ returns : tie.Need-returns
 returns c =
     let s = c .before .before in
     let a = s .args in
-    let e = c .place-behind .ensures ∙ (λ i. place (c .before .frame-slot .ensures .0 i) + slotSize * a .sender) ∙ placeFrame (a .kind) (a .sender) (s .pre .row) in
+    let first = c .place-behind .ensures ∙ (λ i. place (c .before .frame-slot .ensures .0 i) + slotSize * a .sender) in
+    let e = first ∙ placeFrame (a .kind) (a .sender) (s .pre .row) in
     let fits = placeFits (frameSlot (a .kind) (a .sender)) (let h = s .pre .row in omega arith) in
     (e, omega (arith, e, fits))
 
