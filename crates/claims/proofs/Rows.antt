@@ -286,12 +286,12 @@ module _ (plans : List ℕ) (c : Search) (low p : ℕ) where
   walkOver end was over = sym (was ∙ servingNone (claimedIn plans c p) low (c .v) end over)
 
   -- All claimers of p at the next view w are counted.
-  module _ (end w row claimers : ℕ) (t : Tally) (was : Below end) (above : low < end) (is : w ≡ end - 1)
-      (at : row ≡ placeAt c w) (tally : t ≡ tallyAt c w) (count : claimers ≡ forPlan plans row t p) where
+  module _ (end w row k claimers : ℕ) (t : Tally) (was : Below end) (above : low < end) (is : w ≡ end - 1)
+      (at : row ≡ placeAt c w) (tally : t ≡ tallyAt c w) (all : k ≡ t .some) (count : claimers ≡ t .every + countOf plans row k p) where
     -- A blocking set of those counted is the test that the search makes at w.
     claimersTell : leb (c .f + 1) claimers ≡ claimedIn plans c p w
     unfolding claimedIn
-    claimersTell = rw (← tally, ← at) (ap (leb (c .f + 1)) count)
+    claimersTell = rw (← tally, ← at, ← all) (ap (leb (c .f + 1)) count)
 
     -- What the search finds below `end`: w where that serves, else what it finds below w.
     step : serves end ≡ cond (claimedIn plans c p w) w (serves w)

@@ -170,7 +170,7 @@ fn plan_share(x: u64, p: u64) -> usize
     if x == p { 1 } else { 0 }
 }
 
-// How many are for plan p, by the row that begins at a place. The count is new for every plan and view.
+// How many are for plan p, by the row that begins at a place.
 pub fn count_for<'a>(plans: &'a [u64], at: usize, tally: Tally, p: u64) -> usize
     requires { ⌜ (length (now plans) ≡ rowsSize) × (at + column ≤ rowsSize) × Fits tally ⌝ }
     ensures { λ c. ⌜ c ≡ forPlan (now (plans .entry)) at tally p ⌝ }
@@ -186,23 +186,35 @@ pub fn count_for<'a>(plans: &'a [u64], at: usize, tally: Tally, p: u64) -> usize
 }
 
 // The search over candidate views, downwards and not below low: the first view at which a blocking set of reporters claims plan p,
-// v where there is none.
+// v where there is none. The count is new for every plan and view. The nested loops with labels are a form that document 01 names.
 pub fn serving_view<'a>(plans: &'a [u64], c: Search, low: u32, p: u64) -> u32
     requires { ⌜ (length (now plans) ≡ rowsSize) × (c .u < c .v) × Fits (c .here) × Fits (c .next) ⌝ }
     ensures { λ w. ⌜ w ≡ servingView (claimedIn (now (plans .entry)) c p) low (c .v) (endOf c) ⌝ }
 {
     let mut end = end_of(c);
-    while low < end {
+    let serving: u32 = 'views: loop {
+        if end <= low {
+            break 'views c.v;
+        }
         let w = end - 1;
         let row = place_at(c, w);
         let tally = tally_at(c, w);
-        let claimers = count_for(plans, row, tally, p);
-        if is_blocking(claimers, c.f) {
-            return w;
+        let some = tally.some;
+        let mut claimers = tally.every;
+        let mut r: usize = 0;
+        'reporters: loop {
+            if r == some {
+                if is_blocking(claimers, c.f) {
+                    break 'views w;
+                }
+                break 'reporters;
+            }
+            claimers += plan_share(plans[row + r], p);
+            r += 1;
         }
         end = w;
-    }
-    c.v
+    };
+    serving
 }
 
 // ---- the search over locks

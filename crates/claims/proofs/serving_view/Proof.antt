@@ -1,102 +1,173 @@
 -- `claims::serving_view` meets its contract.
--- The search over candidate views: no view tried so far serves. A view that f + 1 claim serves; else the next is tried (`walked`).
+-- The search over candidate views. Outer invariant: no view tried so far serves. Inner invariant: the count is that of the claimers
+-- among those that are for every plan and the first r of the row. A view that f + 1 claim serves; else the next is tried (`walked`).
 -- Assumes nothing.
-use Prim.Native.Nat.{ℕ, _-_}
+use Prim.Native.Nat.{ℕ, _+_, _-_, _≤_}
 use mathlib.Core.Path.{_≡_, refl, sym, _∙_, ap}
 use mathlib.Core.Bool.{Bool, true, false, cond}
 use native.Mathlib.Omega.{arith}
 use borrow.Author.Needs.{needs}
-use Rattle.claims.proofs.Rows.{rowFits, Below, walkOver, walked}
-use Rattle.claims.specs.inside.Rows.{claimedIn, endOf, servingView}
+use lib.Dec.{eqb}
+use lib.ListN.{getD}
+use Rattle.claims.proofs.Rows.{countNone, countStep, rowFits, Below, walkOver, walked}
+use Rattle.claims.specs.inside.Rows.{countOf, claimedIn, endOf, servingView}
+use Rattle.claims.specs.Table.{column}
+use Rattle.quorum.proofs.Laws.{shareMost}
 use Rattle.claims.proofs.serving_view.Statement.{statement}
 use Rattle.claims.proofs.serving_view.Tie as tie
 
-abbrev Inv-loop : tie.InvT-loop
-Inv-loop plans c low p end₀ end = Below plans c low p end
+abbrev Inv-reporters : tie.InvT-reporters
+Inv-reporters plans c low p end w row some claimers₀ r₀ claimers r =
+    (r ≤ some) × (claimers ≤ claimers₀ + r) × (claimers ≡ claimers₀ + countOf plans row r p) × (row ≤ column) × (claimers₀ ≤ column) × (some ≤ column)
 
-abbrev μ-loop : tie.MeasureT-loop
-μ-loop plans c low p end₀ end = end
+abbrev μ-reporters : tie.MeasureT-reporters
+μ-reporters plans c low p end w row some claimers₀ r₀ claimers r = some - r
 
-end-of-requires : tie.Need-end-of-requires Inv-loop μ-loop
+abbrev Inv-views : tie.InvT-views
+Inv-views plans c low p end₀ end = Below plans c low p end
+
+abbrev μ-views : tie.MeasureT-views
+μ-views plans c low p end₀ end = end
+
+end-of-requires : tie.Need-end-of-requires Inv-reporters μ-reporters Inv-views μ-views
 end-of-requires c κs = search needs
 
-loop-holds : tie.Need-loop-holds Inv-loop μ-loop
-loop-holds c =
+views-holds : tie.Need-views-holds Inv-reporters μ-reporters Inv-views μ-views
+views-holds c =
     let a = c .before .before .args in
     ap (servingView (claimedIn (a .plans .now) (a .c) (a .p)) (a .low) (a .c .v)) (sym (c .end-of .ensures))
 
-sub-w : tie.Need-sub-w Inv-loop μ-loop
+sub-w : tie.Need-sub-w Inv-reporters μ-reporters Inv-views μ-views
 sub-w c = search needs
 
-place-at-requires : tie.Need-place-at-requires Inv-loop μ-loop
+place-at-requires : tie.Need-place-at-requires Inv-reporters μ-reporters Inv-views μ-views
 place-at-requires c κs = search needs
 
-tally-at-requires : tie.Need-tally-at-requires Inv-loop μ-loop
+tally-at-requires : tie.Need-tally-at-requires Inv-reporters μ-reporters Inv-views μ-views
 tally-at-requires c κs = search needs
 
-count-for-requires : tie.Need-count-for-requires Inv-loop μ-loop
-count-for-requires c κs =
-    let entry = c .before .before .before .before .before .before in
-    let pre = entry .pre in
-    let w = c .before .before .before .loop .end - 1 in
+reporters-holds : tie.Need-reporters-holds Inv-reporters μ-reporters Inv-views μ-views
+reporters-holds c =
+    let a = c .before .before .before .before .before .before .args in
+    let pre = c .before .before .before .before .before .before .pre in
     let row = c .before .place-at in
     let t = c .tally-at in
-    let (low, fits) = rowFits (entry .args .c) w (row .result) (t .result) (row .ensures) (t .ensures) (pre .2) (pre .3) in
-    (pre .0, omega (arith, low), fits)
+    let (low, fits) = rowFits (a .c) (c .before .before .before .views .end - 1) (row .result) (t .result) (row .ensures) (t .ensures) (pre .2) (pre .3) in
+    (omega arith, omega arith, omega (arith, countNone (a .plans .now) (row .result) (a .p)), low, fits .0, fits .1)
 
-is-blocking-requires : tie.Need-is-blocking-requires Inv-loop μ-loop
+is-blocking-requires : tie.Need-is-blocking-requires Inv-reporters μ-reporters Inv-views μ-views
 is-blocking-requires c κs = search needs
 
--- What the search begins with, and the view that is tried.
-abbrev entry : tie.After-is-blocking Inv-loop μ-loop → tie.Start Inv-loop μ-loop
-entry c = c .before .before .before .before .before .before .before .before
+add-plan-share : tie.Need-add-plan-share Inv-reporters μ-reporters Inv-views μ-views
+add-plan-share c = omega arith
 
-abbrev view : tie.After-is-blocking Inv-loop μ-loop → ℕ
-view c = c .before .before .before .before .before .loop .end - 1
+mul-plan-share : tie.Need-mul-plan-share Inv-reporters μ-reporters Inv-views μ-views
+mul-plan-share c = omega arith
+
+shared-slice-read-plan-share :
+    tie.Need-shared-slice-read-plan-share Inv-reporters μ-reporters Inv-views μ-views
+shared-slice-read-plan-share c = omega arith
+
+plan-share-requires : tie.Need-plan-share-requires Inv-reporters μ-reporters Inv-views μ-views
+plan-share-requires c κs = search needs
+
+add-claimers : tie.Need-add-claimers Inv-reporters μ-reporters Inv-views μ-views
+add-claimers c =
+    let atPlaceAt = c .before .before .before .before .before in
+    let atEntry = atPlaceAt .before .before .before .before .before in
+    let a = atEntry .args in
+    let at = c .before .before .before .reporters in
+    let row = atPlaceAt .place-at .result in
+    omega (arith, shareMost (eqb (getD (a .plans .now) (row + at .r) 0) (a .p)) 1 (c .plan-share .result) (c .plan-share .ensures))
+
+add-r : tie.Need-add-r Inv-reporters μ-reporters Inv-views μ-views
+add-r c = omega arith
+
+reporters-less : tie.Need-reporters-less Inv-reporters μ-reporters Inv-views μ-views
+reporters-less c = search needs
+
+reporters-again : tie.Need-reporters-again Inv-reporters μ-reporters Inv-views μ-views
+reporters-again c =
+    let atTallyAt = c .before .before .before .before in
+    let atPlaceAt = atTallyAt .before in
+    let atEntry = atPlaceAt .before .before .before .before .before in
+    let a = atEntry .args in
+    let at = c .before .before .before .reporters in
+    let t = atTallyAt .tally-at .result in
+    let row = atPlaceAt .place-at .result in
+    let most = shareMost (eqb (getD (a .plans .now) (row + at .r) 0) (a .p)) 1 (c .plan-share .result) (c .plan-share .ensures) in (
+      omega arith,
+      omega (arith, most),
+      countStep (a .plans .now) row (at .r) (a .p) (t .every) (at .claimers) (c .plan-share .result) (at .inv .2) (c .plan-share .ensures),
+      at .inv .3,
+      at .inv .4,
+      at .inv .5,
+    )
+
+views-less : tie.Need-views-less Inv-reporters μ-reporters Inv-views μ-views
+views-less c = search needs
+
+-- Where a view is tried, what the search begins with, and the view itself.
+abbrev tried : tie.After-is-blocking Inv-reporters μ-reporters Inv-views μ-views → tie.After-place-at Inv-reporters μ-reporters Inv-views μ-views
+tried c = c .before .before .before .before
+
+abbrev entry : tie.After-is-blocking Inv-reporters μ-reporters Inv-views μ-views → tie.Start Inv-reporters μ-reporters Inv-views μ-views
+entry c = tried c .before .before .before .before .before
+
+abbrev view : tie.After-is-blocking Inv-reporters μ-reporters Inv-views μ-views → ℕ
+view c = tried c .before .before .views .end - 1
 
 -- What the search finds below a view.
-abbrev serves : tie.After-is-blocking Inv-loop μ-loop → ℕ → ℕ
+abbrev serves : tie.After-is-blocking Inv-reporters μ-reporters Inv-views μ-views → ℕ → ℕ
 serves c end = let a = entry c .args in servingView (claimedIn (a .plans .now) (a .c) (a .p)) (a .low) (a .c .v) end
 
--- The view is tried: the search ends there, or goes on below it.
-next : (c : tie.After-is-blocking Inv-loop μ-loop) (b : Bool) → c .is-blocking .result ≡ b
+-- All claimers at the view are counted: the search ends there, or goes on below it.
+next : (c : tie.After-is-blocking Inv-reporters μ-reporters Inv-views μ-views) (b : Bool) → c .is-blocking .result ≡ b
     → serves c (endOf (entry c .args .c)) ≡ cond b (view c) (serves c (view c))
 next c b is =
-    let tally = c .before .before in
-    let loop = tally .before .before .before in
-    let a = loop .before .before .before .args in
-    walked (a .plans .now) (a .c) (a .low) (a .p) (loop .loop .end) _ _ _ _ (loop .loop .inv) (tally .before .before .loop-test .taken) refl
-    (tally .before .place-at .ensures) (tally .tally-at .ensures) (c .before .count-for .ensures) b (sym (c .is-blocking .ensures) ∙ is)
+    let a = entry c .args in
+    let at = tried c in
+    let last = at .before .before .views in
+    walked (a .plans .now) (a .c) (a .low) (a .p) (last .end) _ _ _ _ _ (last .inv) (at .before .if1 .left) refl
+    (at .place-at .ensures) (c .before .before .before .tally-at .ensures) (c .before .if2 .taken) (c .before .before .reporters .inv .2) b
+    (sym (c .is-blocking .ensures) ∙ is)
 
-returns : tie.Need-returns Inv-loop μ-loop
-returns c = sym (next (c .before) true (c .if1 .taken))
+views-again : tie.Need-views-again Inv-reporters μ-reporters Inv-views μ-views
+views-again c = next (c .before) false (c .if3 .left)
 
-loop-less : tie.Need-loop-less Inv-loop μ-loop
-loop-less c = search needs
-
-loop-again : tie.Need-loop-again Inv-loop μ-loop
-loop-again c = next (c .before) false (c .if1 .left)
-
-returns-2 : tie.Need-returns-2 Inv-loop μ-loop
-returns-2 c =
-    let loop = c .before .loop in
+returns : tie.Need-returns Inv-reporters μ-reporters Inv-views μ-views
+returns c =
     let a = c .before .before .before .before .args in
-    walkOver (a .plans .now) (a .c) (a .low) (a .p) (loop .end) (loop .inv) (c .loop-test .left)
+    let last = c .before .views in
+    walkOver (a .plans .now) (a .c) (a .low) (a .p) (last .end) (last .inv) (c .if1 .taken)
+
+returns-2 : tie.Need-returns-2 Inv-reporters μ-reporters Inv-views μ-views
+returns-2 c = sym (next (c .before) true (c .if3 .taken))
 
 pub serving-view-spec : {M : Type 1} → statement M
 serving-view-spec =
     tie.close
     (tie.spec
-    Inv-loop
-    μ-loop
+    Inv-reporters
+    μ-reporters
+    Inv-views
+    μ-views
     end-of-requires
-    loop-holds
+    views-holds
     sub-w
     place-at-requires
     tally-at-requires
-    count-for-requires
+    reporters-holds
     is-blocking-requires
+    add-plan-share
+    mul-plan-share
+    shared-slice-read-plan-share
+    plan-share-requires
+    add-claimers
+    add-r
+    reporters-less
+    reporters-again
+    views-less
+    views-again
     returns
-    loop-less
-    loop-again
     returns-2)
