@@ -19,7 +19,7 @@ use Rattle.quorum.proofs.Laws.{weighNone, weighMore, weighSame}
 use Rattle.rules.specs.Rules.{Report, Reports, viewOf, viewFor, reach, claims, reporting}
 use Rattle.claims.specs.declared.Search.{Search}
 use Rattle.claims.specs.declared.Tally.{Tally}
-use Rattle.claims.specs.inside.Rows.{rowsSize, countOf, forPlan, Fits, Stance, forAll, forOne, forNone, added, Tells, SameBelow}
+use Rattle.claims.specs.inside.Rows.{rowsSize, countOf, Fits, Stance, forAll, forOne, forNone, added, Tells, SameBelow}
 use Rattle.claims.specs.inside.Rows.{tallyAt, placeAt, claimedIn, endOf, servingView}
 use Rattle.claims.specs.Table.{column, voteAbove, reporter, reportsInTable}
 
