@@ -13,13 +13,13 @@ use native.Mathlib.Decide.{ℕ-discrete, decLt}
 use lib.Dec.{leb, ltb, eqb}
 use lib.ListN.{length, length-set, getD, set}
 use lib.Seq.{getD-set-same, getD-set-other}
-use borrow.Author.Tests.{leb-true, leb-false, le-leb, lt-leb, lt-ltb, le-ltb, eq-eqb, ne-eqb, eqb-true}
+use borrow.Author.Tests.{leb-true, leb-false, le-leb, lt-leb, lt-ltb, le-ltb, eq-eqb, ne-eqb}
 use Rattle.quorum.specs.Sets.{weigh}
-use Rattle.quorum.proofs.Laws.{weighNone, weighMore, weighSame, outside}
+use Rattle.quorum.proofs.Laws.{weighNone, weighMore, weighSame}
 use Rattle.rules.specs.Rules.{Report, Reports, viewOf, viewFor, reach, claims, reporting}
 use Rattle.claims.specs.declared.Search.{Search}
 use Rattle.claims.specs.declared.Tally.{Tally}
-use Rattle.claims.specs.inside.Rows.{rowsSize, countOf, forPlan, Fits, Stance, forAll, forOne, forNone, Tells, SameBelow}
+use Rattle.claims.specs.inside.Rows.{rowsSize, countOf, Fits, Stance, forAll, forOne, forNone, added, Tells, SameBelow}
 use Rattle.claims.specs.inside.Rows.{tallyAt, placeAt, claimedIn, endOf, servingView}
 use Rattle.claims.specs.Table.{column, voteAbove, reporter, reportsInTable}
 
@@ -190,15 +190,15 @@ module _ (plans : List ℕ) (at k x : ℕ) (low : at + k < length plans) where
 -- ---- a row, written report by report
 
 -- The row at a place tells of the first r of n reports, and what lies below it is as it was at first.
-pub record Counted (rs : Reports) (test : ℕ → ℕ → Report → Bool) (view n at : ℕ) (first plans : List ℕ) (every some r : ℕ) : Type 0 where
+pub record Counted (rs : Reports) (test : ℕ → ℕ → Report → Bool) (view n at : ℕ) (first plans : List ℕ) (t : Tally) (r : ℕ) : Type 0 where
   pub within : r ≤ n
   pub size : length plans ≡ rowsSize
   pub same : SameBelow first plans at
-  pub row : Tells rs r (λ p. test p view) plans at (record { every = every; some = some })
+  pub row : Tells rs r (λ p. test p view) plans at t
 
 -- An empty row tells of no report.
 pub countedNone : (rs : Reports) (test : ℕ → ℕ → Report → Bool) (view n at : ℕ) (first : List ℕ) → length first ≡ rowsSize
-    → Counted rs test view n at first first 0 0 0
+    → Counted rs test view n at first first (record { every = 0; some = 0 }) 0
 countedNone rs test view n at first size = record {
   within = omega arith;
   size = size;
@@ -209,33 +209,37 @@ countedNone rs test view n at first size = record {
     tell : (p : ℕ) → 0 + countOf first at 0 p ≡ weigh (λ i. 1) (reporting rs (test p view)) 0
     tell p = rw (countNone first at p, weighNone (λ i. 1) (reporting rs (test p view)))
 
-module _ {rs : Reports} {test : ℕ → ℕ → Report → Bool} {view n at : ℕ} {first plans : List ℕ} {every some r : ℕ}
-    (c : Counted rs test view n at first plans every some r) where
-  module _ (x all one : ℕ) (share : Stance (λ p. reporting rs (test p view) r) x all one) where
-    -- A report counts once at most.
-    pub countedFits : every + all + (some + one) ≤ r + 1
-    countedFits = go share
+module _ {rs : Reports} {test : ℕ → ℕ → Report → Bool} {view n at : ℕ} {first plans : List ℕ} {t : Tally} {r : ℕ}
+    (c : Counted rs test view n at first plans t r) where
+  module _ (x : ℕ) (share : Tally) (stance : Stance (λ p. reporting rs (test p view) r) x (share .every) (share .some))
+      (less : r < n) (few : n ≤ column) (room : at + column ≤ rowsSize) where
+    -- A report counts once at most, so there is room for it.
+    pub countedFits : (length plans ≡ rowsSize) × (at + t .some < rowsSize) × (t .every + share .every ≤ column) × (t .some + share .some ≤ column)
+    countedFits = go stance
       where
-        go : Stance (λ p. reporting rs (test p view) r) x all one → every + all + (some + one) ≤ r + 1
-        go (forAll e s pass) = omega (arith, c .row .most)
-        go (forOne e s pass) = omega (arith, c .row .most)
-        go (forNone e s pass) = omega (arith, c .row .most)
+        go : Stance (λ p. reporting rs (test p view) r) x (share .every) (share .some)
+            → (length plans ≡ rowsSize) × (at + t .some < rowsSize) × (t .every + share .every ≤ column) × (t .some + share .some ≤ column)
+        go (forAll e s pass) = (c .size, omega (arith, c .row .most), omega (arith, c .row .most), omega (arith, c .row .most))
+        go (forOne e s pass) = (c .size, omega (arith, c .row .most), omega (arith, c .row .most), omega (arith, c .row .most))
+        go (forNone e s pass) = (c .size, omega (arith, c .row .most), omega (arith, c .row .most), omega (arith, c .row .most))
 
     -- The report's plan is written behind the row: what lies below it stays.
-    pub countedMore : r < n → at + some < length plans → Counted rs test view n at first (set plans (at + some) x) (every + all) (some + one) (r + 1)
-    countedMore more low = record {
-      within = omega arith;
-      size = simp length-set (c .size);
-      same = λ i below. getD-set-other plans (at + some) i x 0 (λ (e : i ≡ at + some). omega arith) ∙ c .same i below;
-      row = rowMore plans at some x low rs (λ p. test p view) r every all one share (c .row);
-    }
+    pub countedMore : (after : List ℕ) (more : Tally) → after ≡ set plans (at + t .some) x → more ≡ added t share
+        → Counted rs test view n at first after more (r + 1)
+    countedMore after more put is =
+        subst₂ (λ (l : List ℕ) (m : Tally). Counted rs test view n at first l m (r + 1)) (sym put) (sym is) (record {
+          within = omega arith;
+          size = simp length-set (c .size);
+          same = λ i below. getD-set-other plans (at + t .some) i x 0 (λ (e : i ≡ at + t .some). omega arith) ∙ c .same i below;
+          row = rowMore plans at (t .some) x (omega (arith, c .size, c .row .most)) rs (λ p. test p view) r (t .every) (share .every) (share .some) stance
+              (record { most = c .row .most; tells = c .row .tells });
+        })
 
   -- All n reports are counted, at the view that was asked for.
-  pub countedAll : (u : ℕ) → view ≡ u → n ≤ r
-      → (length plans ≡ rowsSize) × SameBelow first plans at × Tells rs n (λ p. test p u) plans at (record { every = every; some = some })
+  pub countedAll : (u : ℕ) → view ≡ u → n ≤ r → (length plans ≡ rowsSize) × SameBelow first plans at × Tells rs n (λ p. test p u) plans at t
   countedAll u same over =
       let all : r ≡ n = omega (arith, c .within) in
-      (c .size, c .same, subst₂ (λ (k v : ℕ). Tells rs k (λ p. test p v) plans at (record { every = every; some = some })) all same (c .row))
+      (c .size, c .same, subst₂ (λ (k v : ℕ). Tells rs k (λ p. test p v) plans at t) all same (c .row))
 
 -- A row stays where what lies behind it is written.
 pub rowKept : (rs : Reports) (n : ℕ) (test : ℕ → Report → Bool) (before after : List ℕ) (at end : ℕ) (t : Tally) → SameBelow before after end
@@ -293,10 +297,6 @@ module _ (plans : List ℕ) (c : Search) (low p : ℕ) where
     step : serves end ≡ cond (claimedIn plans c p w) w (serves w)
     step = servingNext (claimedIn plans c p) low (c .v) end w (omega arith) (omega arith)
 
-    -- They are enough: w serves.
-    pub walkFound : leb (c .f + 1) claimers ≡ true → w ≡ serves (endOf c)
-    walkFound enough = sym (was ∙ step ∙ ap (λ (b : Bool). cond b w (serves w)) (sym claimersTell ∙ enough))
-
-    -- They are not: the view below it is tried.
-    pub walkOn : leb (c .f + 1) claimers ≡ false → Below w
-    walkOn few = was ∙ step ∙ ap (λ (b : Bool). cond b w (serves w)) (sym claimersTell ∙ few)
+    -- Whether they are enough tells where the search goes: it ends at w, or goes on below.
+    pub walked : (b : Bool) → leb (c .f + 1) claimers ≡ b → serves (endOf c) ≡ cond b w (serves w)
+    walked b enough = was ∙ step ∙ ap (λ (b : Bool). cond b w (serves w)) (sym claimersTell ∙ enough)

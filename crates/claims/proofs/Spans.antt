@@ -5,7 +5,7 @@
 use Prim.Native.Nat.{ℕ, zero, suc, _+_, _-_, _≤_, _<_, max}
 use mathlib.Core.Path.{_≡_, refl, sym, _∙_, ap}
 use mathlib.Core.Bool.{Bool, true, false, cond}
-use mathlib.Core.Logic.{_≢_, _↔_}
+use mathlib.Core.Logic.{_↔_}
 use mathlib.Core.List.{List}
 use native.Mathlib.Omega.{arith}
 use native.Mathlib.Numerals.{add-one}
@@ -13,7 +13,7 @@ use native.Mathlib.Decide.{ℕ-discrete, decLe}
 use lib.Dec.{leb, ltb}
 use lib.ListN.{length, getD, set}
 use lib.Seq.{getD-set-same, getD-set-other}
-use borrow.Author.Tests.{le-leb, lt-leb, ltb-true, lt-ltb}
+use borrow.Author.Tests.{leb-true, leb-false, le-leb, lt-leb, ltb-true, lt-ltb}
 use Rattle.quorum.specs.Sets.{equals, weigh}
 use Rattle.quorum.specs.Quorums.{isBlocking}
 use Rattle.quorum.proofs.Bools.{notTrue}
@@ -97,28 +97,52 @@ module _ (spans : List ℕ) (n f : ℕ) where
       nothing (suc k) = omega (arith, nothing k)
 
   -- The candidate after view last, which too few cover: t views, the span that ends highest below last.
-  module _ (v last t : ℕ) (low : last ≤ v) (few : covers last ≤ f) (is : t ≡ highestTo spans last n) where
+  pub record Candidate (v t : ℕ) : Type 0 where
+    pub last : ℕ
+    pub low : last ≤ v
+    pub few : covers last ≤ f
+    pub is : t ≡ highestTo spans last n
+
+  -- The first one is sought from v, which no span covers.
+  pub candidateFirst : (v t : ℕ) → Within spans n v → t ≡ highestTo spans v n → Candidate v t
+  candidateFirst v t within is = record { last = v; low = omega arith; few = nobodyAt v within; is = is }
+
+  module _ (v t : ℕ) (c : Candidate v t) where
     -- Too few cover view t too: by `candidatesExact` no more than cover view last.
     fewAfter : covers t ≤ f
-    fewAfter = rw is (omega (arith, candidatesExact last))
+    fewAfter = rw (c .is) (omega (arith, candidatesExact (c .last), c .few))
 
     -- Enough cover its last view: that is the highest view with enough.
-    pub searchFound : t ≢ 0 → f < covers (t - 1) → t ≡ coveredViews spans n f v
+    pub candidateFound : 0 < t → leb (f + 1) (covers (t - 1)) ≡ true → t ≡ coveredViews spans n f v
     unfolding coveredViews
-    searchFound there enough = sym (viewsAre (covered spans n f) coveredFalls v t (omega (arith, highestLow last n))
+    candidateFound there enough =
+        sym (viewsAre (covered spans n f) coveredFalls v t (omega (arith, highestLow (c .last) n, c .is, c .low))
         (λ u (same : u + 1 ≡ t). at u (omega arith)) (λ below. notTrue (covered spans n f t) (λ h. omega (arith, coveredIff t .0 h, fewAfter))))
       where
         at : (u : ℕ) → u ≡ t - 1 → covered spans n f u ≡ true
-        at u same = rw same (coveredIff (t - 1) .1 enough)
+        at u same = rw same (coveredIff (t - 1) .1 (omega (arith, leb-true (f + 1) (covers (t - 1)) enough)))
+
+    -- Too few do: the search goes on from there.
+    pub candidateNext : leb (f + 1) (covers (t - 1)) ≡ false → (next : ℕ) → next ≡ highestTo spans (t - 1) n → Candidate v next
+    candidateNext few next is = record {
+      last = t - 1;
+      low = omega (arith, highestLow (c .last) n, c .is, c .low);
+      few = omega (arith, leb-false (f + 1) (covers (t - 1)) few);
+      is = is;
+    }
 
     -- There is no candidate left: too few cover view 0.
-    pub searchNone : t ≡ 0 → 0 ≡ coveredViews spans n f v
+    pub candidateNone : t ≤ 0 → 0 ≡ coveredViews spans n f v
     unfolding coveredViews
-    searchNone absent = sym (viewsAre (covered spans n f) coveredFalls v 0 (omega arith) (λ u (same : u + 1 ≡ 0). absurd (omega arith))
+    candidateNone absent =
+        sym (viewsAre (covered spans n f) coveredFalls v 0 (omega arith) (λ u (same : u + 1 ≡ 0). absurd (omega arith))
         (λ below. notTrue (covered spans n f 0) (λ h. over (coveredIff 0 .0 h))))
       where
         over : f < covers 0 → ⊥
-        over more = let h : covers 0 ≤ f = rw absent at fewAfter in omega arith
+        over more =
+            let none : t ≡ 0 = omega arith in
+            let h : covers 0 ≤ f = rw none at fewAfter in
+            omega arith
 
 -- ---- the spans of the vaults
 

@@ -4,10 +4,11 @@ ghost use Prim.Native.Nat.{_+_, _-_, _*_, _≤_, _<_, max};
 ghost use mathlib.Core.Path.{_≡_};
 ghost use mathlib.Core.Bool.{cond};
 ghost use lib.Dec.{leb, ltb, eqb};
-ghost use lib.ListN.{length, getD};
+ghost use lib.ListN.{length, getD, set};
+ghost use Rattle.quorum.specs.Sets.{weigh};
 ghost use Rattle.rules.specs.Rules.{claims, reporting};
-ghost use Rattle.claims.specs.inside.Rows.{rowsSize, Fits, Stance, Tells, SameBelow, tallyAt, placeAt, claimedIn, endOf, servingView};
-ghost use Rattle.claims.specs.inside.Spans.{coveredViews, highestTo, Within};
+ghost use Rattle.claims.specs.inside.Rows.{rowsSize, forPlan, Fits, Stance, added, Tells, SameBelow, tallyAt, placeAt, claimedIn, endOf, servingView};
+ghost use Rattle.claims.specs.inside.Spans.{covering, coveredViews, highestTo, Within};
 ghost use Rattle.claims.specs.Table.{column, tableSize, reporter, reportsInTable};
 
 // The places of a column, one for each vault, and of the table.
@@ -102,26 +103,32 @@ fn claim_share<'a>(table: &'a [u64], r: usize, w: u64) -> Tally
     Tally { every: 0, some: 0 }
 }
 
-// Who claims which plan at view w: the row of plans is written from place at on. A plan that does not count is written over.
+// One report more: its plan is written behind the row, and counts where the report is for that plan only. Else it is written over.
+pub fn add_share(plans: &mut [u64], at: usize, tally: Tally, share: Tally, plan: u64) -> Tally
+    requires { ⌜ (length (now plans) ≡ rowsSize) × (at + tally .some < rowsSize) × (tally .every + share .every ≤ column) × (tally .some + share .some ≤ column) ⌝ }
+    ensures { λ t. ⌜ (now (plans .exit) ≡ set (now (plans .entry)) (at + tally .some) plan) × (t ≡ added tally share) ⌝ }
+{
+    plans[at + tally.some] = plan;
+    Tally {
+        every: tally.every + share.every,
+        some: tally.some + share.some,
+    }
+}
+
+// Who claims which plan at view w: the row of plans is written from place at on.
 pub fn claims_at<'a>(table: &'a [u64], n: usize, w: u32, plans: &mut [u64], at: usize) -> Tally
     requires { ⌜ (length (now table) ≡ tableSize) × (n ≤ column) × (length (now plans) ≡ rowsSize) × (at + column ≤ rowsSize) ⌝ }
     ensures { λ t. ⌜ (length (now (plans .exit)) ≡ rowsSize) × SameBelow (now (plans .entry)) (now (plans .exit)) at × Tells (reportsInTable (now (table .entry))) n (λ p. claims p w) (now (plans .exit)) at t ⌝ }
 {
     let view = w as u64;
-    let mut every: usize = 0;
-    let mut some: usize = 0;
+    let mut tally = Tally { every: 0, some: 0 };
     let mut r: usize = 0;
     while r < n {
         let share = claim_share(table, r, view);
-        plans[at + some] = table[VOTED + r];
-        every += share.every;
-        some += share.some;
+        tally = add_share(plans, at, tally, share, table[VOTED + r]);
         r += 1;
     }
-    Tally {
-        every: every,
-        some: some,
-    }
+    tally
 }
 
 // ---- the search over candidate views
@@ -156,14 +163,30 @@ pub fn place_at(c: Search, w: u32) -> usize
     COLUMN
 }
 
-pub fn same(x: u64, p: u64) -> usize
+// What a plan of a row adds to those that are for p.
+fn plan_share(x: u64, p: u64) -> usize
     ensures { λ c. ⌜ c ≡ cond (eqb x p) 1 0 ⌝ }
 {
     if x == p { 1 } else { 0 }
 }
 
+// How many are for plan p, by the row that begins at a place.
+pub fn count_for<'a>(plans: &'a [u64], at: usize, tally: Tally, p: u64) -> usize
+    requires { ⌜ (length (now plans) ≡ rowsSize) × (at + column ≤ rowsSize) × Fits tally ⌝ }
+    ensures { λ c. ⌜ c ≡ forPlan (now (plans .entry)) at tally p ⌝ }
+{
+    let some = tally.some;
+    let mut count = tally.every;
+    let mut r: usize = 0;
+    while r < some {
+        count += plan_share(plans[at + r], p);
+        r += 1;
+    }
+    count
+}
+
 // The search over candidate views, downwards and not below low: the first view at which a blocking set of reporters claims plan p,
-// v where there is none. The count is new for every plan and view.
+// v where there is none. The count is new for every plan and view. The nested loops with labels are a form that document 01 names.
 pub fn serving_view<'a>(plans: &'a [u64], c: Search, low: u32, p: u64) -> u32
     requires { ⌜ (length (now plans) ≡ rowsSize) × (c .u < c .v) × Fits (c .here) × Fits (c .next) ⌝ }
     ensures { λ w. ⌜ w ≡ servingView (claimedIn (now (plans .entry)) c p) low (c .v) (endOf c) ⌝ }
@@ -186,7 +209,7 @@ pub fn serving_view<'a>(plans: &'a [u64], c: Search, low: u32, p: u64) -> u32
                 }
                 break 'reporters;
             }
-            claimers += same(plans[row + r], p);
+            claimers += plan_share(plans[row + r], p);
             r += 1;
         }
         end = w;
@@ -224,32 +247,33 @@ fn lock_share(t: u32, w: u32) -> u32
     if w < t { 1 } else { 0 }
 }
 
+// How many vaults have a lock above view w.
+fn locks_above<'a>(spans: &'a [u32], n: usize, w: u32) -> usize
+    requires { ⌜ (n ≤ column) × (length (now spans) ≡ column) ⌝ }
+    ensures { λ c. ⌜ c ≡ weigh (λ i. 1) (covering (now (spans .entry)) w) n ⌝ }
+{
+    let mut locks: u32 = 0;
+    let mut r: usize = 0;
+    while r < n {
+        locks += lock_share(spans[r], w);
+        r += 1;
+    }
+    locks as usize
+}
+
 // The lowest view that fewer than f + 1 of the spans cover, downwards from v: some quorum has no lock above it.
 // Between two ends of spans the same spans cover a view, so the candidates are the ends.
 pub fn lowest_cleared<'a>(spans: &'a [u32], n: usize, f: usize, v: u32) -> u32
     requires { ⌜ (n ≤ column) × (length (now spans) ≡ column) × Within (now spans) n v ⌝ }
     ensures { λ t. ⌜ t ≡ coveredViews (now (spans .entry)) n f v ⌝ }
 {
-    let mut last: u32 = v;
-    let cleared: u32 = 'views: loop {
-        let t = highest_to(spans, n, last);
-        if t == 0 {
-            break 'views 0;
-        }
+    let mut t = highest_to(spans, n, v);
+    while t > 0 {
         let w = t - 1;
-        let mut locks: u32 = 0;
-        let mut r: usize = 0;
-        'reporters: loop {
-            if r == n {
-                if is_blocking(locks as usize, f) {
-                    break 'views t;
-                }
-                break 'reporters;
-            }
-            locks += lock_share(spans[r], w);
-            r += 1;
+        if is_blocking(locks_above(spans, n, w), f) {
+            return t;
         }
-        last = w;
-    };
-    cleared
+        t = highest_to(spans, n, w);
+    }
+    0
 }

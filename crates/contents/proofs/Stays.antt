@@ -7,22 +7,18 @@ use mathlib.Core.Path.{_≡_, refl, sym, _∙_, ap, subst}
 use mathlib.Core.Bool.{Bool, true, false, cond}
 use mathlib.Core.List.{List}
 use mathlib.Core.Option.{Option, none, some}
-use native.Mathlib.Omega.{arith}
 use Rattle.quorum.proofs.Bools.{clash}
 use Rattle.rules.specs.Rules.{Vote}
 use Rattle.frame.specs.declared.Frame.{Frame}
-use Rattle.frame.specs.declared.Reading.the-variants.{Accepted, Refused}
-use Rattle.frame.specs.Refusal.{first}
 use Rattle.protocol.specs.Record.{Record}
 use Rattle.protocol.specs.Tables.{put}
 use Rattle.settings.specs.declared.Settings.{Settings}
 use Rattle.protocol.specs.Pass.{Act, ask, enter, cast, decide, hasPrevious, does, Out, Step, taken, pass}
-use Rattle.protocol.specs.Calls.{recordRows, timerRows, fresh, started, keep, heard, wanted, timedOut, Call, start, frame, timer, short, accepted, answer}
-use Rattle.settings.specs.Settings.{settingRows}
+use Rattle.protocol.specs.Calls.{fresh, started, keep, heard, wanted, timedOut, Call, start, frame, timer, short, accepted, answer}
 use Rattle.protocol.proofs.Tables.{putOther}
 use Rattle.protocol.proofs.Good.{doesSet}
 use Rattle.protocol.proofs.May.{Sure, done, and, sureC, sureA}
-use Rattle.protocol.proofs.Went.{unlessAccepted}
+use Rattle.protocol.proofs.Went.{acceptedBy}
 use Rattle.contents.proofs.Slotted.{Placed}
 
 -- It holds of the record that a call begins with: the vault's own, or that of a start.
@@ -47,22 +43,12 @@ module _ (P : Record → Type 0) (acts : (r : Record) (a : Act) → P r → P (d
 
   -- And of what an accepted call leaves, as it holds through keeping a frame too.
   callStays : (b : Option Record) (a : Call) → From P b a → (o : Out) → answer b a ≡ accepted o → P (o .left)
-  unfolding answer started heard timedOut
-  callStays none (start s p) h o e =
-      let (given, same) = unlessAccepted (first (settingRows s)) (started s p) e in
-      subst (λ (u : Out). P (u .left)) same (passStays sureC (fresh s p) h)
-  callStays none (frame x) h o e = let z : _≡_ {A = ℕ} 0 1 = cc in absurd (omega arith)
-  callStays none (timer v) h o e = let z : _≡_ {A = ℕ} 0 1 = cc in absurd (omega arith)
-  callStays none short h o e = let z : _≡_ {A = ℕ} 0 1 = cc in absurd (omega arith)
-  callStays (some r) short h o e = let z : _≡_ {A = ℕ} 0 1 = cc in absurd (omega arith)
-  callStays (some r) (start s p) h o e = let z : _≡_ {A = ℕ} 0 1 = cc in absurd (omega arith)
-  callStays (some r) (frame (Refused k)) h o e = let z : _≡_ {A = ℕ} 0 1 = cc in absurd (omega arith)
-  callStays (some r) (frame (Accepted x)) h o e =
-      let (given, same) = unlessAccepted (first (recordRows r x)) (heard r x) e in
-      subst (λ (u : Out). P (u .left)) same (passStays sureA (keep x r) (keeps x r h))
-  callStays (some r) (timer v) h o e =
-      let (given, same) = unlessAccepted (first (timerRows r v)) (timedOut r) e in
-      subst (λ (u : Out). P (u .left)) same (passStays sureA (does r (ask (wanted r))) (acts r (ask (wanted r)) h))
+  unfolding started heard timedOut
+  callStays b a h o e =
+      acceptedBy (λ b a o. From P b a → P (o .left))
+      (λ s p given h. passStays sureC (fresh s p) h)
+      (λ r x given h. passStays sureA (keep x r) (keeps x r h))
+      (λ r v given h. passStays sureA (does r (ask (wanted r))) (acts r (ask (wanted r)) h)) b a o e h
 
 -- An accepted call leaves a record with the settings that it began with.
 pub callSet : (b : Option Record) (a : Call) (t : Settings) → From (λ r. r .set ≡ t) b a → (o : Out) → answer b a ≡ accepted o → o .left .set ≡ t

@@ -117,7 +117,8 @@ pub fn link_refusal(sender: u8, link: u8, n: u8, own: u8) -> u8
     0
 }
 
-fn bad_form(r: Report) -> bool
+// Refusal 14 of a report's form: a mark that is neither 0 nor 1, or an absent report with a byte that is not 0.
+pub fn bad_form(r: Report) -> bool
     ensures { λ b. ⌜ b ≡ badForm r ⌝ }
 {
     if r.mark == numbers::PRESENT {
@@ -141,7 +142,8 @@ fn too_high(view: u32, r: Report) -> bool
     view <= r.view
 }
 
-fn bad_previous(highest: Report, previous: Report) -> bool
+// Refusal 14 of a previous vote against its highest.
+pub fn bad_previous(highest: Report, previous: Report) -> bool
     ensures { λ b. ⌜ b ≡ badPrevious highest previous ⌝ }
 {
     if previous.mark != numbers::PRESENT {

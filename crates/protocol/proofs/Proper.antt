@@ -13,7 +13,7 @@ use borrow.Author.Tests.{eqb-false, leb-false}
 use Rattle.rules.specs.Rules.{Vote}
 use Rattle.agreement.proofs.Reports.{none≢some}
 use Rattle.frame.specs.declared.Frame.{Frame}
-use Rattle.frame.specs.declared.Reading.the-variants.{Accepted, Refused}
+use Rattle.frame.specs.declared.Reading.the-variants.{Accepted}
 use Rattle.frame.specs.Refusal.{first, badPrevious, linkRows}
 use Rattle.frame.proofs.Laws.{neither}
 use Rattle.entry.specs.declared.Entry.{Entry}
@@ -22,14 +22,14 @@ use Rattle.entry.proofs.Theorems.{entriesReadBack}
 use Rattle.protocol.specs.Record.{Record, each, spelt, voteBy, voteOf}
 use Rattle.settings.specs.declared.Settings.{Settings}
 use Rattle.protocol.specs.Pass.{Act, ask, does, writes, Out, Step, taken, pass, fromA}
-use Rattle.protocol.specs.Calls.{recordRows, timerRows, fresh, started, keep, heard, wanted, timedOut, Call, start, frame, timer, short, accepted, answer}
+use Rattle.protocol.specs.Calls.{recordRows, timerRows, fresh, started, keep, heard, wanted, timedOut, Call, start, frame, timer, accepted, answer}
 use Rattle.protocol.specs.Fed.{Readable, Fed}
 use Rattle.settings.specs.Settings.{settingRows}
 use Rattle.protocol.specs.inside.Sound.{Ranged, AlwaysProper}
 use Rattle.protocol.specs.Sound.{InRow, Sound}
 use Rattle.protocol.proofs.Tables.{keepOtherSender}
 use Rattle.protocol.proofs.May.{Sure, done, and, sureC, sureA}
-use Rattle.protocol.proofs.Went.{noneGiven, unlessAccepted, wantedMay}
+use Rattle.protocol.proofs.Went.{noneGiven, acceptedBy, wantedMay}
 use Rattle.protocol.proofs.Sound.{Whole, actWhole, actValid, delayLow, rowsBy}
 use Rattle.protocol.proofs.Size.{outputShort}
 
@@ -98,29 +98,29 @@ heardWhole r x read w = record {
 -- So every accepted call leaves a sound record and writes entries that have bytes.
 callWhole : (b : Option Record) (a : Call) → ((r : Record) → b ≡ some r → Sound r × Ranged r) → Fed b a → (o : Out) → answer b a ≡ accepted o
     → Whole (o .left) × AllValid (o .wrote)
-unfolding answer started heard timedOut
-callWhole b short was fed o e = let z : _≡_ {A = ℕ} 0 1 = cc in absurd (omega arith)
-callWhole none (frame x) was fed o e = let z : _≡_ {A = ℕ} 0 1 = cc in absurd (omega arith)
-callWhole none (timer v) was fed o e = let z : _≡_ {A = ℕ} 0 1 = cc in absurd (omega arith)
-callWhole (some r) (start s p) was fed o e = let z : _≡_ {A = ℕ} 0 1 = cc in absurd (omega arith)
-callWhole (some r) (frame (Refused k)) was fed o e = let z : _≡_ {A = ℕ} 0 1 = cc in absurd (omega arith)
-callWhole none (start s p) was fed o e =
-    let (given, same) = unlessAccepted (first (settingRows s)) (started s p) e in
-    let (left, valid) = passWhole sureC (fresh s p) (freshWhole s p given fed) in
-    subst (λ (u : Out). Whole (u .left) × AllValid (u .wrote)) same (left, ((omega arith, omega (arith, delayLow (s .class))), valid))
-callWhole (some r) (frame (Accepted x)) was fed o e =
-    let (given, same) = unlessAccepted (first (recordRows r x)) (heard r x) e in
-    let (sound, ranged) = was r refl in
-    subst (λ (u : Out). Whole (u .left) × AllValid (u .wrote)) same
-    (passWhole sureA (keep x r) (heardWhole r x fed (record { sound = sound; ranged = ranged })))
-callWhole (some r) (timer v) was fed o e =
-    let (given, same) = unlessAccepted (first (timerRows r v)) (timedOut r) e in
-    let (sound, ranged) = was r refl in
-    let room : r .view ≢ 4294967295 = eqb-false (r .view) 4294967295 (noneGiven (timerRows r v) given .1 .0) in
-    let w : Whole r = record { sound = sound; ranged = ranged } in
-    let (left, valid) = passWhole sureA (does r (ask (wanted r))) (actWhole w (ask (wanted r)) (wantedMay r room)) in
-    subst (λ (u : Out). Whole (u .left) × AllValid (u .wrote)) same
-    (left, allJoin (writes r (ask (wanted r))) ((pass fromA (does r (ask (wanted r)))) .wrote) (actValid w (ask (wanted r)) (wantedMay r room)) valid)
+unfolding started heard timedOut
+callWhole b a was fed o e = acceptedBy Leaves atStart atFrame atTimer b a o e was fed
+  where
+    Leaves : Option Record → Call → Out → Type 0
+    Leaves b a o = ((r : Record) → b ≡ some r → Sound r × Ranged r) → Fed b a → Whole (o .left) × AllValid (o .wrote)
+
+    atStart : (s : Settings) (p : ℕ) → first (settingRows s) ≡ 0 → Leaves none (start s p) (started s p)
+    atStart s p given was fed =
+        let (left, valid) = passWhole sureC (fresh s p) (freshWhole s p given fed) in
+        (left, ((omega arith, omega (arith, delayLow (s .class))), valid))
+
+    atFrame : (r : Record) (x : Frame) → first (recordRows r x) ≡ 0 → Leaves (some r) (frame (Accepted x)) (heard r x)
+    atFrame r x given was fed =
+        let (sound, ranged) = was r refl in
+        passWhole sureA (keep x r) (heardWhole r x fed (record { sound = sound; ranged = ranged }))
+
+    atTimer : (r : Record) (v : ℕ) → first (timerRows r v) ≡ 0 → Leaves (some r) (timer v) (timedOut r)
+    atTimer r v given was fed =
+        let (sound, ranged) = was r refl in
+        let room : r .view ≢ 4294967295 = eqb-false (r .view) 4294967295 (noneGiven (timerRows r v) given .1 .0) in
+        let w : Whole r = record { sound = sound; ranged = ranged } in
+        let (left, valid) = passWhole sureA (does r (ask (wanted r))) (actWhole w (ask (wanted r)) (wantedMay r room)) in
+        (left, allJoin (writes r (ask (wanted r))) ((pass fromA (does r (ask (wanted r)))) .wrote) (actValid w (ask (wanted r)) (wantedMay r room)) valid)
 
 -- On a blank record, or a sound one, every accepted call leaves what is proper.
 pub callProper : AlwaysProper

@@ -15,7 +15,7 @@ use borrow.Author.Tests.{eqb-true, eqb-false, eq-eqb, ne-eqb, lt-leb}
 use Rattle.quorum.proofs.Bools.{which}
 use Rattle.rules.specs.Rules.{Rule, rule1, rule3}
 use Rattle.frame.specs.declared.Frame.{Frame}
-use Rattle.frame.specs.declared.Reading.the-variants.{Accepted, Refused}
+use Rattle.frame.specs.declared.Reading.the-variants.{Accepted}
 use Rattle.frame.specs.Format.{encode}
 use Rattle.frame.specs.Valid.{Valid}
 use Rattle.frame.specs.Refusal.{first, leaderOf, misled, linkRows, contentRows, leaderRows, readFrame}
@@ -25,7 +25,7 @@ use Rattle.settings.specs.declared.Settings.{Settings}
 use Rattle.settings.specs.Settings.{settingRows}
 use Rattle.protocol.specs.Record.{Record, leader, leads, changeFrame, voteFrame, reportFrame}
 use Rattle.protocol.specs.Pass.{Act, ask, enter, cast, decide, does, timerEntry, suggestEntry, writes, Out, Step, taken, onward, pass}
-use Rattle.protocol.specs.Calls.{recordRows, timerRows, fresh, started, keep, heard, wanted, timedOut, Call, start, frame, timer, short, accepted, answer}
+use Rattle.protocol.specs.Calls.{recordRows, timerRows, fresh, started, keep, heard, wanted, timedOut, Call, start, frame, timer, accepted, answer}
 use Rattle.protocol.specs.Fed.{Readable, Fed}
 use Rattle.protocol.specs.inside.Sound.{Ranged}
 use Rattle.protocol.specs.Sound.{Sound}
@@ -34,7 +34,7 @@ use Rattle.protocol.specs.ReadsBack.{IsFor}
 use Rattle.protocol.specs.inside.ReadsBack.{AlwaysReadsBack}
 use Rattle.protocol.proofs.May.{May, Sure, done, and, sureC, sureA}
 use Rattle.protocol.proofs.Good.{doesSet}
-use Rattle.protocol.proofs.Went.{noneGiven, unlessAccepted, wantedMay}
+use Rattle.protocol.proofs.Went.{noneGiven, acceptedBy, wantedMay}
 use Rattle.protocol.proofs.Slots.{Sendable}
 use Rattle.protocol.proofs.Sound.{Whole, actWhole, idBelow, changeGoes, voteGoes, leadsFirst, reportGoes, wishWidth}
 use Rattle.protocol.proofs.Read.{readableAccepted}
@@ -168,33 +168,34 @@ passKeeps (and {s = s} {l = rest} law sure) r w =
     go (some a) e then = keepsMore (r .set) (writes r a) (doesSet r a) (actRight w a (law .may r a e)) (then (does r a) (actWhole w a (law .may r a e)))
 
 -- The same of the answer, by the settings of the record that is left.
-ownRight : {s : Settings} {o u : Out} → o ≡ u → Keeps s o → OwnRight (u .left .set) (u .wrote)
-ownRight {s} {o} same k =
-    subst (λ (u : Out). OwnRight (u .left .set) (u .wrote)) same (subst (λ (t : Settings). OwnRight t (o .wrote)) (sym (k .stays)) (k .right))
+ownRight : {s : Settings} {o : Out} → Keeps s o → OwnRight (o .left .set) (o .wrote)
+ownRight {s} {o} k = subst (λ (t : Settings). OwnRight t (o .wrote)) (sym (k .stays)) (k .right)
 
 -- What an accepted call writes passes at whom it is for.
 pub callRight : (b : Option Record) (a : Call) → ((r : Record) → b ≡ some r → Sound r × Ranged r) → Fed b a
     → (o : Out) → answer b a ≡ accepted o → OwnRight (o .left .set) (o .wrote)
-unfolding answer started heard timedOut
-callRight b short was fed o e = let z : _≡_ {A = ℕ} 0 1 = cc in absurd (omega arith)
-callRight none (frame x) was fed o e = let z : _≡_ {A = ℕ} 0 1 = cc in absurd (omega arith)
-callRight none (timer v) was fed o e = let z : _≡_ {A = ℕ} 0 1 = cc in absurd (omega arith)
-callRight (some r) (start s p) was fed o e = let z : _≡_ {A = ℕ} 0 1 = cc in absurd (omega arith)
-callRight (some r) (frame (Refused k)) was fed o e = let z : _≡_ {A = ℕ} 0 1 = cc in absurd (omega arith)
-callRight none (start s p) was fed o e =
-    let (given, same) = unlessAccepted (first (settingRows s)) (started s p) e in
-    ownRight same (keepsMore s (timerEntry (fresh s p) 0 ∷ []) refl (tt, tt) (passKeeps sureC (fresh s p) (freshWhole s p given fed)))
-callRight (some r) (frame (Accepted x)) was fed o e =
-    let (given, same) = unlessAccepted (first (recordRows r x)) (heard r x) e in
-    let (sound, ranged) = was r refl in
-    ownRight same (passKeeps sureA (keep x r) (heardWhole r x fed (record { sound = sound; ranged = ranged })))
-callRight (some r) (timer v) was fed o e =
-    let (given, same) = unlessAccepted (first (timerRows r v)) (timedOut r) e in
-    let (sound, ranged) = was r refl in
-    let may : May r (ask (wanted r)) = wantedMay r (eqb-false (r .view) 4294967295 (noneGiven (timerRows r v) given .1 .0)) in
-    let w : Whole r = record { sound = sound; ranged = ranged } in
-    let then = passKeeps sureA (does r (ask (wanted r))) (actWhole w (ask (wanted r)) may) in
-    ownRight same (keepsMore (r .set) (writes r (ask (wanted r))) (doesSet r (ask (wanted r))) (actRight w (ask (wanted r)) may) then)
+unfolding started heard timedOut
+callRight b a was fed o e = acceptedBy Passes atStart atFrame atTimer b a o e was fed
+  where
+    Passes : Option Record → Call → Out → Type 0
+    Passes b a o = ((r : Record) → b ≡ some r → Sound r × Ranged r) → Fed b a → OwnRight (o .left .set) (o .wrote)
+
+    atStart : (s : Settings) (p : ℕ) → first (settingRows s) ≡ 0 → Passes none (start s p) (started s p)
+    atStart s p given was fed =
+        ownRight (keepsMore s (timerEntry (fresh s p) 0 ∷ []) refl (tt, tt) (passKeeps sureC (fresh s p) (freshWhole s p given fed)))
+
+    atFrame : (r : Record) (x : Frame) → first (recordRows r x) ≡ 0 → Passes (some r) (frame (Accepted x)) (heard r x)
+    atFrame r x given was fed =
+        let (sound, ranged) = was r refl in
+        ownRight (passKeeps sureA (keep x r) (heardWhole r x fed (record { sound = sound; ranged = ranged })))
+
+    atTimer : (r : Record) (v : ℕ) → first (timerRows r v) ≡ 0 → Passes (some r) (timer v) (timedOut r)
+    atTimer r v given was fed =
+        let (sound, ranged) = was r refl in
+        let may : May r (ask (wanted r)) = wantedMay r (eqb-false (r .view) 4294967295 (noneGiven (timerRows r v) given .1 .0)) in
+        let w : Whole r = record { sound = sound; ranged = ranged } in
+        let then = passKeeps sureA (does r (ask (wanted r))) (actWhole w (ask (wanted r)) may) in
+        ownRight (keepsMore (r .set) (writes r (ask (wanted r))) (doesSet r (ask (wanted r))) (actRight w (ask (wanted r)) may) then)
 
 -- Each frame that an accepted call writes is accepted, as itself, by every vault that it is for.
 pub callReadsBack : AlwaysReadsBack

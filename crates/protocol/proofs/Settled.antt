@@ -19,22 +19,19 @@ use Rattle.rules.specs.Options.{isNone, holds}
 use Rattle.rules.specs.Rules.{rule1, rule3}
 use Rattle.rules.proofs.Laws.{holdsWhere}
 use Rattle.frame.specs.declared.Frame.{Frame}
-use Rattle.frame.specs.declared.Reading.the-variants.{Accepted, Refused}
-use Rattle.frame.specs.Refusal.{first}
 use Rattle.protocol.specs.Record.{Record, when, each, highest, keeping, changeOf, planNow, sentNow, changeFrame, voteFrame, reportFrame}
 use Rattle.protocol.specs.Record.{vaults, leader, leads}
 use Rattle.settings.specs.declared.Settings.{Settings}
 use Rattle.protocol.specs.Pass.{Act, ask, enter, cast, decide, entered, does, asked, isNews, actA, canEnter, actB, mayPropose, chosen, actC}
 use Rattle.protocol.specs.Pass.{approves, actD, agreed, actVote, actH, Out, Step, taken, onward, pass, stepA, stepB, stepC, stepD, stepVote}
 use Rattle.protocol.specs.Pass.{stepH, fromC, fromA}
-use Rattle.protocol.specs.Calls.{recordRows, timerRows, fresh, started, keep, heard, wanted, timedOut, start, frame, timer, short, answer}
-use Rattle.settings.specs.Settings.{settingRows}
+use Rattle.protocol.specs.Calls.{fresh, started, keep, heard, wanted, timedOut, start}
 use Rattle.protocol.specs.Settled.{AlwaysSettled}
 use Rattle.protocol.proofs.Tables.{keepSame, keepOtherKind, keepWas, eachSome, eachNone, eachWas, whenSome, whenNone, whenFalse, highestHas}
 use Rattle.protocol.proofs.Tables.{highestMost, highestNone}
 use Rattle.protocol.proofs.Size.{actIs}
 use Rattle.protocol.proofs.Good.{voteCast}
-use Rattle.protocol.proofs.Went.{unlessAccepted}
+use Rattle.protocol.proofs.Went.{acceptedBy}
 use Rattle.protocol.proofs.Passes.{passNone, passMore}
 
 -- ---- what each step reads
@@ -428,18 +425,9 @@ quietPass r q =
 
 -- After every accepted call a further pass does nothing.
 pub callSettles : AlwaysSettled
-unfolding answer started heard timedOut
-callSettles b short o e = let z : _≡_ {A = ℕ} 0 1 = cc in absurd (omega arith)
-callSettles none (frame x) o e = let z : _≡_ {A = ℕ} 0 1 = cc in absurd (omega arith)
-callSettles none (timer v) o e = let z : _≡_ {A = ℕ} 0 1 = cc in absurd (omega arith)
-callSettles (some r) (start s p) o e = let z : _≡_ {A = ℕ} 0 1 = cc in absurd (omega arith)
-callSettles (some r) (frame (Refused k)) o e = let z : _≡_ {A = ℕ} 0 1 = cc in absurd (omega arith)
-callSettles none (start s p) o e =
-    let (given, same) = unlessAccepted (first (settingRows s)) (started s p) e in
-    subst (λ (u : Out). pass fromA (u .left) ≡ record { left = u .left; wrote = [] }) same (quietPass _ (doneC (fresh s p) (doneFresh s p)))
-callSettles (some r) (frame (Accepted x)) o e =
-    let (given, same) = unlessAccepted (first (recordRows r x)) (heard r x) e in
-    subst (λ (u : Out). pass fromA (u .left) ≡ record { left = u .left; wrote = [] }) same (quietPass _ (doneA (keep x r)))
-callSettles (some r) (timer v) o e =
-    let (given, same) = unlessAccepted (first (timerRows r v)) (timedOut r) e in
-    subst (λ (u : Out). pass fromA (u .left) ≡ record { left = u .left; wrote = [] }) same (quietPass _ (doneA (does r (ask (wanted r)))))
+unfolding started heard timedOut
+callSettles =
+    acceptedBy (λ b a o. pass fromA (o .left) ≡ record { left = o .left; wrote = [] })
+    (λ s p given. quietPass _ (doneC (fresh s p) (doneFresh s p)))
+    (λ r x given. quietPass _ (doneA (keep x r)))
+    (λ r v given. quietPass _ (doneA (does r (ask (wanted r)))))

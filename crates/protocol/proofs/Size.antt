@@ -12,9 +12,7 @@ use Rattle.quorum.specs.Quorums.{isBlocking}
 use Rattle.rules.specs.Options.{isNone}
 use Rattle.wire.specs.inside.Widths.{widths, total}
 use Rattle.wire.proofs.Laws.{lengthSpell}
-use Rattle.frame.specs.declared.Reading.the-variants.{Accepted, Refused}
 use Rattle.frame.specs.Format.{fieldsOf, encode}
-use Rattle.frame.specs.Refusal.{first}
 use Rattle.entry.specs.declared.Entry.{Entry}
 use Rattle.entry.specs.declared.Entry.the-variants.{ForAll, ForOne, Timer, Decision}
 use Rattle.entry.specs.Layout.{hostFields, entryBytes, layout}
@@ -22,10 +20,9 @@ use Rattle.protocol.specs.Record.{Record, when, each, highest, leads, ch
 use Rattle.protocol.specs.Pass.{Act, ask, enter, cast, decide, does, suggestEntry, writes, asked, isNews, actA, canEnter, actB, mayPropose}
 use Rattle.protocol.specs.Pass.{chosen, actC, approves, actD, agreed, actVote, actH, Out, Step, taken, pass, stepA, stepB, stepC, stepD}
 use Rattle.protocol.specs.Pass.{stepVote, stepH, fromC, fromA}
-use Rattle.protocol.specs.Calls.{recordRows, timerRows, fresh, started, keep, heard, wanted, timedOut, Call, start, frame, timer, short, accepted, answer}
-use Rattle.settings.specs.Settings.{settingRows}
+use Rattle.protocol.specs.Calls.{fresh, started, keep, heard, wanted, timedOut, Call, accepted, answer}
 use Rattle.protocol.proofs.Tables.{eachSome, whenSome}
-use Rattle.protocol.proofs.Went.{unlessAccepted}
+use Rattle.protocol.proofs.Went.{acceptedBy}
 
 -- ---- bytes
 
@@ -158,27 +155,16 @@ sizeA = passSize stepA _ 7 191 (takenSize actA 7 costA) (passSize stepB fromC 10
 
 -- The longest output is a timer's: its own view-change adds 7 bytes to a pass from A.
 callSize : (b : Option Record) (a : Call) (o : Out) → answer b a ≡ accepted o → sizes (o .wrote) ≤ 205
-unfolding answer started heard timedOut
-callSize b short o e = let z : _≡_ {A = ℕ} 0 1 = cc in absurd (omega arith)
-callSize none (start s p) o e =
-    let (given, same) = unlessAccepted (first (settingRows s)) (started s p) e in
-    subst (λ (u : Out). sizes (u .wrote) ≤ 205) same (omega (arith, sizeC (fresh s p)))
-callSize none (frame x) o e = let z : _≡_ {A = ℕ} 0 1 = cc in absurd (omega arith)
-callSize none (timer v) o e = let z : _≡_ {A = ℕ} 0 1 = cc in absurd (omega arith)
-callSize (some r) (start s p) o e = let z : _≡_ {A = ℕ} 0 1 = cc in absurd (omega arith)
-callSize (some r) (frame (Refused k)) o e = let z : _≡_ {A = ℕ} 0 1 = cc in absurd (omega arith)
-callSize (some r) (frame (Accepted x)) o e =
-    let (given, same) = unlessAccepted (first (recordRows r x)) (heard r x) e in
-    subst (λ (u : Out). sizes (u .wrote) ≤ 205) same (omega (arith, sizeA (keep x r)))
-callSize (some r) (timer v) o e =
-    let (given, same) = unlessAccepted (first (timerRows r v)) (timedOut r) e in
-    subst (λ (u : Out). sizes (u .wrote) ≤ 205) same
-    (omega (
+unfolding started heard timedOut
+callSize =
+    acceptedBy (λ b a o. sizes (o .wrote) ≤ 205)
+    (λ s p given. omega (arith, sizeC (fresh s p)))
+    (λ r x given. omega (arith, sizeA (keep x r)))
+    (λ r v given. omega (
       arith,
       sizesJoin (writes r (ask (wanted r))) ((pass fromA (does r (ask (wanted r)))) .wrote),
       actSize r (ask (wanted r)),
-      sizeA
-          (does r (ask (wanted r))),
+      sizeA (does r (ask (wanted r))),
     ))
 
 -- Every accepted call writes at most 205 bytes.

@@ -15,6 +15,7 @@ use Rattle.quorum.proofs.Bools.{which}
 use Rattle.quorum.proofs.Laws.{totalEquals}
 use Rattle.agreement.proofs.Reports.{none≢some}
 use Rattle.frame.specs.declared.Frame.{Frame}
+use Rattle.frame.specs.declared.Reading.the-variants.{Accepted, Refused}
 use Rattle.frame.specs.Refusal.{Row, row, first}
 use Rattle.frame.proofs.Laws.{neither}
 use Rattle.entry.specs.declared.Entry.{Entry}
@@ -22,7 +23,8 @@ use Rattle.protocol.specs.Record.{Record, changeOf}
 use Rattle.protocol.specs.Tables.{put, _∈_}
 use Rattle.settings.specs.declared.Settings.{Settings}
 use Rattle.protocol.specs.Pass.{Act, ask, timerEntry, does, Out, Step, taken, onward, pass, fromC, fromA}
-use Rattle.protocol.specs.Calls.{fresh, started, keep, heard, wantedFrom, wanted, timedOut, accepted, unless}
+use Rattle.protocol.specs.Calls.{recordRows, timerRows, fresh, started, keep, heard, wantedFrom, wanted, timedOut}
+use Rattle.protocol.specs.Calls.{Call, start, frame, timer, short, accepted, answer, unless}
 use Rattle.settings.specs.Settings.{settingRows}
 use Rattle.settings.specs.Vaults.{vaultsOf}
 use Rattle.protocol.specs.inside.Runs.{Setting}
@@ -52,6 +54,28 @@ noneGiven (row (suc k) false ∷ rows) e = (refl, noneGiven rows e)
 pub unlessAccepted : (k : ℕ) (o : Out) {o′ : Out} → unless k o ≡ accepted o′ → (k ≡ 0) × (o ≡ o′)
 unlessAccepted zero o e = (refl, cc)
 unlessAccepted (suc k) o e = let z : _≡_ {A = ℕ} 0 1 = cc in absurd (omega arith)
+
+-- What holds of the three calls that can be accepted, each with a table that gives nothing, holds of every accepted call.
+pub acceptedBy : (P : Option Record → Call → Out → Type 0)
+    → ((s : Settings) (p : ℕ) → first (settingRows s) ≡ 0 → P none (start s p) (started s p))
+    → ((r : Record) (x : Frame) → first (recordRows r x) ≡ 0 → P (some r) (frame (Accepted x)) (heard r x))
+    → ((r : Record) (v : ℕ) → first (timerRows r v) ≡ 0 → P (some r) (timer v) (timedOut r))
+    → (b : Option Record) (a : Call) (o : Out) → answer b a ≡ accepted o → P b a o
+unfolding answer
+acceptedBy P atStart atFrame atTimer b short o e = let z : _≡_ {A = ℕ} 0 1 = cc in absurd (omega arith)
+acceptedBy P atStart atFrame atTimer none (frame x) o e = let z : _≡_ {A = ℕ} 0 1 = cc in absurd (omega arith)
+acceptedBy P atStart atFrame atTimer none (timer v) o e = let z : _≡_ {A = ℕ} 0 1 = cc in absurd (omega arith)
+acceptedBy P atStart atFrame atTimer (some r) (start s p) o e = let z : _≡_ {A = ℕ} 0 1 = cc in absurd (omega arith)
+acceptedBy P atStart atFrame atTimer (some r) (frame (Refused k)) o e = let z : _≡_ {A = ℕ} 0 1 = cc in absurd (omega arith)
+acceptedBy P atStart atFrame atTimer none (start s p) o e =
+    let (given, same) = unlessAccepted (first (settingRows s)) (started s p) e in
+    subst (λ (u : Out). P none (start s p) u) same (atStart s p given)
+acceptedBy P atStart atFrame atTimer (some r) (frame (Accepted x)) o e =
+    let (given, same) = unlessAccepted (first (recordRows r x)) (heard r x) e in
+    subst (λ (u : Out). P (some r) (frame (Accepted x)) u) same (atFrame r x given)
+acceptedBy P atStart atFrame atTimer (some r) (timer v) o e =
+    let (given, same) = unlessAccepted (first (timerRows r v)) (timedOut r) e in
+    subst (λ (u : Out). P (some r) (timer v) u) same (atTimer r v given)
 
 -- Row 6 leaves 3f below n.
 pub thirdOf : (s : Settings) → first (settingRows s) ≡ 0 → 3 * s .f < s .n

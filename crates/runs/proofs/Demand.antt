@@ -16,7 +16,7 @@ use Rattle.agreement.proofs.Reports.{none≢some}
 use Rattle.frame.specs.declared.Frame.{Frame}
 use Rattle.frame.specs.declared.Reading.{Reading}
 use Rattle.frame.specs.declared.Reading.the-variants.{Accepted, Refused}
-use Rattle.frame.specs.Format.{decode}
+use Rattle.frame.specs.Format.{decode, encode}
 use Rattle.frame.specs.Valid.{Valid}
 use Rattle.frame.specs.Refusal.{readFrame}
 use Rattle.frame.proofs.Theorems.{passed, decodeEncoded}
@@ -135,7 +135,7 @@ module _ (c : Setting) where
         there e = subst (λ (es : List Entry). e ∈ es) (v .same link .agree)
 
         frameIs : Valid y → y ≡ x
-        frameIs valid = sym (decodeEncoded y valid) ∙ ap decode (sym spelt) ∙ is
+        frameIs valid = let said : bytes ≡ encode y = spelt in sym (decodeEncoded y valid) ∙ ap decode (sym said) ∙ is
 
         toAll : ForAll y ∈ written l link → ForAll x ∈ model.written (v .items) link
         toAll a =

@@ -5,7 +5,7 @@
 use Prim.Native.Nat.{ℕ, zero, suc, _+_, _-_, _*_, _≤_, _<_, min, max}
 use mathlib.Core.Path.{_≡_, refl, sym, _∙_, ap}
 use mathlib.Core.Logic.{_≢_, _⊎_, inl, inr, ⊎-elim}
-use mathlib.Core.Bool.{Bool, true, false, cond, not, _||_, false≢true}
+use mathlib.Core.Bool.{true, false, not, _||_, false≢true}
 use mathlib.Core.Option.{Option, none, some}
 use mathlib.Core.List.{List}
 use native.Mathlib.Omega.{arith}
@@ -15,7 +15,7 @@ use lib.ListN.{getD}
 use borrow.Author.Tests.{le-leb, lt-leb, leb-true, eqb-true, eqb-false, eq-eqb, ne-eqb, not-true}
 use Rattle.quorum.specs.Sets.{Vaults, equals}
 use Rattle.quorum.specs.Quorums.{isQuorum}
-use Rattle.quorum.proofs.Bools.{which, clash, notTrue, bothSplit, either}
+use Rattle.quorum.proofs.Bools.{clash, notTrue, bothSplit, either}
 use Rattle.quorum.proofs.Laws.{blockingRest, quorumByWeight}
 use Rattle.rules.specs.Options.{isNone, holds}
 use Rattle.rules.specs.Rules.{Vote, Report, Reports, viewOf, lockAllows, allows, unlocked, reporting}
@@ -47,25 +47,21 @@ spansLock n f v rs spans are =
 -- ---- the lock of one report
 
 module _ (t : List ℕ) (r : ℕ) (reports : reporter t r ≡ true) where
-  -- The view + 1 of vault r's lock, 0 where it has none.
-  abbrev above : ℕ
-  above = getD t (column * 5 + r) 0
-
-  -- The plan of its lock.
+  -- The plan of vault r's lock.
   abbrev plan : ℕ
   plan = getD t (column * 6 + r) 0
 
   -- Its span goes by its view.
-  pub spanIn : (v : ℕ) → lockSpan v (reportsInTable t r) ≡ min (above - 1) v
+  pub spanIn : (v : ℕ) → lockSpan v (reportsInTable t r) ≡ min (getD t (column * 5 + r) 0 - 1) v
   unfolding reportsInTable
-  spanIn v = rw (reports, viewIn above plan)
+  spanIn v = rw (reports, viewIn (getD t (column * 5 + r) 0) plan)
 
-  -- It allows p at view u where it is absent or does not stand against p.
-  module _ (u p : ℕ) where
+  -- It allows p at view u where it is absent or does not stand against p. Its view + 1 is above, 0 where there is none.
+  module _ (above : ℕ) (lock : above ≡ getD t (column * 5 + r) 0) (u p : ℕ) where
     -- Whether the report allows p, by its two columns of the table.
     allowsIn : reporting (reportsInTable t) (allows p u) r ≡ (isNone (voteAbove above plan) || holds (lockAllows p u) (voteAbove above plan))
     unfolding reportsInTable allows
-    allowsIn = rw reports
+    allowsIn = rw (reports, lock)
 
     -- Where it has a lock, that lock alone decides.
     there : above ≢ 0 → reporting (reportsInTable t) (allows p u) r ≡ lockAllows p u (record { view = above - 1; plan = plan })

@@ -14,27 +14,27 @@ use native.Mathlib.Numerals.{add-one}
 use native.Mathlib.Decide.{ℕ-discrete, decLt}
 use lib.Dec.{leb, ltb, eqb}
 use lib.ListN.{length, getD}
-use borrow.Author.Tests.{leb-true, leb-false, le-leb, lt-ltb, le-ltb, ltb-true, ltb-false, eqb-true, eqb-false, eq-eqb, ne-eqb, not-true, not-false}
+use borrow.Author.Tests.{leb-true, leb-false, lt-ltb, le-ltb, ltb-true, ltb-false, eqb-true, eqb-false, eq-eqb, ne-eqb, not-true, not-false}
 use Rattle.quorum.specs.inside.Bools.{any}
-use Rattle.quorum.specs.Sets.{Vaults, equals, weigh}
+use Rattle.quorum.specs.Sets.{Vaults, equals}
 use Rattle.quorum.specs.Quorums.{isBlocking}
-use Rattle.quorum.proofs.Bools.{which, clash, notTrue, bothSplit, bothJoin}
+use Rattle.quorum.proofs.Bools.{which, clash, notTrue, bothSplit, bothJoin, orLeft, orRight}
 use Rattle.quorum.proofs.Laws.{quorumCount}
 use Rattle.rules.specs.Options.{isNone}
-use Rattle.rules.specs.Rules.{Reports, Rule, rule1, rule3, claims, allows, reporting, Safe, atStart, noLock, since, IsSmallest, own, other}
+use Rattle.rules.specs.Rules.{Reports, Rule, rule1, rule3, claims, allows, reporting, Safe, atStart, noLock, since, IsSmallest, other}
 use Rattle.rules.specs.inside.Counts.{claimed, free, allowed, twoSets, backed, safe, smaller, choice}
 use Rattle.rules.specs.inside.Views.{lowestView, Lowest}
 use Rattle.rules.proofs.Laws.{claimedFalls, safeIff, choiceIs, chosenOne}
 use Rattle.rules.proofs.Views.{twoLate, twoNone, twoLone, twoBoth, firstServes, nextServes, neverSafe}
 use Rattle.claims.specs.declared.Search.{Search}
 use Rattle.claims.specs.declared.Tally.{Tally}
-use Rattle.claims.specs.inside.Rows.{rowsSize, countOf, forPlan, Fits, Tells, SameBelow, tallyAt, placeAt, claimedIn, endOf, servingView}
+use Rattle.claims.specs.inside.Rows.{rowsSize, forPlan, Fits, Tells, SameBelow, tallyAt, placeAt, claimedIn, endOf, servingView}
 use Rattle.claims.specs.Table.{column}
 use Rattle.claims.proofs.Rows.{countWhere, rowKept, servingNone, servingNext}
 use Rattle.safe.specs.Choices.{ruleOf}
 use Rattle.safe.specs.inside.Choices.{apart, Found, better}
 use Rattle.safe.specs.inside.Searches.{lockRow, allowedIn, servedFrom, safeIn, passesIn, triedAt, triedCount, smallestFrom, smallestOf, Pair}
-use Rattle.safe.specs.inside.Searches.{two, unclaimed, lone, Falling, Laid, Prepared}
+use Rattle.safe.specs.inside.Searches.{two, unclaimed, lone, Falling, Laid, Prepared, everySafe, Begun}
 use Rattle.safe.proofs.Locks.{someBlocked}
 
 -- ---- the views that serve a plan
@@ -107,14 +107,14 @@ servedAt plans c w p below falls high low = go (ℕ-discrete w (c .u)) (decLt (c
 -- ---- a plan that is claimed
 
 -- 0 is left out: 1 is not.
-pub apartOne : (spare : Option ℕ) → apart 0 spare ≡ false → apart 1 spare ≡ true
+pub apartOne : (except : Option ℕ) → apart 0 except ≡ false → apart 1 except ≡ true
 apartOne none h = refl
 apartOne (some m) h = let e : 0 ≡ m = eqb-true 0 m (not-false _ h) in ap not (ne-eqb 1 m (λ (same : 1 ≡ m). omega arith))
 
-module _ (plans : List ℕ) (c : Search) (w : ℕ) (spare : Option ℕ) where
+module _ (plans : List ℕ) (c : Search) (w : ℕ) (except : Option ℕ) where
   -- x is claimed from view w on, and is not left out.
   abbrev pub tried : ℕ → Bool
-  tried x = apart x spare && servedFrom plans c w x
+  tried x = apart x except && servedFrom plans c w x
 
   -- None of the first k plans of the row passes.
   abbrev pub NonePass : ℕ → Type 0
@@ -122,7 +122,7 @@ module _ (plans : List ℕ) (c : Search) (w : ℕ) (spare : Option ℕ) where
 
   -- A first plan that is not served does not pass.
   pub untriedFirst : (first : ℕ) → servedFrom plans c w first ≡ false → tried first ≡ false
-  untriedFirst first never = notTrue _ (λ h. clash (bothSplit (apart first spare) _ h .1) never)
+  untriedFirst first never = notTrue _ (λ h. clash (bothSplit (apart first except) _ h .1) never)
 
   -- One more plan of the row does not pass: the loop goes on.
   pub nonePassMore : (k x : ℕ) → x ≡ getD plans (placeAt c w + k) 0 → tried x ≡ false → NonePass k → NonePass (k + 1)
@@ -133,27 +133,27 @@ module _ (plans : List ℕ) (c : Search) (w : ℕ) (spare : Option ℕ) where
       go (no differ) = before j (omega arith)
 
   -- Neither the first plan nor one of the row passes: none is claimed but that left out.
-  module _ (served : (x : ℕ) → servedFrom plans c w x ≡ claimedIn plans c x w) (first : ℕ) (off : apart first spare ≡ true) where
+  module _ (served : (x : ℕ) → servedFrom plans c w x ≡ claimedIn plans c x w) (first : ℕ) (off : apart first except ≡ true) where
     -- The first plan is served: it is claimed at w and not left out.
-    pub foundFirst : servedFrom plans c w first ≡ true → (apart first spare && claimedIn plans c first w) ≡ true
-    foundFirst h = bothJoin (apart first spare) _ off (sym (served first) ∙ h)
+    pub foundFirst : servedFrom plans c w first ≡ true → (apart first except && claimedIn plans c first w) ≡ true
+    foundFirst h = bothJoin (apart first except) _ off (sym (served first) ∙ h)
 
     -- The same of a plan of the row that passes.
-    pub foundOther : (x : ℕ) → tried x ≡ true → (apart x spare && claimedIn plans c x w) ≡ true
-    foundOther x h = sym (ap (λ (b : Bool). apart x spare && b) (served x)) ∙ h
+    pub foundOther : (x : ℕ) → tried x ≡ true → (apart x except && claimedIn plans c x w) ≡ true
+    foundOther x h = sym (ap (λ (b : Bool). apart x except && b) (served x)) ∙ h
 
     -- Where all plans of the row were tried, no plan at all is claimed but the one left out.
     pub noneFound : (k : ℕ) → tallyAt c w .some ≤ k → servedFrom plans c w first ≡ false → NonePass k
-        → (x : ℕ) → (apart x spare && claimedIn plans c x w) ≡ false
+        → (x : ℕ) → (apart x except && claimedIn plans c x w) ≡ false
     unfolding claimedIn
-    noneFound k all never before x = notTrue _ (λ h. over (bothSplit (apart x spare) _ h .0) (bothSplit (apart x spare) _ h .1))
+    noneFound k all never before x = notTrue _ (λ h. over (bothSplit (apart x except) _ h .0) (bothSplit (apart x except) _ h .1))
       where
-        over : apart x spare ≡ true → claimedIn plans c x w ≡ true → ⊥
+        over : apart x except ≡ true → claimedIn plans c x w ≡ true → ⊥
         over apt h =
             let few = leb-false (c .f + 1) (forPlan plans (placeAt c w) (tallyAt c w) first) (sym (served first) ∙ never) in
             let more = leb-true (c .f + 1) (forPlan plans (placeAt c w) (tallyAt c w) x) h in
             let (j, low, is) = countWhere plans (placeAt c w) (tallyAt c w .some) x (omega (arith, few, more)) in
-            clash (bothJoin (apart x spare) _ apt (served x ∙ h)) (subst (λ (y : ℕ). tried y ≡ false) is (before j (omega arith)))
+            clash (bothJoin (apart x except) _ apt (served x ∙ h)) (subst (λ (y : ℕ). tried y ≡ false) is (before j (omega arith)))
 
 -- ---- two plans that are claimed
 
@@ -533,18 +533,27 @@ module _ (rs : Reports) (c : Search) (plans : List ℕ) (ready : Prepared rs c p
 
 module _ (vs : Vaults) (rs : Reports) (v : ℕ) where
   -- In view 0 every plan is safe, and so where a quorum has no lock.
-  pub safeStart : (rule : Rule) (p : ℕ) → v ≡ 0 → true ≡ safe rule vs rs v p
-  unfolding safe
-  safeStart rule p e = rw (eq-eqb v 0 e)
-
-  -- The second half: a quorum without a lock makes every plan safe.
-  pub safeFree : (rule : Rule) (p : ℕ) → free vs rs ≡ true → true ≡ safe rule vs rs v p
-  unfolding safe
-  safeFree rule p e = go (eqb v 0)
+  pub safeEvery : (rule : Rule) (p : ℕ) → everySafe vs rs v ≡ true → true ≡ safe rule vs rs v p
+  unfolding everySafe safe
+  safeEvery rule p h = go (eqb v 0) (free vs rs) h
     where
-      go : (b : Bool) → true ≡ (b || (free vs rs || any (λ u. allowed vs rs p u && backed rule vs rs v p u) v))
-      go true = refl
-      go false = rw e
+      go : (a b : Bool) → (a || b) ≡ true → true ≡ (a || (b || any (λ u. allowed vs rs p u && backed rule vs rs v p u) v))
+      go true b h = refl
+      go false true h = refl
+      go false false h = absurd (false≢true h)
+
+  -- Where not every plan is safe, no quorum is without a lock, and the view is not the first.
+  pub lockedLate : everySafe vs rs v ≡ false → (free vs rs ≡ false) × (v ≢ 0)
+  unfolding everySafe
+  lockedLate h = (notTrue _ (λ e. clash (orRight (eqb v 0) _ e) h), λ e. clash (orLeft _ (free vs rs) (eq-eqb v 0 e)) h)
+
+  -- Then the lowest view below v is where the search begins.
+  pub lowestAt : (u : ℕ) → everySafe vs rs v ≡ false → u ≡ lowestView vs rs v → u < v → Lowest vs rs v u
+  lowestAt u h is below = record { locked = lockedLate h .0; below = below; is = is }
+
+  -- Where there is none, no plan is safe.
+  pub noneSafe : (rule : Rule) (p u : ℕ) → everySafe vs rs v ≡ false → u ≡ lowestView vs rs v → v ≤ u → safe rule vs rs v p ≡ false
+  noneSafe rule p u h is high = let (locked, late) = lockedLate h in neverSafe vs rs v locked late rule p u is high
 
   -- The rule of a call.
   pub byRule : (p : ℕ) (three set b : Bool) → three ≡ set → b ≡ safe (ruleOf set) vs rs v p → b ≡ safe (ruleOf three) vs rs v p
@@ -563,20 +572,10 @@ module _ (vs : Vaults) (rs : Reports) (v : ℕ) where
       unsafe : (x : ℕ) → ¬ Safe rule1 vs rs v x
       unsafe x s = clash (safeIff vs rs rule1 v x .0 s) (never x)
 
--- The rows are prepared for a call, whose numbers the search has.
-pub record Begun (rs : Reports) (n f v : ℕ) (c : Search) (plans : List ℕ) : Type 0 where
-  pub ready : Prepared rs c plans
-  pub isN : c .n ≡ n
-  pub isF : c .f ≡ f
-  pub isV : c .v ≡ v
-  pub lowest : Lowest (equals (c .n) (c .f)) rs (c .v) (c .u)
-
--- They are, once the lowest view u is found below v and no quorum is without a lock.
-pub begins : (rs : Reports) (n f v u : ℕ) (c : Search) (plans : List ℕ) (unlocked : Bool) → unlocked ≡ free (equals n f) rs → unlocked ≡ false
-    → u ≡ lowestView (equals n f) rs v → u < v
+-- The rows that were prepared from the lowest view on are those of a call.
+pub begins : (rs : Reports) (n f v u : ℕ) (c : Search) (plans : List ℕ) → Lowest (equals n f) rs v u
     → Prepared rs c plans × (c .n ≡ n) × (c .f ≡ f) × (c .u ≡ u) × (c .v ≡ v) → Begun rs n f v c plans
-begins rs n f v u c plans unlocked e locked is below (ready, en, ef, eu, ev) =
-    let l : Lowest (equals n f) rs v u = record { locked = sym e ∙ locked; below = below; is = is } in
+begins rs n f v u c plans l (ready, en, ef, eu, ev) =
     record { ready = ready; isN = en; isF = ef; isV = ev; lowest = rw (en, ef, eu, ev) l }
 
 module _ {rs : Reports} {n f v : ℕ} {c : Search} {plans : List ℕ} (b : Begun rs n f v c plans) where

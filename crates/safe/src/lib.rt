@@ -19,7 +19,7 @@ ghost use Rattle.claims.specs.inside.Spans.{AreSpans};
 ghost use Rattle.claims.specs.Table.{column, tableSize, reportsInTable};
 ghost use Rattle.safe.specs.Choices.{ruleOf, chosen};
 ghost use Rattle.safe.specs.inside.Choices.{better, apart, Found};
-ghost use Rattle.safe.specs.inside.Searches.{lockRow, allowedIn, servedFrom, safeIn, passesIn, triedAt, triedCount, smallestFrom, smallestOf, Pair, Falling, Laid, Prepared};
+ghost use Rattle.safe.specs.inside.Searches.{lockRow, allowedIn, servedFrom, safeIn, passesIn, triedAt, triedCount, smallestFrom, smallestOf, Pair, Falling, Laid, Prepared, everySafe, Begun};
 
 // Where the row of locks begins, and the places of all rows.
 const LOCKS: usize = 2 * claims::COLUMN;
@@ -28,13 +28,21 @@ const ROOM: usize = 3 * claims::COLUMN;
 
 // ---- locks
 
+// The view + 1 of vault r's lock, 0 where it has none.
+fn lock_of<'a>(table: &'a [u64], r: usize) -> u64
+    requires { ⌜ (length (now table) ≡ tableSize) × (r < column) ⌝ }
+    ensures { λ x. ⌜ x ≡ getD (now (table .entry)) (column * 5 + r) 0 ⌝ }
+{
+    table[claims::LOCK + r]
+}
+
 // What vault r adds to the reporters that have no lock.
 fn unlocked_share<'a>(table: &'a [u64], r: usize) -> usize
     requires { ⌜ (length (now table) ≡ tableSize) × (r < column) ⌝ }
     ensures { λ c. ⌜ c ≡ cond (reporting (reportsInTable (now (table .entry))) unlocked r) 1 0 ⌝ }
 {
     if claims::reported(table, r) {
-        if table[claims::LOCK + r] == 0 {
+        if lock_of(table, r) == 0 {
             return 1;
         }
         return 0;
@@ -62,7 +70,7 @@ fn lock_span<'a>(table: &'a [u64], r: usize, v: u32) -> u32
     ensures { λ t. ⌜ t ≡ lockSpan v (reportsInTable (now (table .entry)) r) ⌝ }
 {
     if claims::reported(table, r) {
-        let above = table[claims::LOCK + r];
+        let above = lock_of(table, r);
         if (v as u64) < above {
             return v;
         }
@@ -104,7 +112,7 @@ fn allow_share<'a>(table: &'a [u64], r: usize, u: u64) -> Tally
     ensures { λ t. ⌜ Stance (λ p. reporting (reportsInTable (now (table .entry))) (allows p u) r) (getD (now (table .entry)) (column * 6 + r) 0) (t .every) (t .some) ⌝ }
 {
     if claims::reported(table, r) {
-        let above = table[claims::LOCK + r];
+        let above = lock_of(table, r);
         if above <= u {
             return Tally { every: 1, some: 0 };
         }
@@ -122,20 +130,14 @@ fn locks_at<'a>(table: &'a [u64], n: usize, u: u32, plans: &mut [u64]) -> Tally
     ensures { λ t. ⌜ (length (now (plans .exit)) ≡ rowsSize) × SameBelow (now (plans .entry)) (now (plans .exit)) lockRow × Tells (reportsInTable (now (table .entry))) n (λ p. allows p u) (now (plans .exit)) lockRow t ⌝ }
 {
     let view = u as u64;
-    let mut every: usize = 0;
-    let mut some: usize = 0;
+    let mut tally = Tally { every: 0, some: 0 };
     let mut r: usize = 0;
     while r < n {
         let share = allow_share(table, r, view);
-        plans[LOCKS + some] = table[claims::LOCKED + r];
-        every += share.every;
-        some += share.some;
+        tally = claims::add_share(plans, LOCKS, tally, share, table[claims::LOCKED + r]);
         r += 1;
     }
-    Tally {
-        every: every,
-        some: some,
-    }
+    tally
 }
 
 // ---- what is prepared
@@ -175,14 +177,7 @@ fn allowed<'a>(plans: &'a [u64], c: Search, p: u64) -> bool
     requires { ⌜ Laid c (now plans) ⌝ }
     ensures { λ b. ⌜ b ≡ allowedIn (now (plans .entry)) c p ⌝ }
 {
-    let some = c.locks.some;
-    let mut count = c.locks.every;
-    let mut r: usize = 0;
-    while r < some {
-        count += claims::same(plans[LOCKS + r], p);
-        r += 1;
-    }
-    claims::is_quorum(count, c.n, c.f)
+    claims::is_quorum(claims::count_for(plans, LOCKS, c.locks, p), c.n, c.f)
 }
 
 // Whether a candidate view, not below low, serves p.
@@ -222,29 +217,29 @@ fn is_plan(c: Choice) -> bool
 }
 
 // Whether x is not the plan to be left out, if any.
-fn differs(spare: Choice, x: u64) -> bool
-    ensures { λ b. ⌜ b ≡ apart x (chosen spare) ⌝ }
+fn differs(except: Choice, x: u64) -> bool
+    ensures { λ b. ⌜ b ≡ apart x (chosen except) ⌝ }
 {
-    match spare {
+    match except {
         Choice::Plan(m) => x != m,
         Choice::Nothing => true,
     }
 }
 
 // Plan 0, or 1 where 0 is left out: it stands for all plans that are in no row.
-fn first_plan(spare: Choice) -> u64
-    ensures { λ x. ⌜ apart x (chosen spare) ≡ true ⌝ }
+fn first_plan(except: Choice) -> u64
+    ensures { λ x. ⌜ apart x (chosen except) ≡ true ⌝ }
 {
-    if differs(spare, 0) { 0 } else { 1 }
+    if differs(except, 0) { 0 } else { 1 }
 }
 
 // Whether plan x is not left out and is claimed at view w. The plan tried last, which did not pass, is not tried again.
-fn other_claimed<'a>(plans: &'a [u64], c: Search, w: u32, spare: Choice, last: u64, x: u64) -> bool
-    requires { ⌜ Laid c (now plans) × ((apart last (chosen spare) && servedFrom (now plans) c w last) ≡ false) ⌝ }
-    ensures { λ b. ⌜ b ≡ (apart x (chosen spare) && servedFrom (now (plans .entry)) c w x) ⌝ }
+fn other_claimed<'a>(plans: &'a [u64], c: Search, w: u32, except: Choice, last: u64, x: u64) -> bool
+    requires { ⌜ Laid c (now plans) × ((apart last (chosen except) && servedFrom (now plans) c w last) ≡ false) ⌝ }
+    ensures { λ b. ⌜ b ≡ (apart x (chosen except) && servedFrom (now (plans .entry)) c w x) ⌝ }
 {
     if x != last {
-        if differs(spare, x) {
+        if differs(except, x) {
             return served(plans, c, w, x);
         }
     }
@@ -252,11 +247,11 @@ fn other_claimed<'a>(plans: &'a [u64], c: Search, w: u32, spare: Choice, last: u
 }
 
 // A plan that is claimed at the candidate view w, if any, and is not left out: the first plan, or one of the row.
-fn find_claimed<'a>(plans: &'a [u64], c: Search, w: u32, spare: Choice) -> Choice
+fn find_claimed<'a>(plans: &'a [u64], c: Search, w: u32, except: Choice) -> Choice
     requires { ⌜ Laid c (now plans) × Falling (now plans) c × (c .u ≤ w) × (w < endOf c) ⌝ }
-    ensures { λ r. ⌜ Found (λ x. apart x (chosen spare) && claimedIn (now (plans .entry)) c x w) (chosen r) ⌝ }
+    ensures { λ r. ⌜ Found (λ x. apart x (chosen except) && claimedIn (now (plans .entry)) c x w) (chosen r) ⌝ }
 {
-    let first = first_plan(spare);
+    let first = first_plan(except);
     if served(plans, c, w, first) {
         return Choice::Plan(first);
     }
@@ -267,7 +262,7 @@ fn find_claimed<'a>(plans: &'a [u64], c: Search, w: u32, spare: Choice) -> Choic
     let mut r: usize = 0;
     while r < some {
         let x = plans[row + r];
-        if other_claimed(plans, c, w, spare, last, x) {
+        if other_claimed(plans, c, w, except, last, x) {
             return Choice::Plan(x);
         }
         last = x;
@@ -320,33 +315,44 @@ fn safe_three<'a>(table: &'a [u64], plans: &'a [u64], c: Search, p: u64) -> bool
     false
 }
 
-// Whether p is safe in view v: by Rule 3 where three is set, by Rule 1 where not.
-fn safe_among<'a>(table: &'a [u64], n: usize, f: usize, v: u32, p: u64, three: bool) -> bool
+// Whether every plan is safe: in view 0, and where some quorum has no lock at all.
+fn every_safe<'a>(table: &'a [u64], n: usize, f: usize, v: u32) -> bool
     requires { ⌜ (length (now table) ≡ tableSize) × (n ≤ column) × (f < n) ⌝ }
-    ensures { λ b. ⌜ b ≡ safe (ruleOf three) (equals n f) (reportsInTable (now (table .entry))) v p ⌝ }
+    ensures { λ b. ⌜ b ≡ everySafe (equals n f) (reportsInTable (now (table .entry))) v ⌝ }
 {
     if v == 0 {
         return true;
     }
-    if free(table, n, f) {
+    free(table, n, f)
+}
+
+// All rows, for the search of a call: it starts at the lowest view u that can serve a plan.
+fn begin<'a>(table: &'a [u64], n: usize, f: usize, u: u32, v: u32) -> Parts
+    requires { ⌜ (length (now table) ≡ tableSize) × (n ≤ column) × (f < n) × Lowest (equals n f) (reportsInTable (now table)) v u ⌝ }
+    ensures { λ s. ⌜ Begun (reportsInTable (now (table .entry))) n f v (s .search) (s .plans) ⌝ }
+{
+    prepare(table, n, f, u, v)
+}
+
+// Whether p is safe in view v: by Rule 3 where three is set, by Rule 1 where not.
+pub fn safe_by<'a>(table: &'a [u64], set: Settings, v: u32, p: u64, three: bool) -> bool
+    requires { ⌜ (length (now table) ≡ tableSize) × (set .n ≤ 64) × (set .f < set .n) ⌝ }
+    ensures { λ b. ⌜ b ≡ safe (ruleOf three) (vaultsOf set) (reportsInTable (now (table .entry))) v p ⌝ }
+{
+    let n = set.n as usize;
+    let f = set.f as usize;
+    if every_safe(table, n, f, v) {
         return true;
     }
     let u = lowest_view(table, n, f, v);
     if u < v {
-        let s = prepare(table, n, f, u, v);
+        let s = begin(table, n, f, u, v);
         if three {
             return safe_three(table, &s.plans, s.search, p);
         }
         return safe_one(&s.plans, s.search, p);
     }
     false
-}
-
-pub fn safe_by<'a>(table: &'a [u64], set: Settings, v: u32, p: u64, three: bool) -> bool
-    requires { ⌜ (length (now table) ≡ tableSize) × (set .n ≤ 64) × (set .f < set .n) ⌝ }
-    ensures { λ b. ⌜ b ≡ safe (ruleOf three) (vaultsOf set) (reportsInTable (now (table .entry))) v p ⌝ }
-{
-    safe_among(table, set.n as usize, set.f as usize, v, p, three)
 }
 
 // ---- step C
@@ -441,30 +447,22 @@ fn smallest_safe<'a>(plans: &'a [u64], c: Search, start: u64) -> Choice
 }
 
 // Step C: 'proposes its starting plan if that is safe by Rule 1, else the smallest safe plan, else waits'.
-fn choose_among<'a>(table: &'a [u64], n: usize, f: usize, v: u32, start: u64) -> Choice
-    requires { ⌜ (length (now table) ≡ tableSize) × (n ≤ column) × (f < n) ⌝ }
-    ensures { λ c. ⌜ chosen c ≡ choice (equals n f) (reportsInTable (now (table .entry))) v start ⌝ }
+pub fn choose<'a>(table: &'a [u64], set: Settings, v: u32, start: u64) -> Choice
+    requires { ⌜ (length (now table) ≡ tableSize) × (set .n ≤ 64) × (set .f < set .n) ⌝ }
+    ensures { λ c. ⌜ chosen c ≡ choice (vaultsOf set) (reportsInTable (now (table .entry))) v start ⌝ }
 {
-    if v == 0 {
-        return Choice::Plan(start);
-    }
-    if free(table, n, f) {
+    let n = set.n as usize;
+    let f = set.f as usize;
+    if every_safe(table, n, f, v) {
         return Choice::Plan(start);
     }
     let u = lowest_view(table, n, f, v);
     if u < v {
-        let s = prepare(table, n, f, u, v);
+        let s = begin(table, n, f, u, v);
         if safe_one(&s.plans, s.search, start) {
             return Choice::Plan(start);
         }
         return smallest_safe(&s.plans, s.search, start);
     }
     Choice::Nothing
-}
-
-pub fn choose<'a>(table: &'a [u64], set: Settings, v: u32, start: u64) -> Choice
-    requires { ⌜ (length (now table) ≡ tableSize) × (set .n ≤ 64) × (set .f < set .n) ⌝ }
-    ensures { λ c. ⌜ chosen c ≡ choice (vaultsOf set) (reportsInTable (now (table .entry))) v start ⌝ }
-{
-    choose_among(table, set.n as usize, set.f as usize, v, start)
 }

@@ -52,26 +52,14 @@ fn empty(slot: Report) -> bool
 fn well_formed(slot: Report) -> bool
     ensures { λ b. ⌜ b ≡ not (badForm slot) ⌝ }
 {
-    if slot.mark == numbers::PRESENT {
-        return true;
-    }
-    empty(slot)
+    !frame::bad_form(slot)
 }
 
 // A previous vote against its highest, but for its form.
 fn follows(highest: Report, previous: Report) -> bool
     ensures { λ b. ⌜ b ≡ not (badPrevious highest previous) ⌝ }
 {
-    if previous.mark != numbers::PRESENT {
-        return true;
-    }
-    if highest.mark != numbers::PRESENT {
-        return false;
-    }
-    if highest.view <= previous.view {
-        return false;
-    }
-    highest.plan != previous.plan
+    !frame::bad_previous(highest, previous)
 }
 
 // A previous vote against its highest.
@@ -117,13 +105,21 @@ fn slots_absent(rec: &[u8], from: usize, count: usize) -> bool
 
 // ---- one place: a kind and a sender
 
+// Where the bytes of the slot stand that lies some slots behind another.
+fn place_behind(slot: usize, count: u8) -> usize
+    requires { ⌜ (slot < slotCount) × (count < rows) ⌝ }
+    ensures { λ r. ⌜ r ≡ place slot + slotSize * count ⌝ }
+{
+    let first = layout::place_of(slot);
+    first + layout::SLOT * (count as usize)
+}
+
 // Where the bytes of a kept frame's slot stand. A kind's slots lie end to end, so that only the first has to be looked up.
 fn frame_place(kind: u8, sender: u8) -> usize
     requires { ⌜ Place kind sender ⌝ }
     ensures { λ r. ⌜ (r ≡ place (frameSlot kind sender)) × (r + slotSize ≤ recordSize) ⌝ }
 {
-    let first = layout::place_of(layout::frame_slot(kind, 0));
-    first + layout::SLOT * (sender as usize)
+    place_behind(layout::frame_slot(kind, 0), sender)
 }
 
 // Where the bytes of a kept suggest's or proof's first report stand; the others' stand one and two groups on.
@@ -131,8 +127,7 @@ fn report_place(kind: u8, sender: u8) -> usize
     requires { ⌜ (7 ≤ kind) × Place kind sender ⌝ }
     ensures { λ r. ⌜ (r ≡ place (reportSlot kind 0 sender)) × (r + (2 * groupSize + slotSize) ≤ recordSize) ⌝ }
 {
-    let first = layout::place_of(layout::report_slot(kind, 0, 0));
-    first + layout::SLOT * (sender as usize)
+    place_behind(layout::report_slot(kind, 0, 0), sender)
 }
 
 fn reports_absent(rec: &[u8], kind: u8, sender: u8) -> bool

@@ -60,8 +60,8 @@ beyondFour number k h r =
     omega arith
 
 -- No number is above 8 and below 9.
-pub too-high : (number : ℕ) → 8 < number → number < 9 → ⊥
-too-high number a b = omega arith
+pub noneBetween : (number : ℕ) → 8 < number → number < 9 → ⊥
+noneBetween number a b = omega arith
 
 -- A number that is no refusal's.
 pub noneSaid : (number : ℕ) (out : List ℕ) → sentenceOf number ≡ [] → Written (fitting (sentenceOf number) (length out)) out out 0

@@ -1,10 +1,12 @@
 -- `claims::claim_share` meets its contract.
 -- The previous vote claims every plan (`claimsEvery`), else the highest vote its own (`claimsOne`).
 -- Assumes nothing.
-use mathlib.Core.Path.{refl, sym, _∙_}
+use mathlib.Core.Path.{_≡_, refl, sym, _∙_}
+use mathlib.Core.Bool.{true}
 use borrow.Author.Needs.{needs}
 use Rattle.claims.proofs.Rows.{claimsEvery, claimsOne, claimsNone, silent}
 use Rattle.claims.specs.inside.Rows.{forAll, forOne, forNone}
+use Rattle.claims.specs.Table.{reporter}
 use Rattle.rules.specs.Rules.{claims}
 use Rattle.claims.proofs.claim_share.Statement.{statement}
 use Rattle.claims.proofs.claim_share.Tie as tie
@@ -42,29 +44,27 @@ shared-slice-read-is-at-2 c = search needs
 is-at-requires-2 : tie.Need-is-at-requires-2
 is-at-requires-2 c κs = search needs
 
+-- What the function begins with, where the previous vote does not claim.
+abbrev entry : tie.Else2 → tie.Start
+entry c = c .before .before .before .before .before .before
+
+-- The vault has reported.
+reports : (c : tie.Else2) → reporter (entry c .args .table .now) (entry c .args .r) ≡ true
+reports c = let at = c .before .before .before in sym (at .before .reported .ensures) ∙ at .if1 .taken
+
 returns-2 : tie.Need-returns-2
 returns-2 c =
-    let atIsAt = c .before .before .before .before in
-    let atIf1 = atIsAt .before .before in
-    let atReported = atIf1 .before in
-    let atEntry = atReported .before .before in
-    let a = atEntry .args in
-    let told = atReported .reported .ensures in
-    let reports = sym told ∙ atIf1 .if1 .taken in
-    let few = sym (atIsAt .is-at .ensures) ∙ c .before .before .before .if2 .left in
-    forOne refl refl (claimsOne (a .table .now) (a .r) (a .w) reports few (sym (c .before .is-at2 .ensures) ∙ c .if3 .taken))
+    let few = c .before .before .before in
+    let a = entry few .args in
+    let high = sym (c .before .is-at2 .ensures) ∙ c .if3 .taken in
+    forOne refl refl (claimsOne (a .table .now) (a .r) (a .w) (reports few) (sym (few .before .is-at .ensures) ∙ few .if2 .left) high)
 
 returns-3 : tie.Need-returns-3
 returns-3 c =
-    let atIsAt = c .before .before .before .before in
-    let atIf1 = atIsAt .before .before in
-    let atReported = atIf1 .before in
-    let atEntry = atReported .before .before in
-    let a = atEntry .args in
-    let told = atReported .reported .ensures in
-    let reports = sym told ∙ atIf1 .if1 .taken in
-    let few = sym (atIsAt .is-at .ensures) ∙ c .before .before .before .if2 .left in
-    forNone refl refl (claimsNone (a .table .now) (a .r) (a .w) reports few (sym (c .before .is-at2 .ensures) ∙ c .if3 .left))
+    let few = c .before .before .before in
+    let a = entry few .args in
+    let low = sym (c .before .is-at2 .ensures) ∙ c .if3 .left in
+    forNone refl refl (claimsNone (a .table .now) (a .r) (a .w) (reports few) (sym (few .before .is-at .ensures) ∙ few .if2 .left) low)
 
 returns-4 : tie.Need-returns-4
 returns-4 c =

@@ -12,10 +12,10 @@ use Rattle.claims.proofs.claims_at.Statement.{statement}
 use Rattle.claims.proofs.claims_at.Tie as tie
 
 abbrev Inv-loop : tie.InvT-loop
-Inv-loop table n w plans₀ at view every₀ some₀ r₀ plans every some r = Counted (reportsInTable table) claims view n at plans₀ plans every some r
+Inv-loop table n w plans₀ at view tally₀ r₀ plans tally r = Counted (reportsInTable table) claims view n at plans₀ plans tally r
 
 abbrev μ-loop : tie.MeasureT-loop
-μ-loop table n w plans₀ at view every₀ some₀ r₀ plans every some r = n - r
+μ-loop table n w plans₀ at view tally₀ r₀ plans tally r = n - r
 
 loop-holds : tie.Need-loop-holds Inv-loop μ-loop
 loop-holds c = countedNone _ _ _ _ _ _ (c .before .before .pre .2)
@@ -23,31 +23,21 @@ loop-holds c = countedNone _ _ _ _ _ _ (c .before .before .pre .2)
 claim-share-requires : tie.Need-claim-share-requires Inv-loop μ-loop
 claim-share-requires c κs = search needs
 
-add-plans : tie.Need-add-plans Inv-loop μ-loop
-add-plans c = search needs
+add-add-share : tie.Need-add-add-share Inv-loop μ-loop
+add-add-share c = search needs
 
-mul-plans : tie.Need-mul-plans Inv-loop μ-loop
-mul-plans c = search needs
+mul-add-share : tie.Need-mul-add-share Inv-loop μ-loop
+mul-add-share c = search needs
 
-shared-slice-read-plans : tie.Need-shared-slice-read-plans Inv-loop μ-loop
-shared-slice-read-plans c = search needs
+shared-slice-read-add-share : tie.Need-shared-slice-read-add-share Inv-loop μ-loop
+shared-slice-read-add-share c = search needs
 
-add-plans-2 : tie.Need-add-plans-2 Inv-loop μ-loop
-add-plans-2 c = omega (arith, c .before .before .before .loop .inv .row .most)
-
-mul-plans-2 : tie.Need-mul-plans-2 Inv-loop μ-loop
-mul-plans-2 c = omega (arith, c .before .before .before .loop .inv .row .most)
-
-slice-write-plans : tie.Need-slice-write-plans Inv-loop μ-loop
-slice-write-plans c = let so = c .before .before .before .loop .inv in omega (arith, so .size, so .row .most)
-
-add-every : tie.Need-add-every Inv-loop μ-loop
-add-every c = let few = countedFits (c .before .before .before .before .loop .inv) _ _ _ (c .before .before .claim-share .ensures) in omega (arith, few)
-
-add-some : tie.Need-add-some Inv-loop μ-loop
-add-some c =
-    let few = countedFits (c .before .before .before .before .before .loop .inv) _ _ _ (c .before .before .before .claim-share .ensures) in
-    omega (arith, few)
+add-share-requires : tie.Need-add-share-requires Inv-loop μ-loop
+add-share-requires c κs =
+    let share = c .before .before in
+    let at = share .before .before in
+    let pre = at .before .before .before .pre in
+    countedFits (at .loop .inv) _ _ (share .claim-share .ensures) (share .before .loop-test .taken) (pre .1) (pre .3)
 
 add-r : tie.Need-add-r Inv-loop μ-loop
 add-r c = search needs
@@ -57,8 +47,11 @@ loop-less c = search needs
 
 loop-again : tie.Need-loop-again Inv-loop μ-loop
 loop-again c =
-    let so = c .before .before .before .before .before .loop .inv in
-    countedMore so _ _ _ (c .before .before .before .claim-share .ensures) (omega arith) (omega (arith, so .size, so .row .most))
+    let put = c .before .before .add-share .ensures in
+    let share = c .before .before .before .before .before in
+    let at = share .before .before in
+    let pre = at .before .before .before .pre in
+    countedMore (at .loop .inv) _ _ (share .claim-share .ensures) (share .before .loop-test .taken) (pre .1) (pre .3) _ _ (put .0) (put .1)
 
 same-length : tie.Need-same-length Inv-loop μ-loop
 same-length c = search needs
@@ -74,14 +67,10 @@ claims-at-spec =
     μ-loop
     loop-holds
     claim-share-requires
-    add-plans
-    mul-plans
-    shared-slice-read-plans
-    add-plans-2
-    mul-plans-2
-    slice-write-plans
-    add-every
-    add-some
+    add-add-share
+    mul-add-share
+    shared-slice-read-add-share
+    add-share-requires
     add-r
     loop-less
     loop-again

@@ -1,7 +1,7 @@
 -- `claims::highest_to` meets its contract.
 -- The loop keeps the highest of the first r spans that are not above w, and `highestMore` adds one span.
 -- Assumes nothing.
-use Prim.Native.Nat.{_≤_, _-_}
+use Prim.Native.Nat.{_≤_, _-_, max}
 use mathlib.Core.Path.{_≡_, sym, _∙_, ap}
 use native.Mathlib.Omega.{arith}
 use borrow.Author.Needs.{needs}
@@ -39,9 +39,11 @@ loop-less c = search needs
 
 loop-again : tie.Need-loop-again Inv-loop μ-loop
 loop-again c =
-    let a = c .before .before .before .before .before .before .args in
-    let at = c .before .before .before .before .loop in
-    (omega arith, cc (highestMore (a .spans .now) (a .w) (at .r)))
+    let share = c .before in
+    let at = share .before .before .before .loop in
+    let a = share .before .before .before .before .before .args in
+    let step = c .larger .ensures ∙ (λ i. max (at .inv .1 i) (share .span-to .ensures i)) in
+    (omega arith, step ∙ sym (highestMore (a .spans .now) (a .w) (at .r)))
 
 returns : tie.Need-returns Inv-loop μ-loop
 returns c = let e : c .before .loop .r ≡ c .before .before .before .args .n = omega arith in c .before .loop .inv .1 ∙ ap (highestTo _ _) e

@@ -1,14 +1,15 @@
 -- `claims::serving_view` meets its contract.
 -- The search over candidate views. Outer invariant: no view tried so far serves. Inner invariant: the count is that of the claimers
--- among those that are for every plan and the first r of the row. A view that f + 1 claim serves (`walkFound`); else the next is tried.
+-- among those that are for every plan and the first r of the row. A view that f + 1 claim serves; else the next is tried (`walked`).
 -- Assumes nothing.
-use Prim.Native.Nat.{_+_, _-_, _≤_}
+use Prim.Native.Nat.{ℕ, _+_, _-_, _≤_}
 use mathlib.Core.Path.{_≡_, refl, sym, _∙_, ap}
+use mathlib.Core.Bool.{Bool, true, false, cond}
 use native.Mathlib.Omega.{arith}
 use borrow.Author.Needs.{needs}
 use lib.Dec.{eqb}
 use lib.ListN.{getD}
-use Rattle.claims.proofs.Rows.{countNone, countStep, rowFits, Below, walkOver, walkFound, walkOn}
+use Rattle.claims.proofs.Rows.{countNone, countStep, rowFits, Below, walkOver, walked}
 use Rattle.claims.specs.inside.Rows.{countOf, claimedIn, endOf, servingView}
 use Rattle.claims.specs.Table.{column}
 use Rattle.quorum.proofs.Laws.{shareMost}
@@ -57,18 +58,18 @@ reporters-holds c =
 is-blocking-requires : tie.Need-is-blocking-requires Inv-reporters μ-reporters Inv-views μ-views
 is-blocking-requires c κs = search needs
 
-add-same : tie.Need-add-same Inv-reporters μ-reporters Inv-views μ-views
-add-same c = omega arith
+add-plan-share : tie.Need-add-plan-share Inv-reporters μ-reporters Inv-views μ-views
+add-plan-share c = omega arith
 
-mul-same : tie.Need-mul-same Inv-reporters μ-reporters Inv-views μ-views
-mul-same c = omega arith
+mul-plan-share : tie.Need-mul-plan-share Inv-reporters μ-reporters Inv-views μ-views
+mul-plan-share c = omega arith
 
-shared-slice-read-same :
-    tie.Need-shared-slice-read-same Inv-reporters μ-reporters Inv-views μ-views
-shared-slice-read-same c = omega arith
+shared-slice-read-plan-share :
+    tie.Need-shared-slice-read-plan-share Inv-reporters μ-reporters Inv-views μ-views
+shared-slice-read-plan-share c = omega arith
 
-same-requires : tie.Need-same-requires Inv-reporters μ-reporters Inv-views μ-views
-same-requires c κs = search needs
+plan-share-requires : tie.Need-plan-share-requires Inv-reporters μ-reporters Inv-views μ-views
+plan-share-requires c κs = search needs
 
 add-claimers : tie.Need-add-claimers Inv-reporters μ-reporters Inv-views μ-views
 add-claimers c =
@@ -77,7 +78,7 @@ add-claimers c =
     let a = atEntry .args in
     let at = c .before .before .before .reporters in
     let row = atPlaceAt .place-at .result in
-    omega (arith, shareMost (eqb (getD (a .plans .now) (row + at .r) 0) (a .p)) 1 (c .same .result) (c .same .ensures))
+    omega (arith, shareMost (eqb (getD (a .plans .now) (row + at .r) 0) (a .p)) 1 (c .plan-share .result) (c .plan-share .ensures))
 
 add-r : tie.Need-add-r Inv-reporters μ-reporters Inv-views μ-views
 add-r c = omega arith
@@ -94,10 +95,10 @@ reporters-again c =
     let at = c .before .before .before .reporters in
     let t = atTallyAt .tally-at .result in
     let row = atPlaceAt .place-at .result in
-    let most = shareMost (eqb (getD (a .plans .now) (row + at .r) 0) (a .p)) 1 (c .same .result) (c .same .ensures) in (
+    let most = shareMost (eqb (getD (a .plans .now) (row + at .r) 0) (a .p)) 1 (c .plan-share .result) (c .plan-share .ensures) in (
       omega arith,
       omega (arith, most),
-      countStep (a .plans .now) row (at .r) (a .p) (t .every) (at .claimers) (c .same .result) (at .inv .2) (c .same .ensures),
+      countStep (a .plans .now) row (at .r) (a .p) (t .every) (at .claimers) (c .plan-share .result) (at .inv .2) (c .plan-share .ensures),
       at .inv .3,
       at .inv .4,
       at .inv .5,
@@ -106,21 +107,33 @@ reporters-again c =
 views-less : tie.Need-views-less Inv-reporters μ-reporters Inv-views μ-views
 views-less c = search needs
 
+-- Where a view is tried, what the search begins with, and the view itself.
+abbrev tried : tie.After-is-blocking Inv-reporters μ-reporters Inv-views μ-views → tie.After-place-at Inv-reporters μ-reporters Inv-views μ-views
+tried c = c .before .before .before .before
+
+abbrev entry : tie.After-is-blocking Inv-reporters μ-reporters Inv-views μ-views → tie.Start Inv-reporters μ-reporters Inv-views μ-views
+entry c = tried c .before .before .before .before .before
+
+abbrev view : tie.After-is-blocking Inv-reporters μ-reporters Inv-views μ-views → ℕ
+view c = tried c .before .before .views .end - 1
+
+-- What the search finds below a view.
+abbrev serves : tie.After-is-blocking Inv-reporters μ-reporters Inv-views μ-views → ℕ → ℕ
+serves c end = let a = entry c .args in servingView (claimedIn (a .plans .now) (a .c) (a .p)) (a .low) (a .c .v) end
+
+-- All claimers at the view are counted: the search ends there, or goes on below it.
+next : (c : tie.After-is-blocking Inv-reporters μ-reporters Inv-views μ-views) (b : Bool) → c .is-blocking .result ≡ b
+    → serves c (endOf (entry c .args .c)) ≡ cond b (view c) (serves c (view c))
+next c b is =
+    let a = entry c .args in
+    let at = tried c in
+    let last = at .before .before .views in
+    walked (a .plans .now) (a .c) (a .low) (a .p) (last .end) _ _ _ _ _ (last .inv) (at .before .if1 .left) refl
+    (at .place-at .ensures) (c .before .before .before .tally-at .ensures) (c .before .if2 .taken) (c .before .before .reporters .inv .2) b
+    (sym (c .is-blocking .ensures) ∙ is)
+
 views-again : tie.Need-views-again Inv-reporters μ-reporters Inv-views μ-views
-views-again c =
-    let atTallyAt = c .before .before .before .before in
-    let atPlaceAt = atTallyAt .before in
-    let atIf1 = atPlaceAt .before in
-    let atViews = atIf1 .before in
-    let atEntry = atViews .before .before .before in
-    let a = atEntry .args in
-    let at = c .before .before .before .reporters in
-    let t = atTallyAt .tally-at in
-    let row = atPlaceAt .place-at in
-    let last = atViews .views in
-    walkOn (a .plans .now) (a .c) (a .low) (a .p) (last .end) _ _ _ _ _ (last .inv) (atIf1 .if1 .left) refl
-    (row .ensures) (t .ensures) (c .before .before .if2 .taken) (at .inv .2)
-    (sym (c .before .is-blocking .ensures) ∙ c .if3 .left)
+views-again c = next (c .before) false (c .if3 .left)
 
 returns : tie.Need-returns Inv-reporters μ-reporters Inv-views μ-views
 returns c =
@@ -129,20 +142,7 @@ returns c =
     walkOver (a .plans .now) (a .c) (a .low) (a .p) (last .end) (last .inv) (c .if1 .taken)
 
 returns-2 : tie.Need-returns-2 Inv-reporters μ-reporters Inv-views μ-views
-returns-2 c =
-    let atTallyAt = c .before .before .before .before in
-    let atPlaceAt = atTallyAt .before in
-    let atIf1 = atPlaceAt .before in
-    let atViews = atIf1 .before in
-    let atEntry = atViews .before .before .before in
-    let a = atEntry .args in
-    let at = c .before .before .before .reporters in
-    let t = atTallyAt .tally-at in
-    let row = atPlaceAt .place-at in
-    let last = atViews .views in
-    walkFound (a .plans .now) (a .c) (a .low) (a .p) (last .end) _ _ _ _ _ (last .inv) (atIf1 .if1 .left) refl
-    (row .ensures) (t .ensures) (c .before .before .if2 .taken) (at .inv .2)
-    (sym (c .before .is-blocking .ensures) ∙ c .if3 .taken)
+returns-2 c = sym (next (c .before) true (c .if3 .taken))
 
 pub serving-view-spec : {M : Type 1} → statement M
 serving-view-spec =
@@ -159,10 +159,10 @@ serving-view-spec =
     tally-at-requires
     reporters-holds
     is-blocking-requires
-    add-same
-    mul-same
-    shared-slice-read-same
-    same-requires
+    add-plan-share
+    mul-plan-share
+    shared-slice-read-plan-share
+    plan-share-requires
     add-claimers
     add-r
     reporters-less

@@ -5,7 +5,7 @@ use mathlib.Core.Path.{_≡_}
 use mathlib.Core.Bool.{Bool, true, false, cond}
 use mathlib.Core.List.{List}
 use lib.Dec.{leb, ltb, eqb}
-use lib.ListN.{getD, length}
+use lib.ListN.{getD}
 use Rattle.quorum.specs.Sets.{weigh}
 use Rattle.rules.specs.Rules.{Report, Reports, reporting}
 use Rattle.claims.specs.declared.Search.{Search}
@@ -33,6 +33,10 @@ pub data Stance (test : ℕ → Bool) (x every some : ℕ) : Type 0 where
   forAll : every ≡ 1 → some ≡ 0 → ((p : ℕ) → test p ≡ true) → Stance test x every some
   forOne : every ≡ 0 → some ≡ 1 → ((p : ℕ) → test p ≡ eqb x p) → Stance test x every some
   forNone : every ≡ 0 → some ≡ 0 → ((p : ℕ) → test p ≡ false) → Stance test x every some
+
+-- A tally with what one report adds.
+abbrev pub added : Tally → Tally → Tally
+added t share = record { every = t .every + share .every; some = t .some + share .some }
 
 -- The row tells of every plan how many of the first n reports pass its test.
 pub record Tells (rs : Reports) (n : ℕ) (test : ℕ → Report → Bool) (plans : List ℕ) (at : ℕ) (t : Tally) : Type 0 where

@@ -1,11 +1,12 @@
 -- `keeping::keep_refusal` meets its contract: the two flags decide the two rows.
 -- Assumes nothing.
-use mathlib.Core.Path.{ap, sym, _∙_}
+use mathlib.Core.Path.{_≡_, ap, sym, _∙_}
+use mathlib.Core.Bool.{false}
 use Rattle.frame.specs.declared.Report.{Report}
 use Rattle.frame.proofs.Laws.{told}
-use Rattle.record.specs.Slots.{slotOf}
+use Rattle.record.specs.Slots.{frameSlot, slotOf}
 use Rattle.layout.specs.Layout.{decodeRecord}
-use Rattle.keeping.specs.inside.Keeping.{outdone}
+use Rattle.keeping.specs.inside.Keeping.{stale, outdone}
 use Rattle.keeping.proofs.Laws.{refusedStale, refusedOutdone, taken}
 use borrow.Author.Needs.{needs}
 use Rattle.keeping.proofs.keep_refusal.Statement.{statement}
@@ -29,21 +30,33 @@ slot-of-requires c κs = search needs
 is-outdone-requires : tie.Need-is-outdone-requires
 is-outdone-requires c κs = search needs
 
+-- What the function begins with.
+abbrev entry : tie.After-is-outdone → tie.Start
+entry c = c .before .before .before .before .before .before
+
+-- The frame is not stale.
+current : (c : tie.After-is-outdone) → let a = entry c .args in stale (a .current) (a .kind) (a .view) ≡ false
+current c = let at = c .before .before .before in told (at .before .is-stale .ensures) (at .if1 .left)
+
+-- The second flag is that of the frame's slot.
+behind : (c : tie.After-is-outdone) → let a = entry c .args in
+    c .is-outdone .result ≡ outdone (slotOf (decodeRecord (a .rec .now)) (frameSlot (a .kind) (a .sender))) (a .view)
+behind c =
+    let a = entry c .args in
+    let slot = c .before .slot-of .ensures ∙ ap (slotOf (decodeRecord (a .rec .now))) (c .before .before .frame-slot .ensures .0) in
+    c .is-outdone .ensures ∙ ap (λ (x : Report). outdone x (a .view)) slot
+
 returns-2 : tie.Need-returns-2
 returns-2 c =
-    let a = c .before .before .before .before .before .before .before .args in
-    let slot = c .before .before .slot-of .ensures ∙ ap (slotOf (decodeRecord (a .rec .now))) (c .before .before .before .frame-slot .ensures .0) in
-    sym (refusedOutdone (slotOf (decodeRecord (a .rec .now))) (a .current) (a .sender) (a .kind) (a .view)
-    (told (c .before .before .before .before .before .is-stale .ensures) (c .before .before .before .before .if1 .left))
-    (told (c .before .is-outdone .ensures ∙ ap (λ (x : Report). outdone x (a .view)) slot) (c .if2 .taken)))
+    let a = entry (c .before) .args in
+    sym (refusedOutdone (slotOf (decodeRecord (a .rec .now))) (a .current) (a .sender) (a .kind) (a .view) (current (c .before))
+    (told (behind (c .before)) (c .if2 .taken)))
 
 returns-3 : tie.Need-returns-3
 returns-3 c =
-    let a = c .before .before .before .before .before .before .before .args in
-    let slot = c .before .before .slot-of .ensures ∙ ap (slotOf (decodeRecord (a .rec .now))) (c .before .before .before .frame-slot .ensures .0) in
-    sym (taken (slotOf (decodeRecord (a .rec .now))) (a .current) (a .sender) (a .kind) (a .view)
-    (told (c .before .before .before .before .before .is-stale .ensures) (c .before .before .before .before .if1 .left))
-    (told (c .before .is-outdone .ensures ∙ ap (λ (x : Report). outdone x (a .view)) slot) (c .if2 .left)))
+    let a = entry (c .before) .args in
+    sym (taken (slotOf (decodeRecord (a .rec .now))) (a .current) (a .sender) (a .kind) (a .view) (current (c .before))
+    (told (behind (c .before)) (c .if2 .left)))
 
 pub keep-refusal-spec : {M : Type 1} → statement M
 keep-refusal-spec =

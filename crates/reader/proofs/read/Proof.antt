@@ -1,9 +1,11 @@
 -- `reader::read` meets its contract. "Checked downwards" (01, Refusals): the rows 9 to 15, in four groups.
 -- Each answer cites the law of its group, by what the calls before it gave.
 -- Assumes nothing.
+use mathlib.Core.Path.{_≡_}
 use native.Mathlib.Omega.{arith}
 use denote.Ref.{now}
 use lib.ListN.{getD}
+use Rattle.frame.specs.Refusal.{first, formRows, linkRows}
 use Rattle.frame.proofs.Laws.{told, formed, headIsThere}
 use Rattle.frame.proofs.Steps.{byForm, byLink, byTheFrame, accepts, linkBelow}
 use borrow.Author.Needs.{needs}
@@ -45,29 +47,30 @@ frame-refusal-requires c κs =
     let s = now (a .s) in
     omega (arith, linkBelow (getD s 1 0) (a .link) (a .n) (a .own) (told (c .before .before .link-refusal .ensures) (c .before .if2 .left)))
 
+-- What the function begins with.
+abbrev entry : tie.Else2 → tie.Start
+entry c = c .before .before .before .before .before .before
+
+-- Refusals 9 to 12 are not given.
+linked : (c : tie.Else2) → let a = entry c .args in
+    (first (formRows (now (a .s))) ≡ 0) × (first (linkRows (getD (now (a .s)) 1 0) (a .link) (a .n) (a .own)) ≡ 0)
+linked c =
+    let at = c .before .before .before in
+    (told (at .before .form-refusal .ensures) (at .if1 .left), told (c .before .link-refusal .ensures) (c .if2 .left))
+
 returns-3 : tie.Need-returns-3
 returns-3 c =
-    let atLinkRefusal = c .before .before .before .before in
-    let atIf1 = atLinkRefusal .before .before in
-    let atFormRefusal = atIf1 .before in
-    let atEntry = atFormRefusal .before .before in
-    let a = atEntry .args in
-    let form = told (atFormRefusal .form-refusal .ensures)
-    (atIf1 .if1 .left) in
-    let linked = told (atLinkRefusal .link-refusal .ensures) (c .before .before .before .if2 .left) in
-    byTheFrame (now (a .s)) (a .link) (a .n) (a .own) form linked _ (c .before .before .parse .ensures) _ (c .if3 .taken) (c .before .frame-refusal .ensures)
+    let at = c .before .before .before in
+    let a = entry at .args in
+    let (formed, link) = linked at in
+    byTheFrame (now (a .s)) (a .link) (a .n) (a .own) formed link _ (c .before .before .parse .ensures) _ (c .if3 .taken) (c .before .frame-refusal .ensures)
 
 returns-4 : tie.Need-returns-4
 returns-4 c =
-    let atLinkRefusal = c .before .before .before .before in
-    let atIf1 = atLinkRefusal .before .before in
-    let atFormRefusal = atIf1 .before in
-    let atEntry = atFormRefusal .before .before in
-    let a = atEntry .args in
-    let form = told (atFormRefusal .form-refusal .ensures)
-    (atIf1 .if1 .left) in
-    let linked = told (atLinkRefusal .link-refusal .ensures) (c .before .before .before .if2 .left) in
-    accepts (now (a .s)) (a .link) (a .n) (a .own) form linked _ (c .before .before .parse .ensures) (told (c .if3 .left) (c .before .frame-refusal .ensures))
+    let at = c .before .before .before in
+    let a = entry at .args in
+    let (formed, link) = linked at in
+    accepts (now (a .s)) (a .link) (a .n) (a .own) formed link _ (c .before .before .parse .ensures) (told (c .if3 .left) (c .before .frame-refusal .ensures))
 
 pub read-spec : {M : Type 1} → statement M
 read-spec =

@@ -9,17 +9,17 @@ use Rattle.safe.specs.declared.Choice.{Choice}
 use Rattle.safe.proofs.differs.Statement.{statement}
 use Rattle.safe.proofs.differs.Tie as tie
 
-enum-known-spare : tie.Need-enum-known-spare
-enum-known-spare c = search needs
+enum-known-except : tie.Need-enum-known-except
+enum-known-except c = search needs
 
 enum-told : tie.Need-enum-told
 enum-told c = search needs
 
 returns : tie.Need-returns
-returns c = sym (ap (λ (b : Choice). apart (c .before .before .before .args .x) (chosen b)) (c .before .spare .given .1))
+returns c = sym (ap (λ (b : Choice). apart (c .before .before .before .args .x) (chosen b)) (c .before .except .given .1))
 
 returns-2 : tie.Need-returns-2
 returns-2 c = search needs
 
 pub differs-spec : {M : Type 1} → statement M
-differs-spec = tie.close (tie.spec enum-known-spare enum-told returns returns-2)
+differs-spec = tie.close (tie.spec enum-known-except enum-told returns returns-2)

@@ -2,27 +2,25 @@
 -- Neither the plan tried last nor the first r of the row pass; where none of the row does, none is claimed (`noneFound`).
 -- Assumes nothing.
 use Prim.Native.Nat.{ℕ, _+_, _-_, _≤_}
-use mathlib.Core.Bool.{true, false}
-use mathlib.Core.Path.{_≡_, refl, sym, _∙_, ap, subst}
+use mathlib.Core.Bool.{false}
+use mathlib.Core.Path.{_≡_, sym, _∙_, ap}
 use native.Mathlib.Omega.{arith}
 use lib.ListN.{getD}
 use borrow.Author.Needs.{needs}
 use Rattle.claims.proofs.Rows.{rowFits}
-use Rattle.claims.specs.inside.Rows.{placeAt}
 use Rattle.claims.specs.Table.{column}
 use Rattle.claims.specs.declared.Tally.{Tally}
-use Rattle.quorum.proofs.Bools.{bothJoin}
 use Rattle.safe.proofs.Searches.{servedAt, tried, NonePass, untriedFirst, nonePassMore, foundFirst, foundOther, noneFound}
 use Rattle.safe.specs.Choices.{chosen}
 use Rattle.safe.proofs.find_claimed.Statement.{statement}
 use Rattle.safe.proofs.find_claimed.Tie as tie
 
 abbrev Inv-loop : tie.InvT-loop
-Inv-loop plans c w spare first row some last₀ r₀ last r =
-    (r ≤ some) × (tried plans c w (chosen spare) last ≡ false) × NonePass plans c w (chosen spare) r × (row ≤ column) × (some ≤ column)
+Inv-loop plans c w except first row some last₀ r₀ last r =
+    (r ≤ some) × (tried plans c w (chosen except) last ≡ false) × NonePass plans c w (chosen except) r × (row ≤ column) × (some ≤ column)
 
 abbrev μ-loop : tie.MeasureT-loop
-μ-loop plans c w spare first row some last₀ r₀ last r = some - r
+μ-loop plans c w except first row some last₀ r₀ last r = some - r
 
 first-plan-requires : tie.Need-first-plan-requires Inv-loop μ-loop
 first-plan-requires c κs = search needs
@@ -35,7 +33,7 @@ returns c =
     let a = c .before .before .before .before .args in
     let pre = c .before .before .before .before .pre in
     let first = c .before .before .first-plan in
-    foundFirst (a .plans .now) (a .c) (a .w) (chosen (a .spare)) (λ x. servedAt (a .plans .now) (a .c) (a .w) x (pre .0 .below) (pre .1) (pre .2) (pre .3))
+    foundFirst (a .plans .now) (a .c) (a .w) (chosen (a .except)) (λ x. servedAt (a .plans .now) (a .c) (a .w) x (pre .0 .below) (pre .1) (pre .2) (pre .3))
     (first .result) (first .ensures) (sym (c .before .served .ensures) ∙ c .if1 .taken)
 
 place-at-requires : tie.Need-place-at-requires Inv-loop μ-loop
@@ -53,7 +51,7 @@ loop-holds c =
     let row = c .before .place-at in
     let t = c .tally-at in
     let (low, fits) = rowFits (a .c) (a .w) (row .result) (t .result) (row .ensures) (t .ensures) (l .here) (l .next) in
-    (omega arith, untriedFirst (a .plans .now) (a .c) (a .w) (chosen (a .spare)) (first .result) never, λ j low. absurd (omega arith), low, fits .1)
+    (omega arith, untriedFirst (a .plans .now) (a .c) (a .w) (chosen (a .except)) (first .result) never, λ j low. absurd (omega arith), low, fits .1)
 
 add-x : tie.Need-add-x Inv-loop μ-loop
 add-x c = omega arith
@@ -81,7 +79,7 @@ returns-2 c =
     let a = atEntry .args in
     let pre = atEntry .pre in
     let first = atFirstPlan .first-plan in
-    foundOther (a .plans .now) (a .c) (a .w) (chosen (a .spare)) (λ x. servedAt (a .plans .now) (a .c) (a .w) x (pre .0 .below) (pre .1) (pre .2) (pre .3))
+    foundOther (a .plans .now) (a .c) (a .w) (chosen (a .except)) (λ x. servedAt (a .plans .now) (a .c) (a .w) x (pre .0 .below) (pre .1) (pre .2) (pre .3))
     (first .result) (first .ensures) _ (sym (c .before .other-claimed .ensures) ∙ c .if2 .taken)
 
 add-r : tie.Need-add-r Inv-loop μ-loop
@@ -101,14 +99,14 @@ loop-again c =
     let x = getD (a .plans .now) (row .result + at .r) 0 in
     let fails = sym (c .before .other-claimed .ensures) ∙ c .if2 .left in
     let is = ap (λ (o : ℕ). getD (a .plans .now) (o + at .r) 0) (row .ensures) in
-    (omega arith, fails, nonePassMore (a .plans .now) (a .c) (a .w) (chosen (a .spare)) (at .r) x is fails (at .inv .2), at .inv .3, at .inv .4)
+    (omega arith, fails, nonePassMore (a .plans .now) (a .c) (a .w) (chosen (a .except)) (at .r) x is fails (at .inv .2), at .inv .3, at .inv .4)
 
 returns-3 : tie.Need-returns-3 Inv-loop μ-loop
 returns-3 c =
     let a = c .before .before .before .before .before .before .before .before .args in
     let pre = c .before .before .before .before .before .before .before .before .pre in
     let first = c .before .before .before .before .before .before .first-plan in
-    noneFound (a .plans .now) (a .c) (a .w) (chosen (a .spare)) (λ x. servedAt (a .plans .now) (a .c) (a .w) x (pre .0 .below) (pre .1) (pre .2) (pre .3))
+    noneFound (a .plans .now) (a .c) (a .w) (chosen (a .except)) (λ x. servedAt (a .plans .now) (a .c) (a .w) x (pre .0 .below) (pre .1) (pre .2) (pre .3))
     (first .result) (first .ensures) (c .before .loop .r)
     (omega (arith, ap (λ (t : Tally). t .some) (c .before .before .tally-at .ensures)))
     (sym (c .before .before .before .before .before .served .ensures) ∙ c .before .before .before .before .if1 .left) (c .before .loop .inv .2)

@@ -15,7 +15,7 @@ returns : tie.Need-returns
 returns c = sym (c .before .differs .ensures) ∙ c .if1 .taken
 
 returns-2 : tie.Need-returns-2
-returns-2 c = apartOne (chosen (c .before .before .args .spare)) (sym (c .before .differs .ensures) ∙ c .if1 .left)
+returns-2 c = apartOne (chosen (c .before .before .args .except)) (sym (c .before .differs .ensures) ∙ c .if1 .left)
 
 pub first-plan-spec : {M : Type 1} → statement M
 first-plan-spec = tie.close (tie.spec differs-requires returns returns-2)

@@ -26,7 +26,7 @@ returns-2 c = simp (sym (c .before .differs .ensures) ∙ c .if2 .left)
 returns-3 : tie.Need-returns-3
 returns-3 c =
     let a = c .before .before .args in
-    subst (λ (y : ℕ). false ≡ (apart y (chosen (a .spare)) && servedFrom (a .plans .now) (a .c) (a .w) y)) (sym (c .if1 .left))
+    subst (λ (y : ℕ). false ≡ (apart y (chosen (a .except)) && servedFrom (a .plans .now) (a .c) (a .w) y)) (sym (c .if1 .left))
     (sym (c .before .before .pre .1))
 
 pub other-claimed-spec : {M : Type 1} → statement M

@@ -1,9 +1,11 @@
 -- `safe::safe_three` meets its contract.
 -- Rule 3 accepts what Rule 1 does (`threeOne`), and the twoSet clause at the same view (`threeFirst`, `threeNext`).
 -- Assumes nothing.
-use mathlib.Core.Path.{sym, _∙_}
+use mathlib.Core.Path.{_≡_, sym, _∙_}
+use mathlib.Core.Bool.{false}
 use native.Mathlib.Omega.{arith}
 use Rattle.claims.specs.Table.{reportsInTable}
+use Rattle.safe.specs.inside.Searches.{safeIn}
 use Rattle.safe.proofs.Searches.{falling, pairTwo, threeOne, threeFirst, threeNext, threeLast}
 use Rattle.safe.proofs.safe_three.Statement.{statement}
 use Rattle.safe.proofs.safe_three.Tie as tie
@@ -33,18 +35,18 @@ two-sets-requires c κs =
     let pre = atEntry .pre in
     (pre .2 .laid, falling rs (a .c) (a .plans .now) (pre .2), c .before .before .if2 .taken)
 
+-- Rule 1 does not accept the plan.
+never : (c : tie.Else1) → let a = c .before .before .before .before .args in safeIn (a .plans .now) (a .c) (a .p) ≡ false
+never c = sym (c .before .safe-one .ensures) ∙ c .if1 .left
+
 returns-2 : tie.Need-returns-2
 returns-2 c =
-    let atIf1 = c .before .before .before .before .before .before in
-    let atSafeOne = atIf1 .before in
-    let atEntry = atSafeOne .before .before .before in
-    let a = atEntry .args in
+    let one = c .before .before .before .before .before .before in
+    let a = one .before .before .before .before .args in
+    let pre = one .before .before .before .before .pre in
     let rs = reportsInTable (a .table .now) in
-    let pre = atEntry .pre in
-    threeFirst rs (a .c) (a .plans .now) (pre .2) (pre .3) (a .p) (sym (atSafeOne .safe-one .ensures)
-    ∙ atIf1 .if1 .left) _
-    (sym (c .before .before .allowed .ensures) ∙ c .before .if3 .taken)
-    (pairTwo rs (a .c) (a .plans .now) (pre .2) _ (c .before .before .before .if2 .taken) (c .two-sets .ensures))
+    let two = pairTwo rs (a .c) (a .plans .now) (pre .2) _ (c .before .before .before .if2 .taken) (c .two-sets .ensures) in
+    threeFirst rs (a .c) (a .plans .now) (pre .2) (pre .3) (a .p) (never one) _ (sym (c .before .before .allowed .ensures) ∙ c .before .if3 .taken) two
 
 two-sets-after-requires : tie.Need-two-sets-after-requires
 two-sets-after-requires c κs =
@@ -55,23 +57,19 @@ two-sets-after-requires c κs =
 
 returns-3 : tie.Need-returns-3
 returns-3 c =
-    let atIf1 = c .before .before .before .before .before .before in
-    let atSafeOne = atIf1 .before in
-    let atEntry = atSafeOne .before .before .before in
-    let a = atEntry .args in
-    let rs = reportsInTable (a .table .now) in
-    let pre = atEntry .pre in
-    threeNext rs (a .c) (a .plans .now) (pre .2) (pre .3) (a .p) (sym (atSafeOne .safe-one .ensures)
-    ∙ atIf1 .if1 .left) _
-    (sym (c .before .before .allowed .ensures) ∙ c .before .if3 .left) (c .before .before .before .if2 .taken) (c .two-sets-after .ensures)
+    let one = c .before .before .before .before .before .before in
+    let a = one .before .before .before .before .args in
+    let pre = one .before .before .before .before .pre in
+    let block = sym (c .before .before .allowed .ensures) ∙ c .before .if3 .left in
+    threeNext (reportsInTable (a .table .now)) (a .c) (a .plans .now) (pre .2) (pre .3) (a .p) (never one) _ block
+    (c .before .before .before .if2 .taken) (c .two-sets-after .ensures)
 
 returns-4 : tie.Need-returns-4
 returns-4 c =
-    let a = c .before .before .before .before .before .before .before .args in
-    let rs = reportsInTable (a .table .now) in
-    let pre = c .before .before .before .before .before .before .before .pre in
-    threeLast rs (a .c) (a .plans .now) (pre .2) (pre .3) (a .p) (sym (c .before .before .before .before .safe-one .ensures)
-    ∙ c .before .before .before .if1 .left) (c .if2 .left)
+    let one = c .before .before .before in
+    let a = one .before .before .before .before .args in
+    let pre = one .before .before .before .before .pre in
+    threeLast (reportsInTable (a .table .now)) (a .c) (a .plans .now) (pre .2) (pre .3) (a .p) (never one) (c .if2 .left)
 
 pub safe-three-spec : {M : Type 1} → statement M
 safe-three-spec =

@@ -1,15 +1,17 @@
 -- What the search for safe plans tests, by the rows that were prepared for it; and what it is to be the rows of the reports.
 -- Assumes nothing.
-use Prim.Native.Nat.{ℕ, zero, suc, _+_, _-_, _≤_, _<_}
+use Prim.Native.Nat.{ℕ, zero, suc, _+_, _-_, _<_}
 use mathlib.Core.Path.{_≡_}
 use mathlib.Core.Logic.{_≢_}
-use mathlib.Core.Bool.{Bool, true, false, cond, _&&_}
+use mathlib.Core.Bool.{Bool, true, false, cond, _&&_, _||_}
 use mathlib.Core.Option.{Option, none}
 use mathlib.Core.List.{List}
-use lib.Dec.{leb, ltb}
+use lib.Dec.{leb, ltb, eqb}
 use lib.ListN.{length, getD}
 use Rattle.rules.specs.Rules.{Reports, claims, allows}
-use Rattle.rules.specs.inside.Counts.{smaller}
+use Rattle.quorum.specs.Sets.{Vaults, equals}
+use Rattle.rules.specs.inside.Counts.{free, smaller}
+use Rattle.rules.specs.inside.Views.{Lowest}
 use Rattle.claims.specs.declared.Search.{Search}
 use Rattle.claims.specs.inside.Rows.{rowsSize, forPlan, Fits, Tells, claimedIn, endOf, servingView}
 use Rattle.claims.specs.Table.{column}
@@ -86,3 +88,15 @@ pub record Prepared (rs : Reports) (c : Search) (plans : List ℕ) : Type 0 wher
   pub here : Tells rs (c .n) (λ p. claims p (c .u)) plans 0 (c .here)
   pub next : Tells rs (c .n) (λ p. claims p (c .u + 1)) plans column (c .next)
   pub locks : Tells rs (c .n) (λ p. allows p (c .u)) plans lockRow (c .locks)
+
+-- In view 0 every plan is safe, and so where 'some quorum q of reporters has no lock at all'.
+unfoldable pub everySafe : Vaults → Reports → ℕ → Bool
+everySafe vs rs v = eqb v 0 || free vs rs
+
+-- The rows are prepared for a call, whose numbers the search has, from the lowest view on that can serve a plan.
+pub record Begun (rs : Reports) (n f v : ℕ) (c : Search) (plans : List ℕ) : Type 0 where
+  pub ready : Prepared rs c plans
+  pub isN : c .n ≡ n
+  pub isF : c .f ≡ f
+  pub isV : c .v ≡ v
+  pub lowest : Lowest (equals (c .n) (c .f)) rs (c .v) (c .u)

@@ -1,6 +1,6 @@
 -- `sound::previous_stands` meets its contract: its form, then the rest of 14.
 -- Assumes nothing.
-use mathlib.Core.Path.{sym, _∙_}
+use mathlib.Core.Path.{refl, sym, _∙_}
 use Rattle.sound.specs.inside.Sound.{stands}
 use Rattle.sound.proofs.Laws.{off, on}
 use borrow.Author.Needs.{needs}
@@ -19,7 +19,7 @@ follows-requires c κs = search needs
 
 returns-2 : tie.Need-returns-2
 unfolding stands
-returns-2 c = c .follows .ensures ∙ sym (rw (on (c .before .before .well-formed .ensures) (c .before .if1 .left)))
+returns-2 c = c .follows .ensures ∙ sym (rw (on (c .before .before .well-formed .ensures) (c .before .if1 .left)) refl)
 
 pub previous-stands-spec : {M : Type 1} → statement M
 previous-stands-spec = tie.close (tie.spec well-formed-requires returns follows-requires returns-2)

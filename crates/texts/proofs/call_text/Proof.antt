@@ -3,7 +3,7 @@
 use Prim.Native.Nat.{_<_}
 use mathlib.Core.Path.{refl}
 use Rattle.texts.specs.Texts.{bytesOf, sentenceOf}
-use Rattle.texts.proofs.Laws.{said, too-high, noNumber, beyondFour, noneSaid}
+use Rattle.texts.proofs.Laws.{said, noneBetween, noNumber, beyondFour, noneSaid}
 use borrow.Author.Needs.{needs}
 use Rattle.texts.proofs.call_text.Statement.{statement}
 use Rattle.texts.proofs.call_text.Tie as tie
@@ -119,7 +119,7 @@ returns-9 c =
     let to-4 = to-8 .0 .0 .0 .0 in
     let high : 0 < number → 20 < number = λ (h : 0 < number).
     let past : 8 < number = beyondFour number 4 (beyondFour number 0 h to-4) to-8 in
-    absurd (too-high number past (c .before .before .pre)) in
+    absurd (noneBetween number past (c .before .before .pre)) in
     noneSaid number _ (noNumber number high)
 
 pub call-text-spec : {M : Type 1} → statement M

@@ -23,12 +23,9 @@ returns c =
 
 timer-in-requires : tie.Need-timer-in-requires
 timer-in-requires c κs =
-    let a = c .before .before in
-    let b = a .before in
-    let s = b .before .before .before .before in
-    let rec = now (s .args .rec) in
-    let out = now (s .args .out) in
-    wayOpen rec out (b .way-in .result) (b .way-in .ensures) (a .if1 .left)
+    let past = c .before .before in
+    let a = past .before .before .before .before .before .args in
+    wayOpen (now (a .rec)) (now (a .out)) _ (past .before .way-in .ensures) (past .if1 .left)
 
 same-length-2 : tie.Need-same-length-2
 same-length-2 c = search needs

@@ -27,7 +27,7 @@ returns : tie.Need-returns
 returns c = ap code (sym (c .before .a .given .1))
 
 returns-2 : tie.Need-returns-2
-returns-2 c = search needs
+returns-2 c = ap code (sym (c .before .a2 .given .1))
 
 pub number-spec : {M : Type 1} → statement M
 number-spec =
