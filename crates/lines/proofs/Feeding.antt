@@ -31,6 +31,7 @@ module _ {S : Type 0} (p : Program S) (room : ℕ) (s₀ : S) (line₀ piece : L
     pub kept : take room (begun line (drop i piece)) ≡ take room (begun line₀ piece)
     pub says : said ++ prints p s (ended line (drop i piece)) ≡ prints p s₀ (ended line₀ piece)
 
+  -- At the beginning nothing is said, and the whole piece is to come.
   pub fedNone : FedTo s₀ line₀ [] 0
   fedNone = record { left = refl; kept = refl; says = refl }
 

@@ -8,9 +8,11 @@ ghost use Rattle.lines.specs.Digits.{valueOf, digitOf, lineOf, refusalLi
 ghost use Rattle.lines.specs.inside.Lines.{firstLine};
 ghost use Rattle.lines.specs.inside.Steps.{spells, countOf, Shown, KeptOf};
 
+// "A line ends at byte 0a".
 const LINE_END: u8 = 10;
 
-const REFUSED: u8 = 253;
+// "fd and the refusal number as one byte": how the line of a refusal begins.
+pub const REFUSED: u8 = 253;
 
 // ---- digits
 
