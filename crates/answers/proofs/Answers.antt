@@ -29,6 +29,7 @@ use Rattle.answers.specs.Lines.{keptSize}
 use Rattle.answers.proofs.Entries.{laidShort}
 use Rattle.answers.proofs.Calls.{callWell, shortRefused}
 
+-- The output space has the 256 bytes that a call wants, so no line is refused for want of room.
 pub zeroedSize : length zeroed ≡ outputSize
 unfolding zeroed
 zeroedSize = length-replicate {A = ℕ} outputSize 0
@@ -48,10 +49,12 @@ printedShort : (a : Answer) (out : List ℕ) → Printable a out → length (pri
 printedShort (Written n) out (few, size, laid) = omega (arith, laidShort (take n out) laid, length-take-le n out (omega arith))
 printedShort (Refused k) out p = omega (arith, lengthLine (253 ∷ k ∷ []))
 
+-- The record that an answer leaves is the one that the code has: a refusal's too.
 recordBy : (a : Answer) (rec′ out′ : List ℕ) → rec′ ≡ recordIn (leftBy a rec′ out′)
 recordBy (Written n) rec′ out′ = refl
 recordBy (Refused k) rec′ out′ = refl
 
+-- What is printed of an answer does not depend on the record, so `put_answer` needs none.
 printedBy : (a : Answer) (rec′ out′ : List ℕ) → printed (leftBy a [] out′) ≡ printed (leftBy a rec′ out′)
 printedBy (Written n) rec′ out′ = refl
 printedBy (Refused k) rec′ out′ = refl
@@ -68,24 +71,30 @@ putBy rec s page at a rec′ out′ page′ next is p put = record {
 -- ---- each kind of answer is put
 
 module _ (a : Answer) (out : List ℕ) (p : Printable a out) (n : ℕ) (is : a ≡ Written n) where
+  -- What is promised of the answer, once it is known to be entries.
   written : Printable (Written n) out
   written = subst (λ (x : Answer). Printable x out) is p
 
+  -- The code's slice begins at 0: its length is the count.
   whole : n - 0 ≡ n
   whole = omega arith
 
+  -- The slice of the written bytes is within the output.
   pub countFits : n ≤ length out
   countFits = let (few, size, laid) = written in omega arith
 
+  -- The written entries may be put on the page: they have room, and are entries end to end.
   pub writtenMay : (page : List ℕ) (at : ℕ) → at + answerSize ≤ length page → (at + 3 * length (take (n - 0) out) ≤ length page) × Laid (take (n - 0) out)
   writtenMay page at room =
       let (few, size, laid) = written in
       rw whole (omega (arith, length-take-le n out (omega arith)), laid)
 
+  -- The lines of the written entries are what is printed of the answer.
   pub writtenShown : (page : List ℕ) (at : ℕ) (page′ : List ℕ) (next : ℕ) → Shown (entryLines (entriesOf (take (n - 0) out))) page at page′ next
       → Shown (printed (leftBy a [] out)) page at page′ next
   writtenShown page at page′ next put = rw is (rw whole at put)
 
+-- The line of the refusal is what is printed of the answer.
 pub refusedShown : (a : Answer) (out : List ℕ) (k : ℕ) → a ≡ Refused k → (page : List ℕ) (at : ℕ) (page′ : List ℕ) (next : ℕ)
     → Shown (refusalLine k) page at page′ next → Shown (printed (leftBy a [] out)) page at page′ next
 refusedShown a out k is page at page′ next put = rw is put
@@ -119,6 +128,7 @@ module _ (rec text page : List ℕ) (at : ℕ) (g : Spelling) (bytes : List ℕ)
         omega (arith, shown .ends, lengthLine (253 ∷ 20 ∷ [])),
       )
 
+  -- A text that spells bytes: the line leaves and prints what the call of those bytes does.
   pub countAnswered : (n : ℕ) → g ≡ Count n → (rec′ page′ : List ℕ) (next : ℕ) → Put (callLeft rec zeroed (callOf (take (n - 0) bytes))) page at rec′ page′ next
       → Line rec text page at rec′ page′ next
   unfolding lineLeft vaultLines
@@ -142,6 +152,7 @@ keptLeft : (rec line : List ℕ) → lineLeft rec (take keptSize line) ≡ lineL
 unfolding lineLeft
 keptLeft rec line = ap (spelledLeft rec) (keptSpells digitLimit line)
 
+-- So a line may be cut at 91 bytes while it is read, however long it is.
 pub keptEnough : Enough vaultLines keptSize
 unfolding vaultLines
 keptEnough = record { next = λ rec line. ap recordIn (keptLeft rec line); says = λ rec line. ap printed (keptLeft rec line) }

@@ -8,8 +8,9 @@ ghost use lib.ListN.{length};
 ghost use Rattle.entry.specs.Reading.{entriesOf};
 ghost use Rattle.vault.specs.Answers.{leftBy};
 ghost use Rattle.lines.specs.inside.Steps.{Shown, Answered};
-ghost use Rattle.answers.specs.Lines.{startOf, timerOf, frameOf, callOf, callLeft, zeroed, entryLines, printed, vaultLines};
+ghost use Rattle.answers.specs.Lines.{isKind, startOf, timerOf, frameOf, callOf, callLeft, zeroed, entryLines, printed, vaultLines};
 ghost use Rattle.answers.specs.inside.Steps.{answerSize, lineShare, Laid, Printable, Put};
+use frame::numbers;
 use lines::Spelling;
 use settings::Settings;
 use vault::Answer;
@@ -19,8 +20,10 @@ const DIGITS: usize = 90;
 
 const BYTES: usize = 45;
 
+// "a zeroed 256-byte output array"
 const OUTPUT: usize = 256;
 
+// The kinds of lines that are no frames.
 const START: u8 = 0;
 
 const TIMER: u8 = 9;
@@ -29,10 +32,6 @@ const START_LENGTH: usize = 13;
 
 const TIMER_LENGTH: usize = 5;
 
-const BAD_LENGTH: u8 = 10;
-
-const BAD_LINE: u8 = 20;
-
 // ---- the call that a line makes
 
 // "Kind 00 starts (n, f, id, class, one byte each, then plan; 13 bytes)"; "A wrong length .. gives 10, before the call".
@@ -40,7 +39,7 @@ fn start(rec: &mut [u8], bytes: &[u8], out: &mut [u8]) -> Answer
     ensures { λ r. ⌜ leftBy r (now (rec .exit)) (now (out .exit)) ≡ callLeft (now (rec .entry)) (now (out .entry)) (startOf (now (bytes .entry))) ⌝ }
 {
     if bytes.len() != START_LENGTH {
-        return Answer::Refused(BAD_LENGTH);
+        return Answer::Refused(numbers::REFUSED_LENGTH);
     }
     let set = Settings {
         n: bytes[1],
@@ -57,7 +56,7 @@ fn timer(rec: &mut [u8], bytes: &[u8], out: &mut [u8]) -> Answer
     ensures { λ r. ⌜ leftBy r (now (rec .exit)) (now (out .exit)) ≡ callLeft (now (rec .entry)) (now (out .entry)) (timerOf (now (bytes .entry))) ⌝ }
 {
     if bytes.len() != TIMER_LENGTH {
-        return Answer::Refused(BAD_LENGTH);
+        return Answer::Refused(numbers::REFUSED_LENGTH);
     }
     vault::timer(rec, wire::number32(bytes, 1), out)
 }
@@ -72,18 +71,27 @@ fn frame(rec: &mut [u8], bytes: &[u8], out: &mut [u8]) -> Answer
     vault::frame(rec, bytes[1], bytes, out)
 }
 
-// The call that a line's bytes make.
+// Whether a line is of a kind, which an empty line has not.
+fn is_kind(kind: u8, bytes: &[u8]) -> bool
+    ensures { λ b. ⌜ b ≡ isKind kind (now (bytes .entry)) ⌝ }
+{
+    if bytes.len() == 0 {
+        return false;
+    }
+    bytes[0] == kind
+}
+
+// The call that a line's bytes make: "an empty line is an empty frame".
 fn call(rec: &mut [u8], bytes: &[u8], out: &mut [u8]) -> Answer
     ensures { λ r. ⌜ leftBy r (now (rec .exit)) (now (out .exit)) ≡ callLeft (now (rec .entry)) (now (out .entry)) (callOf (now (bytes .entry))) ⌝ }
 {
-    if bytes.len() == 0 {
-        return frame(rec, bytes, out);
+    if is_kind(START, bytes) {
+        return start(rec, bytes, out);
     }
-    match bytes[0] {
-        START => start(rec, bytes, out),
-        TIMER => timer(rec, bytes, out),
-        _ => frame(rec, bytes, out),
+    if is_kind(TIMER, bytes) {
+        return timer(rec, bytes, out);
     }
+    frame(rec, bytes, out)
 }
 
 // ---- what it prints
@@ -133,7 +141,7 @@ pub fn answer_line(rec: &mut [u8], text: &[u8], page: &mut [u8], at: usize) -> u
     let mut bytes = [0u8; BYTES];
     let spelling = lines::bytes_in(text, DIGITS, &mut bytes);
     let Spelling::Count(count) = spelling else {
-        return lines::put_refusal(page, at, BAD_LINE);
+        return lines::put_refusal(page, at, numbers::REFUSED_LINE);
     };
     answer(rec, &bytes[0..count], page, at)
 }
