@@ -21,6 +21,7 @@ use Rattle.answers.proofs.Answers.{keptEnough}
 use Rattle.pieces.specs.inside.Sizes.{pieceSize, pageSize}
 use Rattle.pieces.specs.Steps.{Whole, WholeInput}
 
+-- The promise of the program whole: `anySplit` of crate lines, for the program over lines of crate answers.
 pub wholeInput : WholeInput
 wholeInput input pages rec line reads =
     let (so, finish) = anySplit vaultLines digitLimit keptEnough blank input pages rec line reads in
@@ -35,6 +36,7 @@ pub record FeedTo (rec₀ line₀ piece rec text page : List ℕ) (kept at i : �
   pub few : kept ≤ keptSize
   pub room : at + lineShare * (kept + (length piece - i)) ≤ lineShare * (keptSize + pieceSize)
 
+-- At the beginning of a piece: the line is what earlier pieces left, the page is empty, and all lines have room.
 pub feedNone : (rec text page piece : List ℕ) (len : ℕ) → len ≤ keptSize → length piece ≤ pieceSize
     → FeedTo rec (take len text) piece rec text page len 0 0
 feedNone rec text page piece len few small = record {
@@ -49,9 +51,11 @@ module _ {rec₀ line₀ piece rec text page : List ℕ} {kept at i : ℕ} (so :
   -- A line's bytes are taken from the piece.
   module _ {text′ : List ℕ} {to end : ℕ} (same : length text′ ≡ length text) (keeps : KeptOf (take kept text ++ firstLine (drop i piece)) text′ to)
       (is : end ≡ i + length (firstLine (drop i piece))) where
+    -- What is kept is the first 91 bytes of the line so far.
     keptIs : take to text′ ≡ take keptSize (take kept text ++ firstLine (drop i piece))
     keptIs = keeps .kept ∙ ap (λ (n : ℕ). take n (take kept text ++ firstLine (drop i piece))) (same ∙ textSize)
 
+    -- It is within the text's room.
     pub toWithin : to ≤ keptSize
     toWithin = omega (arith, keeps .few)
 
@@ -65,6 +69,7 @@ module _ {rec₀ line₀ piece rec text page : List ℕ} {kept at i : ℕ} (so :
           length-take-le kept text (omega arith),
         )
 
+    -- The place where the line ends, or goes on, is within the piece.
     pub endWithin : end ≤ length piece
     endWithin = omega (arith, so .within, firstShort (drop i piece), length-drop i piece)
 
