@@ -5,8 +5,6 @@ use crate::frames::say_kind;
 use crate::words::say;
 use crate::words::say_byte;
 use crate::words::say_number;
-use crate::words::wide;
-use crate::words::wider;
 use frame::Reading;
 
 pub(crate) const START: u8 = 0;
@@ -25,10 +23,10 @@ fn say_length(count: usize, wanted: usize) {
 }
 
 fn say_settings(n: u8, f: u8, id: u8, class: u8) {
-    say_number(b"    start: ", wide(n));
-    say_number(b" vaults of which ", wide(f));
-    say_number(b" may lie, this one is vault ", wide(id));
-    say_number(b", link class ", wide(class));
+    say_number(b"    start: ", n as u64);
+    say_number(b" vaults of which ", f as u64);
+    say_number(b" may lie, this one is vault ", id as u64);
+    say_number(b", link class ", class as u64);
 }
 
 fn say_start(s: &[u8]) {
@@ -48,7 +46,7 @@ fn say_timer(s: &[u8]) {
         say_length(s.len(), TIMER_LENGTH);
         return;
     }
-    say_number(b"    the timer of view ", wider(wire::number32(s, 1)));
+    say_number(b"    the timer of view ", wire::number32(s, 1) as u64);
     say(b" ran out\n");
 }
 

@@ -36,8 +36,9 @@ same-length c = omega arith
 
 returns : tie.Need-returns Inv-loop μ-loop
 returns c =
-    let t = c .before .before .before .take-line in
-    let l = c .before .before .before .before .before .before .loop in
+    let taken = c .before .before .before in
+    let t = taken .take-line in
+    let l = taken .before .before .before .loop in
     (omega (arith, t .ensures .0 .few, t .kept .0, l .inv .1), l .inv .3)
 
 sub-explain-line : tie.Need-sub-explain-line Inv-loop μ-loop
@@ -54,23 +55,25 @@ explain-line-requires c κs = omega arith
 
 add-i : tie.Need-add-i Inv-loop μ-loop
 add-i c =
-    let t = c .before .before .before .before .before .before .take-line in
-    let h = c .before .before .before .before .before .before .before .before .before in
-    let piece = now (h .before .before .before .before .args .piece) in
-    omega (arith, endWithin piece (h .loop .i) _ (h .loop .inv .4) (t .ensures .1), c .before .before .before .if1 .left)
+    let taken = c .before .before .before .before .before .before in
+    let head = taken .before .before .before in
+    let t = taken .take-line in
+    let piece = now (head .before .before .before .before .args .piece) in
+    omega (arith, endWithin piece (head .loop .i) _ (head .loop .inv .4) (t .ensures .1), c .before .before .before .if1 .left)
 
 loop-less : tie.Need-loop-less Inv-loop μ-loop
 loop-less c =
-    let t = c .before .before .before .before .before .before .take-line in
-    omega (arith, t .ensures .1, c .before .before .before .before .before .before .before .before .loop-test .taken)
+    let taken = c .before .before .before .before .before .before in
+    omega (arith, taken .take-line .ensures .1, taken .before .before .loop-test .taken)
 
 loop-again : tie.Need-loop-again Inv-loop μ-loop
 loop-again c =
     let r = c .explain-line in
-    let t = c .before .before .before .before .before .before .take-line in
-    let h = c .before .before .before .before .before .before .before .before .before in
-    let l = h .loop in
-    let piece = now (h .before .before .before .before .args .piece) in
+    let taken = c .before .before .before .before .before .before in
+    let head = taken .before .before .before in
+    let t = taken .take-line in
+    let l = head .loop in
+    let piece = now (head .before .before .before .before .args .piece) in
     let end = endWithin piece (l .i) _ (l .inv .4) (t .ensures .1) in
     (t .kept .0 ∙ l .inv .0, t .kept .0 ∙ l .inv .1, omega arith, r .ensures, omega (arith, end, c .before .before .before .if1 .left))
 
