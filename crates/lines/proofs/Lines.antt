@@ -1,12 +1,12 @@
 -- Laws of lines: what is kept of a line serves as the line, the first line of some input ends it or goes on, and input in two parts.
 -- Assumes nothing.
-use Prim.Native.Nat.{ℕ, zero, suc, _≤_, _<_}
+use Prim.Native.Nat.{ℕ, zero, suc, _+_, _≤_, _<_}
 use mathlib.Core.Path.{_≡_, refl, sym, ap, _∙_}
 use mathlib.Core.Bool.{Bool, true, false, cond}
 use mathlib.Core.List.{List, [], _∷_, _++_, append-assoc, append-nil}
 use native.Mathlib.Omega.{arith}
 use lib.Dec.{eqb}
-use lib.ListN.{length, take, drop}
+use lib.ListN.{length, take, drop, length-drop}
 use Rattle.lines.specs.Lines.{ended, begun, lastLine, Program, after, prints}
 use Rattle.lines.specs.inside.Lines.{firstLine}
 use Rattle.lines.specs.inside.Steps.{Enough}
@@ -36,6 +36,10 @@ unfolding firstLine
 firstShort [] = omega arith
 firstShort (b ∷ s) =
     either (λ (t : Bool). length (cond t [] (b ∷ firstLine s)) ≤ suc (length s)) (omega arith) (omega (arith, firstShort s)) (eqb b 10)
+
+-- So a line that begins within a piece ends, or goes on, within it.
+pub endWithin : (piece : List ℕ) (i end : ℕ) → i ≤ length piece → end ≡ i + length (firstLine (drop i piece)) → end ≤ length piece
+endWithin piece i end within is = omega (arith, firstShort (drop i piece), length-drop i piece)
 
 -- It ends here.
 pub endedFirst : (line s : List ℕ) → length (firstLine s) < length s

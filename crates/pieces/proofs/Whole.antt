@@ -5,12 +5,12 @@ use Prim.Native.Nat.{ℕ, _+_, _*_, _-_, _≤_, _<_}
 use mathlib.Core.Path.{_≡_, refl, sym, ap, subst, _∙_}
 use mathlib.Core.List.{List, [], _++_}
 use native.Mathlib.Omega.{arith}
-use lib.ListN.{length, take, drop, length-append, length-drop}
+use lib.ListN.{length, take, drop, length-append}
 use lib.Seq.{length-take-le}
 use Rattle.lines.specs.inside.Lines.{firstLine}
 use Rattle.lines.specs.inside.Steps.{KeptOf, Answered}
 use Rattle.lines.specs.Steps.{Fed, Finished}
-use Rattle.lines.proofs.Lines.{firstShort}
+use Rattle.lines.proofs.Lines.{endWithin}
 use Rattle.lines.proofs.Taking.{keptShort}
 use Rattle.lines.proofs.Feeding.{FedTo, fedNone, fedLine, fedEnd, fedDone, finishedNone, finishedLine}
 use Rattle.lines.proofs.Whole.{anySplit}
@@ -70,8 +70,8 @@ module _ {rec₀ line₀ piece rec text page : List ℕ} {kept at i : ℕ} (so :
         )
 
     -- The place where the line ends, or goes on, is within the piece.
-    pub endWithin : end ≤ length piece
-    endWithin = omega (arith, so .within, firstShort (drop i piece), length-drop i piece)
+    pub lineWithin : end ≤ length piece
+    lineWithin = endWithin piece i end (so .within) is
 
     -- It goes on in the next piece.
     pub feedEnd : end ≡ length piece → Fed vaultLines keptSize rec₀ line₀ piece rec (take to text′) (take at page) × ((to ≤ keptSize) × (at ≤ pageSize))
@@ -94,11 +94,11 @@ module _ {rec₀ line₀ piece rec text page : List ℕ} {kept at i : ℕ} (so :
         let long : length (take (to - 0) text′) ≡ to = ap (λ (n : ℕ). length (take n text′)) whole ∙ length-take-le to text′ (keeps .few) in
         record {
           fed = fedLine vaultLines keptSize rec₀ line₀ piece rec (take kept text) (take at page) i (so .fed) keptEnough end is
-              (omega (arith, endWithin)) (take to text′) keptIs page at refl
+              (omega (arith, lineWithin)) (take to text′) keptIs page at refl
               (omega (arith, so .room)) rec′ page′ next line;
-          within = omega (arith, endWithin);
+          within = omega (arith, lineWithin);
           few = omega arith;
-          room = omega (arith, so .room, toShort, endWithin);
+          room = omega (arith, so .room, toShort, lineWithin);
         }
 
   -- The piece is done.

@@ -1,20 +1,14 @@
 -- `explain::feed` meets its contract: a line's text stays within what is kept of it, and the place within the piece.
 -- The measure is what is left of the piece.
 -- Assumes nothing.
-use Prim.Native.Nat.{ℕ, _+_, _≤_, _-_}
+use Prim.Native.Nat.{_≤_, _-_}
 use mathlib.Core.Path.{_≡_, refl, _∙_}
-use mathlib.Core.List.{List}
 use native.Mathlib.Omega.{arith}
 use denote.Ref.{now}
-use lib.ListN.{length, drop, length-drop}
-use Rattle.lines.specs.inside.Lines.{firstLine}
-use Rattle.lines.proofs.Lines.{firstShort}
+use lib.ListN.{length}
+use Rattle.lines.proofs.Lines.{endWithin}
 use Rattle.explain.proofs.feed.Statement.{statement}
 use Rattle.explain.proofs.feed.Tie as tie
-
--- A line ends within its piece.
-endWithin : (piece : List ℕ) (i end : ℕ) → i ≤ length piece → end ≡ i + length (firstLine (drop i piece)) → end ≤ length piece
-endWithin piece i end within is = omega (arith, firstShort (drop i piece), length-drop i piece)
 
 abbrev Inv-loop : tie.InvT-loop
 Inv-loop text₀ piece len₀ given₀ i₀ text len given i =

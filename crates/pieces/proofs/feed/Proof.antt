@@ -7,7 +7,7 @@ use denote.Ref.{now}
 use lib.ListN.{length, take}
 use Rattle.answers.specs.Lines.{keptSize}
 use Rattle.pieces.specs.inside.Sizes.{pageSize}
-use Rattle.pieces.proofs.Whole.{FeedTo, feedNone, feedEnd, feedLine, feedDone, roomThere, endWithin}
+use Rattle.pieces.proofs.Whole.{FeedTo, feedNone, feedEnd, feedLine, feedDone, roomThere, lineWithin}
 use Rattle.pieces.proofs.feed.Statement.{statement}
 use Rattle.pieces.proofs.feed.Tie as tie
 
@@ -70,7 +70,7 @@ add-i c =
     let ended = c .before .before .before .before .before .before .before .before in
     let l = ended .before .before .before .before .before .before .before .loop in
     let t = ended .before .before .before .before .take-line in
-    let low = endWithin (l .inv .3) (l .inv .1) (l .inv .2) (t .kept .0) (t .ensures .0) (t .ensures .1) in
+    let low = lineWithin (l .inv .3) (l .inv .1) (l .inv .2) (t .kept .0) (t .ensures .0) (t .ensures .1) in
     omega (arith, low, ended .before .if1 .left)
 
 loop-less : tie.Need-loop-less Inv-loop μ-loop
