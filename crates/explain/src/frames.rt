@@ -3,6 +3,7 @@ ghost use mathlib.Core.Path.{_≡_};
 ghost use Prim.Native.Nat.{_≤_};
 ghost use Rattle.frame.specs.Refusal.{first, formRows};
 ghost use Rattle.frame.specs.inside.Reading.{refusalOf};
+use crate::words::end_with_number;
 use crate::words::say;
 use crate::words::say_number;
 use frame::Body;
@@ -52,8 +53,7 @@ pub(crate) fn lock_of(kind: u8) -> u8
 
 fn say_place(view: u32, plan: u64) {
     say_number(b"view ", view as u64);
-    say_number(b", plan ", plan);
-    say(b"\n");
+    end_with_number(b", plan ", plan);
 }
 
 fn is_none(r: Report) -> bool {
@@ -97,13 +97,9 @@ fn say_body(f: Frame) {
             say(b", ");
             say_place(f.view, plan);
         }
-        Body::Empty => {
-            say_number(b" for view ", f.view as u64);
-            say(b"\n");
-        }
+        Body::Empty => end_with_number(b" for view ", f.view as u64),
         Body::Told(r) => {
-            say_number(b", view ", f.view as u64);
-            say(b"\n");
+            end_with_number(b", view ", f.view as u64);
             say_reports(f.kind, r);
         }
     }

@@ -2,6 +2,8 @@
 use crate::frames::frame_in;
 use crate::frames::say_frame;
 use crate::frames::say_kind;
+use crate::words::end_line;
+use crate::words::end_with_number;
 use crate::words::say;
 use crate::words::say_byte;
 use crate::words::say_number;
@@ -18,8 +20,7 @@ pub(crate) const TIMER_LENGTH: usize = 5;
 // Where a line has another length than its kind.
 fn say_length(count: usize, wanted: usize) {
     say_number(b" of ", count as u64);
-    say_number(b" bytes; it has to have ", wanted as u64);
-    say(b"\n");
+    end_with_number(b" bytes; it has to have ", wanted as u64);
 }
 
 fn say_settings(n: u8, f: u8, id: u8, class: u8) {
@@ -36,8 +37,7 @@ fn say_start(s: &[u8]) {
         return;
     }
     say_settings(s[1], s[2], s[3], s[4]);
-    say_number(b", starting plan ", wire::number64(s, 5));
-    say(b"\n");
+    end_with_number(b", starting plan ", wire::number64(s, 5));
 }
 
 fn say_timer(s: &[u8]) {
@@ -58,7 +58,7 @@ fn say_malformed(s: &[u8]) {
     let size = frame::length_of(s[0]);
     if size == 0 {
         say_byte(b"    there is no kind ", s[0]);
-        say(b"\n");
+        end_line();
         return;
     }
     say(b"    a ");

@@ -5,6 +5,7 @@ use crate::frames::frame_in;
 use crate::frames::say_frame;
 use crate::refusals::say_refusal;
 use crate::text::Line;
+use crate::words::end_with_number;
 use crate::words::say;
 use crate::words::say_number;
 use frame::Reading;
@@ -75,8 +76,7 @@ fn say_decision(s: &[u8])
     requires { ⌜ 14 ≤ length (now s) ⌝ }
 {
     say_number(b"    decided: view ", wire::number32(s, 2) as u64);
-    say_number(b", plan ", wire::number64(s, 6));
-    say(b"\n");
+    end_with_number(b", plan ", wire::number64(s, 6));
 }
 
 fn say_host(s: &[u8]) {

@@ -9,6 +9,8 @@ use crate::given::TIMER_LENGTH;
 use crate::text::Line;
 use crate::text::say_digits;
 use crate::text::say_writing;
+use crate::words::end_line;
+use crate::words::end_with_number;
 use crate::words::say;
 use crate::words::say_byte;
 use crate::words::say_number;
@@ -41,15 +43,13 @@ fn say_reason(number: u8) {
 
 fn say_part(words: &[u8], n: u64) {
     say(b"        at fault: ");
-    say_number(words, n);
-    say(b"\n");
+    end_with_number(words, n);
 }
 
 fn say_two_parts(first: &[u8], a: u64, second: &[u8], b: u64) {
     say(b"        at fault: ");
     say_number(first, a);
-    say_number(second, b);
-    say(b"\n");
+    end_with_number(second, b);
 }
 
 fn with_n_fault(words: &[u8], x: u8, n: u8) {
@@ -90,7 +90,7 @@ fn kind_fault(s: &[u8]) {
         return;
     }
     say_byte(b"        at fault: the kind, byte 0: ", s[0]);
-    say(b"\n");
+    end_line();
 }
 
 // ---- reports at fault
@@ -279,6 +279,6 @@ pub(crate) fn say_refusal(number: u8, given: Line)
     say_number(b"    refused with ", number as u64);
     say(b": ");
     say_reason(number);
-    say(b"\n");
+    end_line();
     say_fault(number, given);
 }

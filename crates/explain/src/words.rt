@@ -11,6 +11,16 @@ pub(crate) fn say_number(words: &[u8], n: u64) {
     io::print_decimal(STDOUT_FILENO, n);
 }
 
+pub(crate) fn end_line() {
+    say(b"\n");
+}
+
+// Words, and then a number that ends the line.
+pub(crate) fn end_with_number(words: &[u8], n: u64) {
+    say_number(words, n);
+    end_line();
+}
+
 // Words, and then a byte as a line has it, in two hexadecimal digits.
 pub(crate) fn say_byte(words: &[u8], b: u8) {
     say(words);
