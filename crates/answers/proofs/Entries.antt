@@ -21,7 +21,7 @@ use Rattle.entry.proofs.Theorems.{entriesReadBack}
 use Rattle.entries.specs.Walk.{sizeIn}
 use Rattle.entries.proofs.Walk.{inEntry}
 use Rattle.lines.specs.Digits.{lineOf}
-use Rattle.lines.specs.inside.Steps.{Shown}
+use Rattle.lines.specs.inside.Steps.{OnPage}
 use Rattle.lines.proofs.Digits.{lengthLine}
 use Rattle.answers.specs.Lines.{entryLines}
 use Rattle.answers.specs.inside.Steps.{Laid}
@@ -116,7 +116,7 @@ module _ (page₀ : List ℕ) (at : ℕ) (s page : List ℕ) (i end : ℕ) (so :
 
   -- Its line is put where the lines before it end.
   pub putMore : (size : ℕ) → size ≡ sizeIn (take (length s - i) (drop i s)) → (page′ : List ℕ) (end′ : ℕ)
-      → Shown (lineOf (take (i + size - i) (drop i s))) page end page′ end′ → PutTo page₀ at s page′ (i + size) end′
+      → OnPage (lineOf (take (i + size - i) (drop i s))) page end page′ end′ → PutTo page₀ at s page′ (i + size) end′
   putMore size is page′ end′ put =
       let (e, f) = first (drop i s) (so .laid) restThere in
       let same : size ≡ sizeIn (drop i s) = is ∙ ap sizeIn whole in
@@ -147,7 +147,7 @@ module _ (page₀ : List ℕ) (at : ℕ) (s page : List ℕ) (i end : ℕ) (so :
 
 -- All are put.
 pub putAll : (page₀ : List ℕ) (at : ℕ) (s page : List ℕ) (i end : ℕ) → PutTo page₀ at s page i end → length s ≤ i
-    → Shown (entryLines (entriesOf s)) page₀ at page end
+    → OnPage (entryLines (entriesOf s)) page₀ at page end
 unfolding entriesWithin
 putAll page₀ at s page i end so done =
     let gone : drop i s ≡ [] = drop-of-length-le s {i = i} done in

@@ -7,9 +7,9 @@ ghost use Prim.Native.Nat.{_+_, _*_, _≤_, _<_};
 ghost use lib.ListN.{length};
 ghost use Rattle.entry.specs.Reading.{entriesOf};
 ghost use Rattle.vault.specs.Answers.{leftBy};
-ghost use Rattle.lines.specs.inside.Steps.{Shown, Answered};
+ghost use Rattle.lines.specs.inside.Steps.{OnPage, Answered};
 ghost use Rattle.answers.specs.Lines.{isKind, startOf, timerOf, frameOf, callOf, callLeft, zeroed, entryLines, printed, vaultLines};
-ghost use Rattle.answers.specs.inside.Steps.{answerSize, lineShare, Laid, Printable, Put};
+ghost use Rattle.answers.specs.inside.Steps.{answerSize, lineShare, Laid, Printable, AnswerPut};
 use frame::numbers;
 use lines::Spelling;
 use settings::Settings;
@@ -99,7 +99,7 @@ fn call(rec: &mut [u8], bytes: &[u8], out: &mut [u8]) -> Answer
 // Puts entries that lie end to end on the page, each on a line of its own.
 fn put_entries(page: &mut [u8], at: usize, s: &[u8]) -> usize
     requires { ⌜ (at + 3 * length (now s) ≤ length (now page)) × Laid (now s) ⌝ }
-    ensures { λ r. ⌜ Shown (entryLines (entriesOf (now (s .entry)))) (now (page .entry)) at (now (page .exit)) r ⌝ }
+    ensures { λ r. ⌜ OnPage (entryLines (entriesOf (now (s .entry)))) (now (page .entry)) at (now (page .exit)) r ⌝ }
 {
     let mut i = 0;
     let mut end = at;
@@ -114,7 +114,7 @@ fn put_entries(page: &mut [u8], at: usize, s: &[u8]) -> usize
 // Puts what a call answered on the page: "one output entry a line, or fd and the refusal number as one byte".
 fn put_answer(page: &mut [u8], at: usize, answer: Answer, out: &[u8]) -> usize
     requires { ⌜ (at + answerSize ≤ length (now page)) × Printable answer (now out) ⌝ }
-    ensures { λ r. ⌜ Shown (printed (leftBy answer [] (now (out .entry)))) (now (page .entry)) at (now (page .exit)) r ⌝ }
+    ensures { λ r. ⌜ OnPage (printed (leftBy answer [] (now (out .entry)))) (now (page .entry)) at (now (page .exit)) r ⌝ }
 {
     match answer {
         Answer::Written(count) => put_entries(page, at, &out[0..count]),
@@ -125,7 +125,7 @@ fn put_answer(page: &mut [u8], at: usize, answer: Answer, out: &[u8]) -> usize
 // A line's bytes are called, with "a zeroed 256-byte output array", and the answer is put on the page.
 fn answer(rec: &mut [u8], bytes: &[u8], page: &mut [u8], at: usize) -> usize
     requires { ⌜ at + answerSize ≤ length (now page) ⌝ }
-    ensures { λ r. ⌜ Put (callLeft (now (rec .entry)) zeroed (callOf (now (bytes .entry)))) (now (page .entry)) at (now (rec .exit)) (now (page .exit)) r ⌝ }
+    ensures { λ r. ⌜ AnswerPut (callLeft (now (rec .entry)) zeroed (callOf (now (bytes .entry)))) (now (page .entry)) at (now (rec .exit)) (now (page .exit)) r ⌝ }
 {
     let mut out = [0u8; OUTPUT];
     let a = call(rec, bytes, &mut out);

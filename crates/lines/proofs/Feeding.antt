@@ -11,11 +11,11 @@ use Rattle.wire.specs.Placed.{placed}
 use Rattle.lines.specs.Lines.{ended, begun, lastLine, Program, after, prints}
 use Rattle.lines.specs.inside.Lines.{firstLine}
 use Rattle.lines.specs.Steps.{Fed, Finished}
-use Rattle.lines.specs.inside.Steps.{Shown, Enough, Answered}
+use Rattle.lines.specs.inside.Steps.{OnPage, Enough, Answered}
 use Rattle.lines.proofs.Lines.{endedFirst, begunFirst, endedNone, begunNone}
 
 -- What a page holds up to where lines put on it end.
-pub shownTo : (lines page : List ℕ) (at : ℕ) (page′ : List ℕ) (next : ℕ) → Shown lines page at page′ next → at ≤ length page
+pub shownTo : (lines page : List ℕ) (at : ℕ) (page′ : List ℕ) (next : ℕ) → OnPage lines page at page′ next → at ≤ length page
     → take next page′ ≡ take at page ++ lines
 unfolding placed
 shownTo lines page at page′ next put room =

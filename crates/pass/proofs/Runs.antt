@@ -39,12 +39,12 @@ loaded rec dst {after} whole size e =
 -- ---- entries
 
 -- Some entries lie from a place on: where they end, and the output.
-abbrev pub Wrote : ℕ → List ℕ → List Entry → ℕ → List ℕ → Type 0
-Wrote at o es next o' = (next ≡ at + length (layout es)) × (o' ≡ placed o at (layout es))
+abbrev pub EntriesPut : ℕ → List ℕ → List Entry → ℕ → List ℕ → Type 0
+EntriesPut at o es next o' = (next ≡ at + length (layout es)) × (o' ≡ placed o at (layout es))
 
 -- One entry is put.
-abbrev pub Put : ℕ → List ℕ → Entry → ℕ → List ℕ → Type 0
-Put at o e next o' = (next ≡ at + length (entryBytes e)) × (o' ≡ placed o at (entryBytes e))
+abbrev pub EntryPut : ℕ → List ℕ → Entry → ℕ → List ℕ → Type 0
+EntryPut at o e next o' = (next ≡ at + length (entryBytes e)) × (o' ≡ placed o at (entryBytes e))
 
 -- Entries with one more at their end are longer by that one.
 lengthMore : (es : List Entry) (e : Entry) → length (layout (es ++ (e ∷ []))) ≡ length (layout es) + length (entryBytes e)
@@ -54,12 +54,12 @@ lengthMore (x ∷ es) e =
 
 module _ (at : ℕ) (o : List ℕ) (low : at ≤ length o) where
   -- No entries are written yet.
-  wroteNone : Wrote at o [] at o
+  wroteNone : EntriesPut at o [] at o
   wroteNone = (sym (add-zero at), sym (placedNone o at))
 
   -- One more is put where they end.
-  wroteMore : (es : List Entry) (e : Entry) {n m : ℕ} {o' o'' : List ℕ} → Wrote at o es n o' → Put n o' e m o''
-      → Wrote at o (es ++ (e ∷ [])) m o''
+  wroteMore : (es : List Entry) (e : Entry) {n m : ℕ} {o' o'' : List ℕ} → EntriesPut at o es n o' → EntryPut n o' e m o''
+      → EntriesPut at o (es ++ (e ∷ [])) m o''
   wroteMore es e (n, p) (m, q) =
       (omega (arith, n, m, lengthMore es e), q ∙ (λ i. placed (p i) (n i) (entryBytes e)) ∙ layoutMore o at es e low)
 
@@ -69,25 +69,25 @@ module _ (e : Entries) (at : ℕ) (o : List ℕ) (room : at + length (layout (li
   low = omega (arith, room)
 
   -- The entries of the code's enum, told as a list.
-  asListed : (es : List Entry) → listOf e ≡ es → {n : ℕ} {o' : List ℕ} → Wrote at o es n o' → Wrote at o (listOf e) n o'
-  asListed es is {n} {o'} = subst (λ (fs : List Entry). Wrote at o fs n o') (sym is)
+  asListed : (es : List Entry) → listOf e ≡ es → {n : ℕ} {o' : List ℕ} → EntriesPut at o es n o' → EntriesPut at o (listOf e) n o'
+  asListed es is {n} {o'} = subst (λ (fs : List Entry). EntriesPut at o fs n o') (sym is)
 
   -- The four shapes of what a step writes: none,
-  pub wroteZero : listOf e ≡ [] → Wrote at o (listOf e) at o
+  pub wroteZero : listOf e ≡ [] → EntriesPut at o (listOf e) at o
   wroteZero is = asListed [] is (wroteNone at o low)
 
-  module _ (a : Entry) {n : ℕ} {p : List ℕ} (one : Put at o a n p) where
+  module _ (a : Entry) {n : ℕ} {p : List ℕ} (one : EntryPut at o a n p) where
     -- one entry,
-    pub wroteOne : listOf e ≡ a ∷ [] → Wrote at o (listOf e) n p
+    pub wroteOne : listOf e ≡ a ∷ [] → EntriesPut at o (listOf e) n p
     wroteOne is = asListed (a ∷ []) is (wroteMore at o low [] a (wroteNone at o low) one)
 
-    module _ (b : Entry) {m : ℕ} {q : List ℕ} (two : Put n p b m q) where
+    module _ (b : Entry) {m : ℕ} {q : List ℕ} (two : EntryPut n p b m q) where
       -- two, where the vault leads the view that it enters,
-      pub wroteTwo : listOf e ≡ a ∷ b ∷ [] → Wrote at o (listOf e) m q
+      pub wroteTwo : listOf e ≡ a ∷ b ∷ [] → EntriesPut at o (listOf e) m q
       wroteTwo is = asListed (a ∷ b ∷ []) is (wroteMore at o low (a ∷ []) b (wroteMore at o low [] a (wroteNone at o low) one) two)
 
       -- three, where it does not.
-      pub wroteThree : (c : Entry) {k : ℕ} {s : List ℕ} → Put m q c k s → listOf e ≡ a ∷ b ∷ c ∷ [] → Wrote at o (listOf e) k s
+      pub wroteThree : (c : Entry) {k : ℕ} {s : List ℕ} → EntryPut m q c k s → listOf e ≡ a ∷ b ∷ c ∷ [] → EntriesPut at o (listOf e) k s
       wroteThree c three is =
           asListed (a ∷ b ∷ c ∷ []) is (wroteMore at o low (a ∷ b ∷ []) c
           (wroteMore at o low (a ∷ []) b (wroteMore at o low [] a (wroteNone at o low) one) two) three)
@@ -114,7 +114,7 @@ module _ (o : Out) (e : Entries) (wrote : listOf e ≡ o .wrote) (at : ℕ) (out
   roomWritten = subst (λ (es : List Entry). at + length (layout es) ≤ length out) (sym wrote)
 
   -- The record left and the entries written are what the act leaves: the step has run.
-  pub ranWritten : {rec : List ℕ} {n : ℕ} {after : List ℕ} → contentsIn rec ≡ o .left → Ready rec → Wrote at out (listOf e) n after
+  pub ranWritten : {rec : List ℕ} {n : ℕ} {after : List ℕ} → contentsIn rec ≡ o .left → Ready rec → EntriesPut at out (listOf e) n after
       → Ran o at out after n rec
   ranWritten left ready (count, bytes) = record {
     left = left;
@@ -129,7 +129,7 @@ tookFrom s t e = subst (λ (l : List ℕ). Took (s (contentsIn l)) t) e
 
 -- So with the record stored and its entries written, the step has run on the lent bytes.
 pub ranStored : (o : Out) (t : by.Record) → Took o t → (at : ℕ) (out : List ℕ) {rec : List ℕ} {n : ℕ} {after : List ℕ} → rec ≡ t .bytes
-    → Wrote at out (listOf (t .wrote .entries)) n after → Ran o at out after n rec
+    → EntriesPut at out (listOf (t .wrote .entries)) n after → Ran o at out after n rec
 ranStored o t took at out stored =
     ranWritten o (t .wrote .entries) (took .wrote) at out (ap contentsIn stored ∙ took .left) (subst Ready (sym stored) (took .ready))
 
