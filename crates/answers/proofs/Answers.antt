@@ -20,15 +20,16 @@ use Rattle.vault.specs.Answers.{leftBy}
 use Rattle.lines.specs.declared.Spelling.{Spelling}
 use Rattle.lines.specs.declared.Spelling.the-variants.{Count, Bad}
 use Rattle.lines.specs.Digits.{lineOf, refusalLine, bytesOf}
-use Rattle.lines.specs.inside.Steps.{spells, countOf, Shown, Enough, Answered}
+use Rattle.lines.specs.inside.Steps.{spells, countOf, OnPage, Enough, Answered}
 use Rattle.lines.proofs.Digits.{lengthLine}
 use Rattle.lines.proofs.Spelled.{keptSpells, spelledShort}
 use Rattle.answers.specs.Lines.{entryLines, callOf, callLeft, zeroed, spelledLeft, digitLimit, lineLeft, printed, vaultLines}
-use Rattle.answers.specs.inside.Steps.{outputSize, answerSize, lineShare, Laid, Printable, Put}
+use Rattle.answers.specs.inside.Steps.{outputSize, answerSize, lineShare, Laid, Printable, AnswerPut}
 use Rattle.answers.specs.Lines.{keptSize}
 use Rattle.answers.proofs.Entries.{laidShort}
 use Rattle.answers.proofs.Calls.{callWell, shortRefused}
 
+-- The output space has the 256 bytes that a call wants, so no line is refused for want of room.
 pub zeroedSize : length zeroed ≡ outputSize
 unfolding zeroed
 zeroedSize = length-replicate {A = ℕ} outputSize 0
@@ -48,46 +49,54 @@ printedShort : (a : Answer) (out : List ℕ) → Printable a out → length (pri
 printedShort (Written n) out (few, size, laid) = omega (arith, laidShort (take n out) laid, length-take-le n out (omega arith))
 printedShort (Refused k) out p = omega (arith, lengthLine (253 ∷ k ∷ []))
 
+-- The record that an answer leaves is the one that the code has: a refusal's too.
 recordBy : (a : Answer) (rec′ out′ : List ℕ) → rec′ ≡ recordIn (leftBy a rec′ out′)
 recordBy (Written n) rec′ out′ = refl
 recordBy (Refused k) rec′ out′ = refl
 
+-- What is printed of an answer does not depend on the record, so `put_answer` needs none.
 printedBy : (a : Answer) (rec′ out′ : List ℕ) → printed (leftBy a [] out′) ≡ printed (leftBy a rec′ out′)
 printedBy (Written n) rec′ out′ = refl
 printedBy (Refused k) rec′ out′ = refl
 
 -- The call's answer is put.
 pub putBy : (rec s page : List ℕ) (at : ℕ) (a : Answer) (rec′ out′ page′ : List ℕ) (next : ℕ) → leftBy a rec′ out′ ≡ callLeft rec zeroed (callOf s)
-    → Printable a out′ → Shown (printed (leftBy a [] out′)) page at page′ next → Put (callLeft rec zeroed (callOf s)) page at rec′ page′ next
+    → Printable a out′ → OnPage (printed (leftBy a [] out′)) page at page′ next → AnswerPut (callLeft rec zeroed (callOf s)) page at rec′ page′ next
 putBy rec s page at a rec′ out′ page′ next is p put = record {
   kept = recordBy a rec′ out′ ∙ ap recordIn is;
-  lines = subst (λ (l : List ℕ). Shown l page at page′ next) (printedBy a rec′ out′ ∙ ap printed is) put;
+  lines = subst (λ (l : List ℕ). OnPage l page at page′ next) (printedBy a rec′ out′ ∙ ap printed is) put;
   short = omega (arith, put .ends, printedShort a out′ p);
 }
 
 -- ---- each kind of answer is put
 
 module _ (a : Answer) (out : List ℕ) (p : Printable a out) (n : ℕ) (is : a ≡ Written n) where
+  -- What is promised of the answer, once it is known to be entries.
   written : Printable (Written n) out
   written = subst (λ (x : Answer). Printable x out) is p
 
+  -- The code's slice begins at 0: its length is the count.
   whole : n - 0 ≡ n
   whole = omega arith
 
+  -- The slice of the written bytes is within the output.
   pub countFits : n ≤ length out
   countFits = let (few, size, laid) = written in omega arith
 
+  -- The written entries may be put on the page: they have room, and are entries end to end.
   pub writtenMay : (page : List ℕ) (at : ℕ) → at + answerSize ≤ length page → (at + 3 * length (take (n - 0) out) ≤ length page) × Laid (take (n - 0) out)
   writtenMay page at room =
       let (few, size, laid) = written in
       rw whole (omega (arith, length-take-le n out (omega arith)), laid)
 
-  pub writtenShown : (page : List ℕ) (at : ℕ) (page′ : List ℕ) (next : ℕ) → Shown (entryLines (entriesOf (take (n - 0) out))) page at page′ next
-      → Shown (printed (leftBy a [] out)) page at page′ next
+  -- The lines of the written entries are what is printed of the answer.
+  pub writtenShown : (page : List ℕ) (at : ℕ) (page′ : List ℕ) (next : ℕ) → OnPage (entryLines (entriesOf (take (n - 0) out))) page at page′ next
+      → OnPage (printed (leftBy a [] out)) page at page′ next
   writtenShown page at page′ next put = rw is (rw whole at put)
 
+-- The line of the refusal is what is printed of the answer.
 pub refusedShown : (a : Answer) (out : List ℕ) (k : ℕ) → a ≡ Refused k → (page : List ℕ) (at : ℕ) (page′ : List ℕ) (next : ℕ)
-    → Shown (refusalLine k) page at page′ next → Shown (printed (leftBy a [] out)) page at page′ next
+    → OnPage (refusalLine k) page at page′ next → OnPage (printed (leftBy a [] out)) page at page′ next
 refusedShown a out k is page at page′ next put = rw is put
 
 -- ---- a line, by what its text spells
@@ -98,7 +107,7 @@ Line rec text page at rec′ page′ next = Answered vaultLines rec text page at
 
 -- A line of fewer than five bytes is refused, and so takes little room; any other has ten digits or more.
 shareEnough : (rec s page : List ℕ) (at digits : ℕ) (rec′ page′ : List ℕ) (next : ℕ) → 2 * length s ≤ digits
-    → Put (callLeft rec zeroed (callOf s)) page at rec′ page′ next → next ≤ at + lineShare * (digits + 1)
+    → AnswerPut (callLeft rec zeroed (callOf s)) page at rec′ page′ next → next ≤ at + lineShare * (digits + 1)
 shareEnough rec s page at digits rec′ page′ next long put = go (decLe 5 (length s))
   where
     go : Dec (5 ≤ length s) → next ≤ at + lineShare * (digits + 1)
@@ -109,25 +118,26 @@ shareEnough rec s page at digits rec′ page′ next long put = go (decLe 5 (len
 
 module _ (rec text page : List ℕ) (at : ℕ) (g : Spelling) (bytes : List ℕ) (is : spells g bytes ≡ bytesOf digitLimit text) where
   -- '20 is tested before all else'.
-  pub badAnswered : g ≡ Bad → (page′ : List ℕ) (next number : ℕ) → Shown (refusalLine number) page at page′ next → number ≡ 20
+  pub badAnswered : g ≡ Bad → (page′ : List ℕ) (next number : ℕ) → OnPage (refusalLine number) page at page′ next → number ≡ 20
       → Line rec text page at rec page′ next
   unfolding lineLeft vaultLines
   badAnswered bad page′ next number put is20 =
-      let shown : Shown (refusalLine 20) page at page′ next = subst (λ (k : ℕ). Shown (refusalLine k) page at page′ next) is20 put in
+      let shown : OnPage (refusalLine 20) page at page′ next = subst (λ (k : ℕ). OnPage (refusalLine k) page at page′ next) is20 put in
       let left : gave 20 rec zeroed ≡ lineLeft rec text = ap (spelledLeft rec) (ap (λ (x : Spelling). spells x bytes) (sym bad) ∙ is) in (
-        record { left = ap recordIn left; lines = subst (λ (l : Left). Shown (printed l) page at page′ next) left shown },
+        record { left = ap recordIn left; lines = subst (λ (l : Left). OnPage (printed l) page at page′ next) left shown },
         omega (arith, shown .ends, lengthLine (253 ∷ 20 ∷ [])),
       )
 
-  pub countAnswered : (n : ℕ) → g ≡ Count n → (rec′ page′ : List ℕ) (next : ℕ) → Put (callLeft rec zeroed (callOf (take (n - 0) bytes))) page at rec′ page′ next
-      → Line rec text page at rec′ page′ next
+  -- A text that spells bytes: the line leaves and prints what the call of those bytes does.
+  pub countAnswered : (n : ℕ) → g ≡ Count n → (rec′ page′ : List ℕ) (next : ℕ)
+      → AnswerPut (callLeft rec zeroed (callOf (take (n - 0) bytes))) page at rec′ page′ next → Line rec text page at rec′ page′ next
   unfolding lineLeft vaultLines
   countAnswered n good rec′ page′ next put =
       let all : n - 0 ≡ n = omega arith in
       let spelt : some (take (n - 0) bytes) ≡ bytesOf digitLimit text =
       ap (λ (k : ℕ). some (take k bytes)) all ∙ ap (λ (x : Spelling). spells x bytes) (sym good) ∙ is in
       let left : callLeft rec zeroed (callOf (take (n - 0) bytes)) ≡ lineLeft rec text = ap (spelledLeft rec) spelt in (
-        record { left = put .kept ∙ ap recordIn left; lines = subst (λ (l : Left). Shown (printed l) page at page′ next) left (put .lines) },
+        record { left = put .kept ∙ ap recordIn left; lines = subst (λ (l : Left). OnPage (printed l) page at page′ next) left (put .lines) },
         shareEnough rec (take (n - 0) bytes) page at (length text) rec′ page′ next (spelledShort digitLimit text (take (n - 0) bytes) (sym spelt)) put,
       )
 
@@ -142,6 +152,7 @@ keptLeft : (rec line : List ℕ) → lineLeft rec (take keptSize line) ≡ lineL
 unfolding lineLeft
 keptLeft rec line = ap (spelledLeft rec) (keptSpells digitLimit line)
 
+-- So a line may be cut at 91 bytes while it is read, however long it is.
 pub keptEnough : Enough vaultLines keptSize
 unfolding vaultLines
 keptEnough = record { next = λ rec line. ap recordIn (keptLeft rec line); says = λ rec line. ap printed (keptLeft rec line) }

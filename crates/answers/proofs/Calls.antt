@@ -45,15 +45,18 @@ module _ (rec out s : List ℕ) where
   unfolding startOf
   startWrong wrong = simp (ne-eqb (length s) 13 wrong)
 
+  -- The same of a timer's length.
   pub timerWrong : (length s ≡ 5 → ⊥) → gave 10 rec out ≡ callLeft rec out (timerOf s)
   unfolding timerOf
   timerWrong wrong = simp (ne-eqb (length s) 5 wrong)
 
+  -- With the right length it is a start, of the settings and the plan that the code read.
   pub startMade : length s ≡ 13 → (plan : ℕ) → plan ≡ numberAt 8 s 5 → (left : Left)
       → left ≡ startLeft rec (settingsIn s) plan out → left ≡ callLeft rec out (startOf s)
   unfolding startOf
   startMade right plan is left e = e ∙ rw (is, eq-eqb (length s) 13 right)
 
+  -- With the right length it is a timer, of the view that the code read.
   pub timerMade : length s ≡ 5 → (view : ℕ) → view ≡ numberAt 4 s 1 → (left : Left) → left ≡ timerLeft rec view out → left ≡ callLeft rec out (timerOf s)
   unfolding timerOf
   timerMade right view is left e = e ∙ rw (is, eq-eqb (length s) 5 right)
@@ -63,6 +66,7 @@ module _ (rec out s : List ℕ) where
   unfolding frameOf
   frameMade left e = e
 
+  -- Where there is no byte 1 the code gives sender 0, which is what the definition reads beyond the end.
   pub frameBare : length s < 2 → (left : Left) → left ≡ frameLeft rec 0 s out → left ≡ callLeft rec out (frameOf s)
   unfolding frameOf
   frameBare short left e = e ∙ ap (λ (k : ℕ). frameLeft rec k s out) (sym (List·getD-eq-default s 0 {n = 1} (omega arith)))
@@ -70,22 +74,24 @@ module _ (rec out s : List ℕ) where
 -- ---- the kind decides
 
 module _ (rec out s : List ℕ) (left : Left) where
-  pub emptyFrames : length s ≡ 0 → left ≡ callLeft rec out (frameOf s) → left ≡ callLeft rec out (callOf s)
+  -- The call that two tests pick.
+  abbrev picked : Bool → Bool → Left
+  picked starts times = callLeft rec out (cond starts (startOf s) (cond times (timerOf s) (frameOf s)))
+
+  -- Kind 00 starts.
+  pub kindStarts : isKind 0 s ≡ true → left ≡ callLeft rec out (startOf s) → left ≡ callLeft rec out (callOf s)
   unfolding callOf
-  emptyFrames bare e = simp (eq-eqb (length s) 0 bare) e
+  kindStarts is e = e ∙ (λ i. picked (sym is i) (isKind 9 s))
 
-  module _ (there : length s ≡ 0 → ⊥) where
-    pub kindStarts : getD s 0 0 ≡ 0 → left ≡ callLeft rec out (startOf s) → left ≡ callLeft rec out (callOf s)
-    unfolding callOf
-    kindStarts is e = simp (ne-eqb (length s) 0 there, eq-eqb (getD s 0 0) 0 is) e
+  -- Kind 09 is a timer.
+  pub kindTimes : isKind 0 s ≡ false → isKind 9 s ≡ true → left ≡ callLeft rec out (timerOf s) → left ≡ callLeft rec out (callOf s)
+  unfolding callOf
+  kindTimes other is e = e ∙ (λ i. picked (sym other i) (sym is i))
 
-    pub kindTimes : getD s 0 0 ≡ 9 → left ≡ callLeft rec out (timerOf s) → left ≡ callLeft rec out (callOf s)
-    unfolding callOf
-    kindTimes is e = simp (ne-eqb (length s) 0 there, ne-eqb (getD s 0 0) 0 (omega arith), eq-eqb (getD s 0 0) 9 is) e
-
-    pub kindFrames : (getD s 0 0 ≡ 0 → ⊥) → (getD s 0 0 ≡ 9 → ⊥) → left ≡ callLeft rec out (frameOf s) → left ≡ callLeft rec out (callOf s)
-    unfolding callOf
-    kindFrames a b e = simp (ne-eqb (length s) 0 there, ne-eqb (getD s 0 0) 0 a, ne-eqb (getD s 0 0) 9 b) e
+  -- 'other lines are frames'
+  pub kindFrames : isKind 0 s ≡ false → isKind 9 s ≡ false → left ≡ callLeft rec out (frameOf s) → left ≡ callLeft rec out (callOf s)
+  unfolding callOf
+  kindFrames other others e = e ∙ (λ i. picked (sym other i) (sym others i))
 
 -- ---- where there is no byte 1
 
@@ -108,10 +114,12 @@ abbrev InWidthIf : Option Call → Type 0
 InWidthIf none = Unit {0}
 InWidthIf (some a) = InWidth a
 
+-- Whichever call a test picks, it is in width where both are.
 either : (b : Bool) (x y : Option Call) → InWidthIf x → InWidthIf y → InWidthIf (cond b x y)
 either true x y p q = p
 either false x y p q = q
 
+-- A line's numbers come from bytes, so its call is one that the runs of crate runs allow.
 callInWidth : (s : List ℕ) → Bytes s → InWidthIf (callOf s)
 unfolding callOf startOf timerOf frameOf
 callInWidth s bytes =
@@ -121,6 +129,7 @@ callInWidth s bytes =
     starts : Call
     starts = start (settingsIn s) (numberAt 8 s 5)
 
+-- So what a line's call writes is entries end to end, and can be printed.
 pub callWell : (rec out s : List ℕ) → Bytes rec → Bytes s → LeavesWell rec out (callLeft rec out (callOf s))
 callWell rec out s br bs = go (callOf s) (callInWidth s bs)
   where
@@ -130,6 +139,7 @@ callWell rec out s br bs = go (callOf s) (callInWidth s bs)
 
 -- ---- a line of fewer than five bytes is refused
 
+-- A frame that the reader refuses is refused by the call, with some number: room and record are tested before it.
 calledRefused : (k : ℕ) (rec out : List ℕ) (x : Reading) (j : ℕ) → Refused j ≡ x → (i : ℕ) × (called k rec out (by.frame x) ≡ gave i rec out)
 unfolding called answer
 calledRefused k rec out x j is = subst (λ (y : Reading). (i : ℕ) × (called k rec out (by.frame y) ≡ gave i rec out)) is (go (ltb (length out) 256) (lentIs rec))
@@ -141,6 +151,7 @@ calledRefused k rec out x j is = subst (λ (y : Reading). (i : ℕ) × (called k
     go false Unsound = (k, refl)
     go false Sound = (j, refl)
 
+-- Fewer than five bytes are no frame's head, so the reader refuses them.
 frameShort : (rec out s : List ℕ) (link : ℕ) → length s < 5 → (i : ℕ) × (frameLeft rec link s out ≡ gave i rec out)
 unfolding frameLeft
 frameShort rec out s link short =
@@ -149,6 +160,7 @@ frameShort rec out s link short =
     let own = decodeRecord rec .set .id in
     calledRefused 3 rec out (readFrame s link n own) (first (formRows s)) (byForm s link n own (first (formRows s)) given refl)
 
+-- So a short line prints one refusal: why a page has room for the lines of a piece (`lineShare`).
 pub shortRefused : (rec out s : List ℕ) → length s < 5 → (i : ℕ) × (callLeft rec out (callOf s) ≡ gave i rec out)
 unfolding callOf frameOf
 shortRefused rec out s short = go (isKind 0 s) (isKind 9 s)

@@ -21,7 +21,7 @@ use Rattle.entry.proofs.Theorems.{entriesReadBack}
 use Rattle.entries.specs.Walk.{sizeIn}
 use Rattle.entries.proofs.Walk.{inEntry}
 use Rattle.lines.specs.Digits.{lineOf}
-use Rattle.lines.specs.inside.Steps.{Shown}
+use Rattle.lines.specs.inside.Steps.{OnPage}
 use Rattle.lines.proofs.Digits.{lengthLine}
 use Rattle.answers.specs.Lines.{entryLines}
 use Rattle.answers.specs.inside.Steps.{Laid}
@@ -64,6 +64,7 @@ firstIs s e es v is read =
       fits = omega arith;
     }
 
+-- Bytes that are entries, and are not at their end, begin with an entry: there is a next line to print.
 first : (s : List ℕ) → Laid s → 0 < length s → (e : Entry) × First s e
 first s laid there = go (entriesOf s) refl
   where
@@ -80,6 +81,7 @@ pub record PutTo (page₀ : List ℕ) (at : ℕ) (s page : List ℕ) (i end : �
   pub ends : end + length (entryLines (entriesOf (drop i s))) ≡ at + length (entryLines (entriesOf s))
   pub shown : placed page end (entryLines (entriesOf (drop i s))) ≡ placed page₀ at (entryLines (entriesOf s))
 
+-- Before the first entry nothing is put, and the loop may begin.
 pub putNone : (page : List ℕ) (at : ℕ) (s : List ℕ) → at + 3 * length s ≤ length page → Laid s → PutTo page at s page 0 at
 putNone page at s room laid = record { within = omega arith; laid = laid; size = refl; room = omega arith; ends = refl; shown = refl }
 
@@ -90,12 +92,15 @@ pub record Next (s : List ℕ) (i size : ℕ) : Type 0 where
   pub bytes : length (take (i + size - i) (drop i s)) ≡ size
 
 module _ (page₀ : List ℕ) (at : ℕ) (s page : List ℕ) (i end : ℕ) (so : PutTo page₀ at s page i end) (more : i < length s) where
+  -- There are bytes left, so there is an entry to find.
   restThere : 0 < length (drop i s)
   restThere = rw length-drop (omega arith)
 
+  -- The code's slice of what is left is all of it.
   whole : take (length s - i) (drop i s) ≡ drop i s
   whole = take-all (length s - i) (drop i s) (rw length-drop (omega arith))
 
+  -- The size that the code finds is an entry's: the slice up to it is within the bytes, and not empty.
   pub nextIs : (size : ℕ) → size ≡ sizeIn (take (length s - i) (drop i s)) → Next s i size
   nextIs size is =
       let (e, f) = first (drop i s) (so .laid) restThere in
@@ -111,7 +116,7 @@ module _ (page₀ : List ℕ) (at : ℕ) (s page : List ℕ) (i end : ℕ) (so :
 
   -- Its line is put where the lines before it end.
   pub putMore : (size : ℕ) → size ≡ sizeIn (take (length s - i) (drop i s)) → (page′ : List ℕ) (end′ : ℕ)
-      → Shown (lineOf (take (i + size - i) (drop i s))) page end page′ end′ → PutTo page₀ at s page′ (i + size) end′
+      → OnPage (lineOf (take (i + size - i) (drop i s))) page end page′ end′ → PutTo page₀ at s page′ (i + size) end′
   putMore size is page′ end′ put =
       let (e, f) = first (drop i s) (so .laid) restThere in
       let same : size ≡ sizeIn (drop i s) = is ∙ ap sizeIn whole in
@@ -142,7 +147,7 @@ module _ (page₀ : List ℕ) (at : ℕ) (s page : List ℕ) (i end : ℕ) (so :
 
 -- All are put.
 pub putAll : (page₀ : List ℕ) (at : ℕ) (s page : List ℕ) (i end : ℕ) → PutTo page₀ at s page i end → length s ≤ i
-    → Shown (entryLines (entriesOf s)) page₀ at page end
+    → OnPage (entryLines (entriesOf s)) page₀ at page end
 unfolding entriesWithin
 putAll page₀ at s page i end so done =
     let gone : drop i s ≡ [] = drop-of-length-le s {i = i} done in
@@ -168,5 +173,6 @@ linesShort (e ∷ es) =
       length-append (entryBytes e) (layout es),
     )
 
+-- So bytes that are entries print at most three bytes each: the room that `put_entries` asks for.
 pub laidShort : (s : List ℕ) → Laid s → length (entryLines (entriesOf s)) ≤ 3 * length s
 laidShort s laid = subst (λ (l : List ℕ). length (entryLines (entriesOf s)) ≤ 3 * length l) (laid .entries) (linesShort (entriesOf s))

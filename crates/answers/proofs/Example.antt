@@ -54,6 +54,7 @@ record Goes (left : Left) (o : Out) : Type 0 where
   prints : printed left ≡ entryLines (o .wrote)
   next : At (recordIn left) (some (o .left))
 
+-- How an accepted call of a line is followed by contents, whatever the bytes of the record are.
 goes : (rec : List ℕ) (b : Option Record) (a : Call) → At rec b → InWidth a → (o : Out) → answer b (said rec a) ≡ accepted o → Goes (leaves rec a zeroed) o
 goes rec b a at low o is =
     let well : LeftWell rec zeroed o = leftWell rec zeroed b (said rec a) (at .fine) (fedSaid rec b a (at .held) low) o is in
@@ -65,6 +66,7 @@ goes rec b a at low o is =
 
 -- ---- the example
 
+-- The example's vault: number 0 of 4, of which 1 may be bad, with link class 2.
 abbrev settings : Settings
 settings = record { n = 4; f = 1; id = 0; class = 2 }
 
@@ -72,6 +74,7 @@ settings = record { n = 4; f = 1; id = 0; class = 2 }
 abbrev voted : ℕ → List ℕ
 voted from = 2 ∷ from ∷ 0 ∷ 0 ∷ 0 ∷ 0 ∷ 0 ∷ 0 ∷ 0 ∷ 0 ∷ 0 ∷ 0 ∷ 0 ∷ 7 ∷ []
 
+-- The frame that these bytes say.
 abbrev vote : ℕ → Frame
 vote from = record { kind = 2; sender = from; view = 0; body = Plan 7 }
 
@@ -79,9 +82,11 @@ vote from = record { kind = 2; sender = from; view = 0; body = Plan 7 }
 abbrev first : Out
 first = started settings 7
 
+-- After vote-1 of vault 1.
 abbrev second : Out
 second = heard (first .left) (vote 1)
 
+-- After vote-1 of vault 2.
 abbrev third : Out
 third = heard (second .left) (vote 2)
 
@@ -90,21 +95,25 @@ firstAccepted : answer none (by.start settings 7) ≡ accepted first
 unfolding answer
 firstAccepted = refl
 
+-- Vote-1 of vault 1 is accepted; with the own one it is no quorum yet.
 secondAccepted : answer (some (first .left)) (by.frame (readFrame (voted 1) 1 (first .left .set .n) (first .left .set .id))) ≡ accepted second
 unfolding delayOf answer started pass stepC stepD stepVote stepH does writes agreed highest safe
     choice any weigh isQuorum isBlocking readFrame refusal viewMissing misled within lengthOf decode bodyAs numberAt
 secondAccepted = refl
 
+-- Vote-1 of vault 2 is accepted, and makes a quorum.
 thirdAccepted : answer (some (second .left)) (by.frame (readFrame (voted 2) 2 (second .left .set .n) (second .left .set .id))) ≡ accepted third
 unfolding delayOf answer started keep heard pass stepA stepB stepC stepD stepVote stepH does writes agreed highest safe
     choice any weigh isQuorum isBlocking readFrame refusal viewMissing misled within lengthOf decode bodyAs numberAt
 thirdAccepted = refl
 
+-- Vote-1 of vault 1 again: it is kept already, so 17.
 lastRefused : answer (some (third .left)) (by.frame (readFrame (voted 1) 1 (third .left .set .n) (third .left .set .id))) ≡ refused 17
 unfolding delayOf answer started keep heard pass stepA stepB stepC stepD stepVote stepH does writes agreed highest safe
     choice any weigh isQuorum isBlocking readFrame refusal viewMissing misled within lengthOf decode bodyAs numberAt
 lastRefused = refl
 
+-- The entries of the three calls and the refusal, spelled as lines, are the text of the example.
 printsAll : entryLines (first .wrote) ++ (entryLines (second .wrote) ++ (entryLines (third .wrote) ++ (lineOf (253 ∷ 17 ∷ []) ++ [])))
     ≡ text "fe0b0000000000000384\nff0100000000000000000000000007\nff0200000000000000000000000007\nff0300000000000000000000000007\nfd11\n"
 unfolding delayOf answer started keep heard pass stepA stepB stepC stepD stepVote stepH does writes agreed highest safe
@@ -113,32 +122,38 @@ printsAll = refl
 
 -- ---- the lines
 
+-- The votes' bytes are bytes, which the laws of a frame's call ask for.
 votedBytes : (from : ℕ) → from ≡ from % 256 → Bytes (voted from)
 unfolding encode digits
 votedBytes from low = subst (λ (k : ℕ). Bytes (2 ∷ k ∷ 0 ∷ 0 ∷ 0 ∷ 0 ∷ 0 ∷ 0 ∷ 0 ∷ 0 ∷ 0 ∷ 0 ∷ 0 ∷ 7 ∷ [])) (sym low) (encodedBytes (vote from))
 
+-- The program begins with a blank record, which holds nothing.
 blankAt : At blank none
 unfolding lentIs decodeRecord
 blankAt = record { held = refl; fine = λ r e. absurd (none≢some e) }
 
+-- The first line starts the vault.
 starts : Goes (lineLeft blank (text "00040100020000000000000007")) first
 unfolding between valueOf allDigits badLine spelled bytesOf startOf timerOf frameOf callOf numberAt lineLeft
 starts = goes blank none (start settings 7) blankAt (omega arith) first firstAccepted
 
 -- A vote-1 heard by a vault of 4 with number 0.
 module _ (rec : List ℕ) (r : Record) (at : At rec (some r)) where
+  -- The second line, where the call is accepted.
   hears1 : (o : Out) → answer (some r) (by.frame (readFrame (voted 1) 1 (r .set .n) (r .set .id))) ≡ accepted o
       → Goes (lineLeft rec (text "0201000000000000000000000007")) o
   unfolding between valueOf allDigits badLine spelled bytesOf startOf timerOf frameOf callOf numberAt lineLeft
   hears1 o is =
       goes rec (some r) (frame 1 (voted 1)) at (votedBytes 1 refl) o (ap (λ (a : by.Call). answer (some r) a) (saidFrame rec r 1 (voted 1) (at .held)) ∙ is)
 
+  -- The third line, where the call is accepted.
   hears2 : (o : Out) → answer (some r) (by.frame (readFrame (voted 2) 2 (r .set .n) (r .set .id))) ≡ accepted o
       → Goes (lineLeft rec (text "0202000000000000000000000007")) o
   unfolding between valueOf allDigits badLine spelled bytesOf startOf timerOf frameOf callOf numberAt lineLeft
   hears2 o is =
       goes rec (some r) (frame 2 (voted 2)) at (votedBytes 2 refl) o (ap (λ (a : by.Call). answer (some r) a) (saidFrame rec r 2 (voted 2) (at .held)) ∙ is)
 
+  -- The last line, where the call is refused.
   refuses1 : (k : ℕ) → answer (some r) (by.frame (readFrame (voted 1) 1 (r .set .n) (r .set .id))) ≡ refused k
       → printed (lineLeft rec (text "0201000000000000000000000007")) ≡ lineOf (253 ∷ k ∷ [])
   unfolding between valueOf allDigits badLine spelled bytesOf startOf timerOf frameOf callOf numberAt lineLeft

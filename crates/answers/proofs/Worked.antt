@@ -28,6 +28,7 @@ abbrev callOfBytes : Option (List ℕ) → Option Call
 callOfBytes none = none
 callOfBytes (some s) = callOf s
 
+-- The same of a line's text.
 abbrev says : String → Option Call
 says line = callOfBytes (bytesOf digitLimit (text line))
 
@@ -58,5 +59,6 @@ refusals rec = (refl, refl, refl, refl, refl, refl)
 
 -- A frame or a timer on a blank record gives 2.
 unstarted : (printed (lineLeft blank (text "")) ≡ text "fd02\n") × (printed (lineLeft blank (text "0900000000")) ≡ text "fd02\n")
-unfolding between valueOf allDigits badLine spelled bytesOf startOf timerOf frameOf callOf numberAt lineLeft zeroed digitOf lineOf frameLeft timerLeft called lentIs decodeRecord answer
+unfolding between valueOf allDigits badLine spelled bytesOf startOf timerOf frameOf callOf numberAt lineLeft
+    zeroed digitOf lineOf frameLeft timerLeft called lentIs decodeRecord answer
 unstarted = (refl, refl)

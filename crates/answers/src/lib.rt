@@ -7,9 +7,10 @@ ghost use Prim.Native.Nat.{_+_, _*_, _≤_, _<_};
 ghost use lib.ListN.{length};
 ghost use Rattle.entry.specs.Reading.{entriesOf};
 ghost use Rattle.vault.specs.Answers.{leftBy};
-ghost use Rattle.lines.specs.inside.Steps.{Shown, Answered};
-ghost use Rattle.answers.specs.Lines.{startOf, timerOf, frameOf, callOf, callLeft, zeroed, entryLines, printed, vaultLines};
-ghost use Rattle.answers.specs.inside.Steps.{answerSize, lineShare, Laid, Printable, Put};
+ghost use Rattle.lines.specs.inside.Steps.{OnPage, Answered};
+ghost use Rattle.answers.specs.Lines.{isKind, startOf, timerOf, frameOf, callOf, callLeft, zeroed, entryLines, printed, vaultLines};
+ghost use Rattle.answers.specs.inside.Steps.{answerSize, lineShare, Laid, Printable, AnswerPut};
+use frame::numbers;
 use lines::Spelling;
 use settings::Settings;
 use vault::Answer;
@@ -19,8 +20,10 @@ const DIGITS: usize = 90;
 
 const BYTES: usize = 45;
 
+// "a zeroed 256-byte output array"
 const OUTPUT: usize = 256;
 
+// The kinds of lines that are no frames.
 const START: u8 = 0;
 
 const TIMER: u8 = 9;
@@ -29,10 +32,6 @@ const START_LENGTH: usize = 13;
 
 const TIMER_LENGTH: usize = 5;
 
-const BAD_LENGTH: u8 = 10;
-
-const BAD_LINE: u8 = 20;
-
 // ---- the call that a line makes
 
 // "Kind 00 starts (n, f, id, class, one byte each, then plan; 13 bytes)"; "A wrong length .. gives 10, before the call".
@@ -40,7 +39,7 @@ fn start(rec: &mut [u8], bytes: &[u8], out: &mut [u8]) -> Answer
     ensures { λ r. ⌜ leftBy r (now (rec .exit)) (now (out .exit)) ≡ callLeft (now (rec .entry)) (now (out .entry)) (startOf (now (bytes .entry))) ⌝ }
 {
     if bytes.len() != START_LENGTH {
-        return Answer::Refused(BAD_LENGTH);
+        return Answer::Refused(numbers::REFUSED_LENGTH);
     }
     let set = Settings {
         n: bytes[1],
@@ -57,7 +56,7 @@ fn timer(rec: &mut [u8], bytes: &[u8], out: &mut [u8]) -> Answer
     ensures { λ r. ⌜ leftBy r (now (rec .exit)) (now (out .exit)) ≡ callLeft (now (rec .entry)) (now (out .entry)) (timerOf (now (bytes .entry))) ⌝ }
 {
     if bytes.len() != TIMER_LENGTH {
-        return Answer::Refused(BAD_LENGTH);
+        return Answer::Refused(numbers::REFUSED_LENGTH);
     }
     vault::timer(rec, wire::number32(bytes, 1), out)
 }
@@ -72,18 +71,27 @@ fn frame(rec: &mut [u8], bytes: &[u8], out: &mut [u8]) -> Answer
     vault::frame(rec, bytes[1], bytes, out)
 }
 
-// The call that a line's bytes make.
+// Whether a line is of a kind, which an empty line has not.
+fn is_kind(kind: u8, bytes: &[u8]) -> bool
+    ensures { λ b. ⌜ b ≡ isKind kind (now (bytes .entry)) ⌝ }
+{
+    if bytes.len() == 0 {
+        return false;
+    }
+    bytes[0] == kind
+}
+
+// The call that a line's bytes make: "an empty line is an empty frame".
 fn call(rec: &mut [u8], bytes: &[u8], out: &mut [u8]) -> Answer
     ensures { λ r. ⌜ leftBy r (now (rec .exit)) (now (out .exit)) ≡ callLeft (now (rec .entry)) (now (out .entry)) (callOf (now (bytes .entry))) ⌝ }
 {
-    if bytes.len() == 0 {
-        return frame(rec, bytes, out);
+    if is_kind(START, bytes) {
+        return start(rec, bytes, out);
     }
-    match bytes[0] {
-        START => start(rec, bytes, out),
-        TIMER => timer(rec, bytes, out),
-        _ => frame(rec, bytes, out),
+    if is_kind(TIMER, bytes) {
+        return timer(rec, bytes, out);
     }
+    frame(rec, bytes, out)
 }
 
 // ---- what it prints
@@ -91,7 +99,7 @@ fn call(rec: &mut [u8], bytes: &[u8], out: &mut [u8]) -> Answer
 // Puts entries that lie end to end on the page, each on a line of its own.
 fn put_entries(page: &mut [u8], at: usize, s: &[u8]) -> usize
     requires { ⌜ (at + 3 * length (now s) ≤ length (now page)) × Laid (now s) ⌝ }
-    ensures { λ r. ⌜ Shown (entryLines (entriesOf (now (s .entry)))) (now (page .entry)) at (now (page .exit)) r ⌝ }
+    ensures { λ r. ⌜ OnPage (entryLines (entriesOf (now (s .entry)))) (now (page .entry)) at (now (page .exit)) r ⌝ }
 {
     let mut i = 0;
     let mut end = at;
@@ -106,7 +114,7 @@ fn put_entries(page: &mut [u8], at: usize, s: &[u8]) -> usize
 // Puts what a call answered on the page: "one output entry a line, or fd and the refusal number as one byte".
 fn put_answer(page: &mut [u8], at: usize, answer: Answer, out: &[u8]) -> usize
     requires { ⌜ (at + answerSize ≤ length (now page)) × Printable answer (now out) ⌝ }
-    ensures { λ r. ⌜ Shown (printed (leftBy answer [] (now (out .entry)))) (now (page .entry)) at (now (page .exit)) r ⌝ }
+    ensures { λ r. ⌜ OnPage (printed (leftBy answer [] (now (out .entry)))) (now (page .entry)) at (now (page .exit)) r ⌝ }
 {
     match answer {
         Answer::Written(count) => put_entries(page, at, &out[0..count]),
@@ -117,7 +125,7 @@ fn put_answer(page: &mut [u8], at: usize, answer: Answer, out: &[u8]) -> usize
 // A line's bytes are called, with "a zeroed 256-byte output array", and the answer is put on the page.
 fn answer(rec: &mut [u8], bytes: &[u8], page: &mut [u8], at: usize) -> usize
     requires { ⌜ at + answerSize ≤ length (now page) ⌝ }
-    ensures { λ r. ⌜ Put (callLeft (now (rec .entry)) zeroed (callOf (now (bytes .entry)))) (now (page .entry)) at (now (rec .exit)) (now (page .exit)) r ⌝ }
+    ensures { λ r. ⌜ AnswerPut (callLeft (now (rec .entry)) zeroed (callOf (now (bytes .entry)))) (now (page .entry)) at (now (rec .exit)) (now (page .exit)) r ⌝ }
 {
     let mut out = [0u8; OUTPUT];
     let a = call(rec, bytes, &mut out);
@@ -133,7 +141,7 @@ pub fn answer_line(rec: &mut [u8], text: &[u8], page: &mut [u8], at: usize) -> u
     let mut bytes = [0u8; BYTES];
     let spelling = lines::bytes_in(text, DIGITS, &mut bytes);
     let Spelling::Count(count) = spelling else {
-        return lines::put_refusal(page, at, BAD_LINE);
+        return lines::put_refusal(page, at, numbers::REFUSED_LINE);
     };
     answer(rec, &bytes[0..count], page, at)
 }

@@ -3,17 +3,15 @@ ghost use mathlib.Core.Path.{_≡_};
 ghost use Prim.Native.Nat.{_≤_};
 ghost use Rattle.frame.specs.Refusal.{first, formRows};
 ghost use Rattle.frame.specs.inside.Reading.{refusalOf};
+use crate::words::end_with_number;
 use crate::words::say;
 use crate::words::say_number;
-use crate::words::wide;
-use crate::words::wider;
 use frame::Body;
 use frame::Frame;
 use frame::Reading;
 use frame::Report;
 use frame::Reports;
-
-const SUGGEST: u8 = 7;
+use frame::numbers;
 
 // The frame that bytes say, or refusal 9 or 10.
 pub(crate) fn frame_in(s: &[u8]) -> Reading
@@ -28,11 +26,14 @@ pub(crate) fn frame_in(s: &[u8]) -> Reading
 
 pub(crate) fn say_kind(kind: u8) {
     match kind {
-        1 => say(b"proposal"),
-        2..=5 => say_number(b"vote-", wide(kind - 1)),
-        6 => say(b"view-change"),
-        7 => say(b"suggest"),
-        8 => say(b"proof"),
+        numbers::PROPOSAL => say(b"proposal"),
+        numbers::VOTE_1..=numbers::VOTE_4 => say_number(
+            b"vote-",
+            (kind - numbers::PROPOSAL) as u64,
+        ),
+        numbers::VIEW_CHANGE => say(b"view-change"),
+        numbers::SUGGEST => say(b"suggest"),
+        numbers::PROOF => say(b"proof"),
         _ => say(b"frame"),
     }
 }
@@ -41,19 +42,18 @@ pub(crate) fn say_kind(kind: u8) {
 pub(crate) fn vote_of(kind: u8) -> u8
     ensures { λ r. ⌜ r ≤ 2 ⌝ }
 {
-    if kind == SUGGEST { 2 } else { 1 }
+    if kind == numbers::SUGGEST { 2 } else { 1 }
 }
 
 pub(crate) fn lock_of(kind: u8) -> u8
     ensures { λ r. ⌜ r ≤ 4 ⌝ }
 {
-    if kind == SUGGEST { 3 } else { 4 }
+    if kind == numbers::SUGGEST { 3 } else { 4 }
 }
 
 fn say_place(view: u32, plan: u64) {
-    say_number(b"view ", wider(view));
-    say_number(b", plan ", plan);
-    say(b"\n");
+    say_number(b"view ", view as u64);
+    end_with_number(b", plan ", plan);
 }
 
 fn is_none(r: Report) -> bool {
@@ -68,14 +68,14 @@ fn is_none(r: Report) -> bool {
 
 // A report: the vote, or none; where its mark fits neither, all of it.
 fn say_report(name: &[u8], vote: u8, r: Report) {
-    say_number(name, wide(vote));
+    say_number(name, vote as u64);
     say(b": ");
     if is_none(r) {
         say(b"none\n");
         return;
     }
-    if r.mark != 1 {
-        say_number(b"mark ", wide(r.mark));
+    if r.mark != numbers::PRESENT {
+        say_number(b"mark ", r.mark as u64);
         say(b", ");
     }
     say_place(r.view, r.plan);
@@ -97,13 +97,9 @@ fn say_body(f: Frame) {
             say(b", ");
             say_place(f.view, plan);
         }
-        Body::Empty => {
-            say_number(b" for view ", wider(f.view));
-            say(b"\n");
-        }
+        Body::Empty => end_with_number(b" for view ", f.view as u64),
         Body::Told(r) => {
-            say_number(b", view ", wider(f.view));
-            say(b"\n");
+            end_with_number(b", view ", f.view as u64);
             say_reports(f.kind, r);
         }
     }
@@ -112,6 +108,6 @@ fn say_body(f: Frame) {
 // Kind, sender and what the frame holds: "vote-2 of vault 1, view 0, plan 7".
 pub(crate) fn say_frame(f: Frame) {
     say_kind(f.kind);
-    say_number(b" of vault ", wide(f.sender));
+    say_number(b" of vault ", f.sender as u64);
     say_body(f);
 }

@@ -2,11 +2,11 @@
 use crate::frames::frame_in;
 use crate::frames::say_frame;
 use crate::frames::say_kind;
+use crate::words::end_line;
+use crate::words::end_with_number;
 use crate::words::say;
 use crate::words::say_byte;
 use crate::words::say_number;
-use crate::words::wide;
-use crate::words::wider;
 use frame::Reading;
 
 pub(crate) const START: u8 = 0;
@@ -20,15 +20,14 @@ pub(crate) const TIMER_LENGTH: usize = 5;
 // Where a line has another length than its kind.
 fn say_length(count: usize, wanted: usize) {
     say_number(b" of ", count as u64);
-    say_number(b" bytes; it has to have ", wanted as u64);
-    say(b"\n");
+    end_with_number(b" bytes; it has to have ", wanted as u64);
 }
 
 fn say_settings(n: u8, f: u8, id: u8, class: u8) {
-    say_number(b"    start: ", wide(n));
-    say_number(b" vaults of which ", wide(f));
-    say_number(b" may lie, this one is vault ", wide(id));
-    say_number(b", link class ", wide(class));
+    say_number(b"    start: ", n as u64);
+    say_number(b" vaults of which ", f as u64);
+    say_number(b" may lie, this one is vault ", id as u64);
+    say_number(b", link class ", class as u64);
 }
 
 fn say_start(s: &[u8]) {
@@ -38,8 +37,7 @@ fn say_start(s: &[u8]) {
         return;
     }
     say_settings(s[1], s[2], s[3], s[4]);
-    say_number(b", starting plan ", wire::number64(s, 5));
-    say(b"\n");
+    end_with_number(b", starting plan ", wire::number64(s, 5));
 }
 
 fn say_timer(s: &[u8]) {
@@ -48,7 +46,7 @@ fn say_timer(s: &[u8]) {
         say_length(s.len(), TIMER_LENGTH);
         return;
     }
-    say_number(b"    the timer of view ", wider(wire::number32(s, 1)));
+    say_number(b"    the timer of view ", wire::number32(s, 1) as u64);
     say(b" ran out\n");
 }
 
@@ -60,7 +58,7 @@ fn say_malformed(s: &[u8]) {
     let size = frame::length_of(s[0]);
     if size == 0 {
         say_byte(b"    there is no kind ", s[0]);
-        say(b"\n");
+        end_line();
         return;
     }
     say(b"    a ");

@@ -5,21 +5,11 @@ use crate::frames::frame_in;
 use crate::frames::say_frame;
 use crate::refusals::say_refusal;
 use crate::text::Line;
+use crate::words::end_with_number;
 use crate::words::say;
 use crate::words::say_number;
-use crate::words::wide;
-use crate::words::wider;
 use frame::Reading;
-
-const REFUSED: u8 = 253;
-
-const HOST: u8 = 254;
-
-const ALL: u8 = 255;
-
-const DECISION_ENTRY: u8 = 10;
-
-const TIMER_ENTRY: u8 = 11;
+use frame::numbers;
 
 const REFUSAL_LENGTH: usize = 2;
 
@@ -27,16 +17,14 @@ const TIMER_LENGTH: usize = 10;
 
 const DECISION_LENGTH: usize = 14;
 
-const SUGGEST: u8 = 7;
-
 const SUGGEST_LENGTH: usize = 46;
 
 // ---- which lines these are
 
 fn is_host_entry(s: &[u8]) -> bool {
     match s.len() {
-        TIMER_LENGTH => s[1] == TIMER_ENTRY,
-        DECISION_LENGTH => s[1] == DECISION_ENTRY,
+        TIMER_LENGTH => s[1] == numbers::HOST_TIMER,
+        DECISION_LENGTH => s[1] == numbers::HOST_DECISION,
         _ => false,
     }
 }
@@ -53,7 +41,7 @@ fn is_suggest(s: &[u8]) -> bool {
     if s.len() != SUGGEST_LENGTH {
         return false;
     }
-    s[1] == SUGGEST
+    s[1] == numbers::SUGGEST
 }
 
 // Whether a line without a mark is one that vaultlines prints. No line that it takes looks the same.
@@ -62,9 +50,9 @@ pub(crate) fn is_printed(s: &[u8]) -> bool {
         return false;
     }
     match s[0] {
-        REFUSED => s.len() == REFUSAL_LENGTH,
-        HOST => is_host_entry(s),
-        ALL => is_entry(s),
+        lines::REFUSED => s.len() == REFUSAL_LENGTH,
+        numbers::TO_HOST => is_host_entry(s),
+        numbers::TO_ALL => is_entry(s),
         0..=63 => is_suggest(s),
         _ => false,
     }
@@ -79,17 +67,16 @@ fn say_unknown() {
 fn say_timer(s: &[u8])
     requires { ⌜ 10 ≤ length (now s) ⌝ }
 {
-    say_number(b"    set a timer: view ", wider(wire::number32(s, 2)));
-    say_number(b", ", wider(wire::number32(s, 6)));
+    say_number(b"    set a timer: view ", wire::number32(s, 2) as u64);
+    say_number(b", ", wire::number32(s, 6) as u64);
     say(b" milliseconds\n");
 }
 
 fn say_decision(s: &[u8])
     requires { ⌜ 14 ≤ length (now s) ⌝ }
 {
-    say_number(b"    decided: view ", wider(wire::number32(s, 2)));
-    say_number(b", plan ", wire::number64(s, 6));
-    say(b"\n");
+    say_number(b"    decided: view ", wire::number32(s, 2) as u64);
+    end_with_number(b", plan ", wire::number64(s, 6));
 }
 
 fn say_host(s: &[u8]) {
@@ -105,11 +92,11 @@ fn say_host(s: &[u8]) {
 }
 
 fn say_recipient(to: u8) {
-    if to == ALL {
+    if to == numbers::TO_ALL {
         say(b"    to all: ");
         return;
     }
-    say_number(b"    to vault ", wide(to));
+    say_number(b"    to vault ", to as u64);
     say(b": ");
 }
 
@@ -145,8 +132,8 @@ pub(crate) fn say_printed(s: &[u8], given: Line)
         return;
     }
     match s[0] {
-        REFUSED => say_refused(s, given),
-        HOST => say_host(s),
+        lines::REFUSED => say_refused(s, given),
+        numbers::TO_HOST => say_host(s),
         _ => say_entry(s),
     }
 }

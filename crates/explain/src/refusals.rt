@@ -9,18 +9,17 @@ use crate::given::TIMER_LENGTH;
 use crate::text::Line;
 use crate::text::say_digits;
 use crate::text::say_writing;
+use crate::words::end_line;
+use crate::words::end_with_number;
 use crate::words::say;
 use crate::words::say_byte;
 use crate::words::say_number;
-use crate::words::wide;
-use crate::words::wider;
 use frame::Body;
 use frame::Frame;
 use frame::Reading;
 use frame::Report;
 use frame::Reports;
-
-const BAD_LINE: u8 = 20;
+use frame::numbers;
 
 // No sentence is longer.
 const LONGEST: usize = 120;
@@ -44,41 +43,41 @@ fn say_reason(number: u8) {
 
 fn say_part(words: &[u8], n: u64) {
     say(b"        at fault: ");
-    say_number(words, n);
-    say(b"\n");
+    end_with_number(words, n);
 }
 
 fn say_two_parts(first: &[u8], a: u64, second: &[u8], b: u64) {
     say(b"        at fault: ");
     say_number(first, a);
-    say_number(second, b);
-    say(b"\n");
+    end_with_number(second, b);
+}
+
+fn with_n_fault(words: &[u8], x: u8, n: u8) {
+    say_two_parts(words, x as u64, b", with n, byte 1: ", n as u64);
+}
+
+fn settings_fault(number: u8, n: u8, f: u8, id: u8, class: u8) {
+    match number {
+        numbers::REFUSED_N => say_part(b"n, byte 1: ", n as u64),
+        numbers::REFUSED_F => with_n_fault(b"f, byte 2: ", f, n),
+        numbers::REFUSED_ID => with_n_fault(b"the vault's number, byte 3: ", id, n),
+        numbers::REFUSED_CLASS => say_part(b"the link class, byte 4: ", class as u64),
+        _ => (),
+    }
 }
 
 fn start_fault(number: u8, s: &[u8]) {
     if s.len() != START_LENGTH {
         return;
     }
-    let n = wide(s[1]);
-    match number {
-        5 => say_part(b"n, byte 1: ", n),
-        6 => say_two_parts(b"f, byte 2: ", wide(s[2]), b", with n, byte 1: ", n),
-        7 => say_two_parts(
-            b"the vault's number, byte 3: ",
-            wide(s[3]),
-            b", with n, byte 1: ",
-            n,
-        ),
-        8 => say_part(b"the link class, byte 4: ", wide(s[4])),
-        _ => (),
-    }
+    settings_fault(number, s[1], s[2], s[3], s[4]);
 }
 
 fn timer_fault(s: &[u8]) {
     if s.len() != TIMER_LENGTH {
         return;
     }
-    say_part(b"the view, bytes 1 to 4: ", wider(wire::number32(s, 1)));
+    say_part(b"the view, bytes 1 to 4: ", wire::number32(s, 1) as u64);
 }
 
 fn length_fault(s: &[u8]) {
@@ -91,68 +90,83 @@ fn kind_fault(s: &[u8]) {
         return;
     }
     say_byte(b"        at fault: the kind, byte 0: ", s[0]);
-    say(b"\n");
+    end_line();
 }
 
 // ---- reports at fault
 
-// What is wrong with a report of a frame for a view: 0 is nothing.
+// What is wrong with a report.
+const NOTHING: u8 = 0;
+
+const BAD_MARK: u8 = 1;
+
+const NOT_ALL_ZERO: u8 = 2;
+
+const VIEW_TOO_HIGH: u8 = 3;
+
+const NO_HIGHEST: u8 = 4;
+
+const NOT_BELOW_HIGHEST: u8 = 5;
+
+const HIGHEST_PLAN: u8 = 6;
+
+// What is wrong with a report of a frame for a view.
 fn form_fault(view: u32, r: Report) -> u8
     ensures { λ w. ⌜ w ≤ 3 ⌝ }
 {
-    if 1 < r.mark {
-        return 1;
+    if numbers::PRESENT < r.mark {
+        return BAD_MARK;
     }
-    if r.mark == 1 {
+    if r.mark == numbers::PRESENT {
         if view <= r.view {
-            return 3;
+            return VIEW_TOO_HIGH;
         }
-        return 0;
+        return NOTHING;
     }
     if r.view != 0 {
-        return 2;
+        return NOT_ALL_ZERO;
     }
     if r.plan != 0 {
-        return 2;
+        return NOT_ALL_ZERO;
     }
-    0
+    NOTHING
 }
 
-// What is wrong with a previous vote beside the highest: 0 is nothing.
+// What is wrong with a previous vote beside the highest.
 fn previous_fault(highest: Report, previous: Report) -> u8
     ensures { λ w. ⌜ w ≤ 6 ⌝ }
 {
-    if previous.mark != 1 {
-        return 0;
+    if previous.mark != numbers::PRESENT {
+        return NOTHING;
     }
-    if highest.mark != 1 {
-        return 4;
+    if highest.mark != numbers::PRESENT {
+        return NO_HIGHEST;
     }
     if highest.view <= previous.view {
-        return 5;
+        return NOT_BELOW_HIGHEST;
     }
     if highest.plan == previous.plan {
-        return 6;
+        return HIGHEST_PLAN;
     }
-    0
+    NOTHING
 }
 
 fn say_wrong(why: u8) {
     match why {
-        1 => say(b": its mark is neither 0 nor 1\n"),
-        2 => say(b": it is absent, and not all of it is 0\n"),
-        3 => say(b": its view is not below the frame's\n"),
-        4 => say(b": there is no highest one\n"),
-        5 => say(b": its view is not below the highest one's\n"),
+        BAD_MARK => say(b": its mark is neither 0 nor 1\n"),
+        NOT_ALL_ZERO => say(b": it is absent, and not all of it is 0\n"),
+        VIEW_TOO_HIGH => say(b": its view is not below the frame's\n"),
+        NO_HIGHEST => say(b": there is no highest one\n"),
+        NOT_BELOW_HIGHEST => say(b": its view is not below the highest one's\n"),
         _ => say(b": it is for the highest one's plan\n"),
     }
 }
 
 fn report_fault(name: &[u8], vote: u8, why: u8) {
-    if why == 0 {
+    if why == NOTHING {
         return;
     }
-    say_number(name, wide(vote));
+    say_number(name, vote as u64);
     say_wrong(why);
 }
 
@@ -197,17 +211,17 @@ fn body_fault(f: Frame) {
 fn say_repeat(f: Frame) {
     say(b"        at fault: a ");
     say_kind(f.kind);
-    say_number(b" of vault ", wide(f.sender));
-    say_number(b" for view ", wider(f.view));
+    say_number(b" of vault ", f.sender as u64);
+    say_number(b" for view ", f.view as u64);
     say(b" or a later one came before\n");
 }
 
 fn sender_and_view(f: Frame) {
     say_two_parts(
         b"the sender, byte 1: ",
-        wide(f.sender),
+        f.sender as u64,
         b", with the view, bytes 2 to 5: ",
-        wider(f.view),
+        f.view as u64,
     );
 }
 
@@ -216,11 +230,17 @@ fn frame_fault(number: u8, s: &[u8]) {
         return;
     };
     match number {
-        11 | 12 => say_part(b"the sender, byte 1: ", wide(f.sender)),
-        13 | 16 => say_part(b"the view, bytes 2 to 5: ", wider(f.view)),
-        14 => body_fault(f),
-        15 => sender_and_view(f),
-        17 => say_repeat(f),
+        numbers::REFUSED_LINK | numbers::REFUSED_SENDER => say_part(
+            b"the sender, byte 1: ",
+            f.sender as u64,
+        ),
+        numbers::REFUSED_VIEW_0 | numbers::REFUSED_OVER => say_part(
+            b"the view, bytes 2 to 5: ",
+            f.view as u64,
+        ),
+        numbers::REFUSED_REPORT => body_fault(f),
+        numbers::REFUSED_LEADER => sender_and_view(f),
+        numbers::REFUSED_KEPT => say_repeat(f),
         _ => (),
     }
 }
@@ -229,11 +249,11 @@ fn frame_fault(number: u8, s: &[u8]) {
 
 fn bytes_fault(number: u8, s: &[u8]) {
     match number {
-        5..=8 => start_fault(number, s),
-        9 => kind_fault(s),
-        10 => length_fault(s),
-        11..=17 => frame_fault(number, s),
-        18 | 19 => timer_fault(s),
+        numbers::REFUSED_N..=numbers::REFUSED_CLASS => start_fault(number, s),
+        numbers::REFUSED_KIND => kind_fault(s),
+        numbers::REFUSED_LENGTH => length_fault(s),
+        numbers::REFUSED_LINK..=numbers::REFUSED_KEPT => frame_fault(number, s),
+        numbers::REFUSED_TIMER | numbers::REFUSED_LAST_VIEW => timer_fault(s),
         _ => (),
     }
 }
@@ -242,7 +262,7 @@ fn bytes_fault(number: u8, s: &[u8]) {
 fn say_fault(number: u8, given: Line)
     requires { ⌜ given .count ≤ 46 ⌝ }
 {
-    if number == BAD_LINE {
+    if number == numbers::REFUSED_LINE {
         say_writing(given.writing);
         say_digits(given.writing);
     }
@@ -256,9 +276,9 @@ fn say_fault(number: u8, given: Line)
 pub(crate) fn say_refusal(number: u8, given: Line)
     requires { ⌜ given .count ≤ 46 ⌝ }
 {
-    say_number(b"    refused with ", wide(number));
+    say_number(b"    refused with ", number as u64);
     say(b": ");
     say_reason(number);
-    say(b"\n");
+    end_line();
     say_fault(number, given);
 }

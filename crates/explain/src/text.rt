@@ -1,6 +1,7 @@
 // A line's text: how it is written, and the bytes that it spells once it is mended.
 ghost use Prim.Native.Nat.{_≤_};
 ghost use lib.ListN.{length};
+use crate::words::end_line;
 use crate::words::say;
 use crate::words::say_number;
 use lines::Spelling;
@@ -150,7 +151,7 @@ pub(crate) fn show(text: &[u8]) {
     let mut out = [0u8; TEXT];
     let count = copy(SHOWN, text, &mut out);
     say(&out[0..count]);
-    say(b"\n");
+    end_line();
 }
 
 fn writing_of(text: &[u8], digits: usize) -> Writing
@@ -210,23 +211,28 @@ pub(crate) fn read(text: &[u8]) -> Line
 
 // ---- what is told of it
 
+fn end_with_refused() {
+    say(b", which vaultlines refuses with 20\n");
+}
+
+// Characters that are no lower-case digits, where there are any.
+fn say_written(count: usize, sort: &[u8]) {
+    if count != 0 {
+        say(b"    written with ");
+        say(sort);
+        end_with_refused();
+    }
+}
+
 // What is wrong with the characters.
 pub(crate) fn say_writing(w: Writing) {
     if w.is_cut {
         say(b"    256 characters or more\n");
     }
-    if w.capitals != 0 {
-        say(b"    written with capital letters, which vaultlines refuses with 20\n");
-    }
-    if w.blanks != 0 {
-        say(b"    written with blanks, which vaultlines refuses with 20\n");
-    }
-    if w.returns != 0 {
-        say(b"    written with a carriage return, which vaultlines refuses with 20\n");
-    }
-    if w.strange != 0 {
-        say(b"    written with characters that are no digits, which vaultlines refuses with 20\n");
-    }
+    say_written(w.capitals, b"capital letters");
+    say_written(w.blanks, b"blanks");
+    say_written(w.returns, b"a carriage return");
+    say_written(w.strange, b"characters that are no digits");
 }
 
 // What is wrong with the count of digits of a line that is given.
@@ -241,5 +247,5 @@ pub(crate) fn say_digits(w: Writing) {
 
 fn say_count(words: &[u8], count: usize) {
     say_number(words, count as u64);
-    say(b", which vaultlines refuses with 20\n");
+    end_with_refused();
 }

@@ -1,18 +1,5 @@
 // Words and numbers on standard output. What is written has no contract: these functions are proved safe and ending.
-ghost use mathlib.Core.Path.{_≡_};
 use libc::STDOUT_FILENO;
-
-pub(crate) fn wide(x: u8) -> u64
-    ensures { λ r. ⌜ r ≡ x ⌝ }
-{
-    x as u64
-}
-
-pub(crate) fn wider(x: u32) -> u64
-    ensures { λ r. ⌜ r ≡ x ⌝ }
-{
-    x as u64
-}
 
 pub(crate) fn say(words: &[u8]) {
     io::write_all(STDOUT_FILENO, words);
@@ -24,8 +11,18 @@ pub(crate) fn say_number(words: &[u8], n: u64) {
     io::print_decimal(STDOUT_FILENO, n);
 }
 
+pub(crate) fn end_line() {
+    say(b"\n");
+}
+
+// Words, and then a number that ends the line.
+pub(crate) fn end_with_number(words: &[u8], n: u64) {
+    say_number(words, n);
+    end_line();
+}
+
 // Words, and then a byte as a line has it, in two hexadecimal digits.
 pub(crate) fn say_byte(words: &[u8], b: u8) {
     say(words);
-    io::print_hex(STDOUT_FILENO, wide(b), 2);
+    io::print_hex(STDOUT_FILENO, b as u64, 2);
 }

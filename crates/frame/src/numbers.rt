@@ -20,7 +20,7 @@ pub const PROOF: u8 = 8;
 // The mark of a report that is present.
 pub const PRESENT: u8 = 1;
 
-// The refusals, of every call and then of start, of a frame and of the timer.
+// The refusals: of every call, then of start, of a frame, of the timer and of a line.
 pub const REFUSED_OUTPUT: u8 = 1;
 
 pub const REFUSED_BLANK: u8 = 2;
@@ -58,6 +58,8 @@ pub const REFUSED_KEPT: u8 = 17;
 pub const REFUSED_TIMER: u8 = 18;
 
 pub const REFUSED_LAST_VIEW: u8 = 19;
+
+pub const REFUSED_LINE: u8 = 20;
 
 // Recipients of an entry that are no vault's number: the host, and all vaults.
 pub const TO_HOST: u8 = 254;

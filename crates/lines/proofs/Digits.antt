@@ -14,43 +14,53 @@ use Rattle.wire.proofs.Output.{placedOne, placedNext}
 use Rattle.lines.specs.Digits.{between, valueOf, digitOf, lineOf}
 
 module _ (low high b : ℕ) where
+  -- A byte within the two bounds.
   inside : low ≤ b → b ≤ high → between low high b ≡ true
   unfolding between
   inside l h = simp (le-leb low b l, le-leb b high h)
 
+  -- A byte below both.
   under : b < low → between low high b ≡ false
   unfolding between
   under h = simp (lt-leb low b h)
 
+  -- A byte above both.
   over : low ≤ b → high < b → between low high b ≡ false
   unfolding between
   over l h = simp (le-leb low b l, lt-leb b high h)
 
 module _ (b : ℕ) where
+  -- The digits 0 to 9.
   pub valueDecimal : 48 ≤ b → b ≤ 57 → valueOf b ≡ b - 48
   unfolding valueOf
   valueDecimal l h = simp (inside 48 57 b l h)
 
+  -- The letters a to f.
   pub valueLetter : 97 ≤ b → b ≤ 102 → valueOf b ≡ b - 87
   unfolding valueOf
   valueLetter l h = simp (over 48 57 b (omega arith) (omega arith), inside 97 102 b l h)
 
+  -- Below 0: no digit.
   pub valueLow : b < 48 → valueOf b ≡ 16
   unfolding valueOf
   valueLow l = simp (under 48 57 b l, under 97 102 b (omega arith))
 
+  -- Between 9 and a, upper-case letters too: no digit.
   pub valueBetween : 57 < b → b < 97 → valueOf b ≡ 16
   unfolding valueOf
   valueBetween l h = simp (over 48 57 b (omega arith) l, under 97 102 b h)
 
+  -- Above f: no digit.
   pub valueHigh : 102 < b → valueOf b ≡ 16
   unfolding valueOf
   valueHigh l = simp (over 48 57 b (omega arith) (omega arith), over 97 102 b (omega arith) l)
 
+  -- The digit of a value below 10.
   pub digitDecimal : b < 10 → digitOf b ≡ 48 + b
   unfolding digitOf
   digitDecimal h = simp (lt-ltb b 10 h)
 
+  -- The digit of a value from 10 on.
   pub digitLetter : 10 ≤ b → digitOf b ≡ 87 + b
   unfolding digitOf
   digitLetter h = simp (le-ltb b 10 h)

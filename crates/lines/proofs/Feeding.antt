@@ -11,11 +11,11 @@ use Rattle.wire.specs.Placed.{placed}
 use Rattle.lines.specs.Lines.{ended, begun, lastLine, Program, after, prints}
 use Rattle.lines.specs.inside.Lines.{firstLine}
 use Rattle.lines.specs.Steps.{Fed, Finished}
-use Rattle.lines.specs.inside.Steps.{Shown, Enough, Answered}
+use Rattle.lines.specs.inside.Steps.{OnPage, Enough, Answered}
 use Rattle.lines.proofs.Lines.{endedFirst, begunFirst, endedNone, begunNone}
 
 -- What a page holds up to where lines put on it end.
-pub shownTo : (lines page : List ℕ) (at : ℕ) (page′ : List ℕ) (next : ℕ) → Shown lines page at page′ next → at ≤ length page
+pub shownTo : (lines page : List ℕ) (at : ℕ) (page′ : List ℕ) (next : ℕ) → OnPage lines page at page′ next → at ≤ length page
     → take next page′ ≡ take at page ++ lines
 unfolding placed
 shownTo lines page at page′ next put room =
@@ -31,6 +31,7 @@ module _ {S : Type 0} (p : Program S) (room : ℕ) (s₀ : S) (line₀ piece : L
     pub kept : take room (begun line (drop i piece)) ≡ take room (begun line₀ piece)
     pub says : said ++ prints p s (ended line (drop i piece)) ≡ prints p s₀ (ended line₀ piece)
 
+  -- At the beginning nothing is said, and the whole piece is to come.
   pub fedNone : FedTo s₀ line₀ [] 0
   fedNone = record { left = refl; kept = refl; says = refl }
 

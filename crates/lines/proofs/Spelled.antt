@@ -16,10 +16,12 @@ use lib.Seq.{drop-cons, take-suc-set, take-all, length-take-le}
 use Rattle.lines.specs.Digits.{valueOf, allDigits, badLine, spelled, bytesOf}
 
 module _ (limit : ℕ) (text : List ℕ) where
+  -- Beyond the limit nothing is spelled.
   pub longSpellsNone : limit < length text → none ≡ bytesOf limit text
   unfolding bytesOf badLine
   longSpellsNone long = simp (lt-ltb limit (length text) long, or-true)
 
+  -- Nor by an odd count of digits.
   pub oddSpellsNone : (length text % 2 ≡ 0 → ⊥) → none ≡ bytesOf limit text
   unfolding bytesOf badLine
   oddSpellsNone odd = simp (ne-eqb (length text % 2) 0 odd)
@@ -55,9 +57,11 @@ twoMore text i room =
     ∙ ap (λ (k : ℕ). getD text (2 * i) 0 ∷ getD text (2 * i + 1) 0 ∷ drop k text) third
 
 module _ (limit : ℕ) (text bytes : List ℕ) (size count i : ℕ) (so : SpelledTo limit text bytes size count i) where
+  -- Within the loop both are behind: the digits decide.
   evenHere : bytesOf limit text ≡ cond (allDigits text) (some (spelled text)) none
   evenHere = evenSpells limit text (omega arith) (so .short)
 
+  -- A byte that is no digit in the rest is one in the whole, so nothing is spelled.
   notDigits : allDigits (drop (2 * i) text) ≡ false → none ≡ bytesOf limit text
   notDigits bad = sym (evenHere ∙ ap (λ (b : Bool). cond b (some (spelled text)) none) (sym (so .digits) ∙ bad))
 
@@ -139,6 +143,7 @@ spelledLength [] = omega arith
 spelledLength (high ∷ []) = omega arith
 spelledLength (high ∷ low ∷ text) = omega (arith, spelledLength text)
 
+-- So a line of bytes has two digits for each: a short line makes a short call.
 pub spelledShort : (limit : ℕ) (text s : List ℕ) → bytesOf limit text ≡ some s → 2 * length s ≤ length text
 unfolding bytesOf
 spelledShort limit text s is = go (badLine limit text) is

@@ -15,6 +15,7 @@ use Rattle.lines.proofs.Lines.{keptMore}
 -- ---- one byte
 
 module _ (text : List ℕ) (len b : ℕ) where
+  -- There is room: the byte is stored behind what is kept.
   pub keptStored : len < length text → KeptOf (take len text ++ (b ∷ [])) (set text len b) (len + 1)
   keptStored low =
       let next : len + 1 ≡ suc len = omega arith in
@@ -24,11 +25,13 @@ module _ (text : List ℕ) (len b : ℕ) where
       omega (arith, length-append (take len text) (b ∷ []), length-take-le len text (omega arith)) in
       record { kept = here ∙ sym (take-all (length (set text len b)) (take len text ++ (b ∷ [])) few); few = omega arith }
 
+  -- There is none: the line has more than is kept of it, and nothing changes.
   pub keptFull : length text ≤ len → len ≤ length text → KeptOf (take len text ++ (b ∷ [])) text len
   keptFull high low =
       let long : length (take len text) ≡ length text = length-take-le len text low ∙ (omega arith) in
       record { kept = sym (take-at (take len text) (b ∷ []) (length text) long); few = low }
 
+-- A part is no longer than the whole.
 pub takeShort : (n : ℕ) (l : List ℕ) → length (take n l) ≤ length l
 takeShort zero l = omega arith
 takeShort (suc n) [] = omega arith
@@ -50,6 +53,7 @@ pub record TakenTo (text₀ : List ℕ) (len : ℕ) (piece : List ℕ) (from : �
   pub place : i + length (firstLine (drop i piece)) ≡ from + length (firstLine (drop from piece))
   pub kept : take (length text₀) (take to text ++ firstLine (drop i piece)) ≡ take (length text₀) (take len text₀ ++ firstLine (drop from piece))
 
+-- At the beginning nothing is taken, and the line is to come.
 pub takenNone : (text : List ℕ) (len : ℕ) (piece : List ℕ) (from : ℕ) → len ≤ length text → from ≤ length piece → TakenTo text len piece from text len from
 takenNone text len piece from few within = record { size = refl; within = within; few = few; place = refl; kept = refl }
 

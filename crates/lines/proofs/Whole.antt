@@ -40,12 +40,14 @@ module _ {S : Type 0} (p : Program S) (room : ℕ) (enough : Enough p room) (s :
           ∙ sym (ap (prints p s) (endedMore [] input piece) ∙ printsMore p s (ended [] input) (ended line piece));
     }
 
+  -- Pieces fed one after the other leave and print what their whole does.
   pub readsAs : {input pages : List ℕ} {s′ : S} {line′ : List ℕ} → Reads p room s input pages s′ line′ → ReadsAs p room s input pages s′ line′
   unfolding ended begun after prints
   readsAs first = record { left = refl; kept = sym (take-all room [] (omega arith)); says = refl }
   readsAs (andThen {input} {pages} {s′} {line′} {piece} {page} {s″} {line″} so fed) =
       readsMore input pages s′ line′ piece page s″ line″ (readsAs so) fed
 
+-- So for every program, and every cut of its input, the pages are what the program prints for the input.
 pub anySplit : {S : Type 0} (p : Program S) → AnySplit p
 anySplit {S} p room enough s input pages s′ line′ reads = (all, λ s″ page finished. finish s″ page finished)
   where

@@ -6,11 +6,13 @@ ghost use Prim.Native.Nat.{_+_, _*_, _≤_, _<_};
 ghost use lib.ListN.{length, take, drop};
 ghost use Rattle.lines.specs.Digits.{valueOf, digitOf, lineOf, refusalLine, bytesOf};
 ghost use Rattle.lines.specs.inside.Lines.{firstLine};
-ghost use Rattle.lines.specs.inside.Steps.{spells, countOf, Shown, KeptOf};
+ghost use Rattle.lines.specs.inside.Steps.{spells, countOf, OnPage, KeptOf};
 
+// "A line ends at byte 0a".
 const LINE_END: u8 = 10;
 
-const REFUSED: u8 = 253;
+// "fd and the refusal number as one byte": how the line of a refusal begins.
+pub const REFUSED: u8 = 253;
 
 // ---- digits
 
@@ -72,7 +74,7 @@ pub fn bytes_in(text: &[u8], limit: usize, bytes: &mut [u8]) -> Spelling
 // Puts bytes on the page as digits, and a line's end. Answers where the page then stands.
 pub fn put_line(page: &mut [u8], at: usize, s: &[u8]) -> usize
     requires { ⌜ (at + 2 * length (now s)) + 1 ≤ length (now page) ⌝ }
-    ensures { λ r. ⌜ Shown (lineOf (now (s .entry))) (now (page .entry)) at (now (page .exit)) r ⌝ }
+    ensures { λ r. ⌜ OnPage (lineOf (now (s .entry))) (now (page .entry)) at (now (page .exit)) r ⌝ }
 {
     let mut to = at;
     let mut i = 0;
@@ -90,7 +92,7 @@ pub fn put_line(page: &mut [u8], at: usize, s: &[u8]) -> usize
 // "fd and the refusal number as one byte"
 pub fn put_refusal(page: &mut [u8], at: usize, number: u8) -> usize
     requires { ⌜ at + 5 ≤ length (now page) ⌝ }
-    ensures { λ r. ⌜ Shown (refusalLine number) (now (page .entry)) at (now (page .exit)) r ⌝ }
+    ensures { λ r. ⌜ OnPage (refusalLine number) (now (page .entry)) at (now (page .exit)) r ⌝ }
 {
     put_line(page, at, &[REFUSED, number])
 }

@@ -36,6 +36,7 @@ ranIdle k act rec ready e is at out =
     ranNothing (stepAt k (contentsIn rec)) at out rec (idleStep k (contentsIn rec) (sym e ∙ ap asAct is)) ready
 
 module _ {first : List ℕ} {from at : ℕ} {out : List ℕ} where
+  -- Before the first step: nothing is written, and the whole pass is to come.
   pub goingFirst : Ready first → from ≤ 8 → Room (pass (stepsFrom from) (contentsIn first)) at out → Going first from at out first from at out
   goingFirst h high room = record { ready = h; same = refl; most = high; size = refl; room = room; rest = λ after n left ran. ran }
 
@@ -45,12 +46,15 @@ module _ {first : List ℕ} {from at : ℕ} {out : List ℕ} where
       abbrev step : Out
       step = stepAt k (contentsIn rec)
 
+      -- The entries of the pass to come, told as this step's and the rest's, have room.
       room : Room (joined step (stepsFrom (suc k))) n there
       room = subst (λ (o : Out). Room o n there) (passStep k low (contentsIn rec)) (g .room)
 
+      -- So this step's entries have room, which `run_step` asks for.
       pub roomStep : Room step n there
       roomStep = roomFirst step (stepsFrom (suc k)) n there room
 
+      -- After it the loop's promise holds of the next step.
       pub goingStep : {after : List ℕ} {m : ℕ} {left : List ℕ} → Ran step n there after m left → Going first from at out left (k + 1) m after
       unfolding contents
       goingStep {after} {m} {left} one =

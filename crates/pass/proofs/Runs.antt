@@ -39,57 +39,68 @@ loaded rec dst {after} whole size e =
 -- ---- entries
 
 -- Some entries lie from a place on: where they end, and the output.
-abbrev pub Wrote : ℕ → List ℕ → List Entry → ℕ → List ℕ → Type 0
-Wrote at o es next o' = (next ≡ at + length (layout es)) × (o' ≡ placed o at (layout es))
+abbrev pub EntriesPut : ℕ → List ℕ → List Entry → ℕ → List ℕ → Type 0
+EntriesPut at o es next o' = (next ≡ at + length (layout es)) × (o' ≡ placed o at (layout es))
 
 -- One entry is put.
-abbrev pub Put : ℕ → List ℕ → Entry → ℕ → List ℕ → Type 0
-Put at o e next o' = (next ≡ at + length (entryBytes e)) × (o' ≡ placed o at (entryBytes e))
+abbrev pub EntryPut : ℕ → List ℕ → Entry → ℕ → List ℕ → Type 0
+EntryPut at o e next o' = (next ≡ at + length (entryBytes e)) × (o' ≡ placed o at (entryBytes e))
 
+-- Entries with one more at their end are longer by that one.
 lengthMore : (es : List Entry) (e : Entry) → length (layout (es ++ (e ∷ []))) ≡ length (layout es) + length (entryBytes e)
 lengthMore [] e = omega (arith, length-append (entryBytes e) [])
 lengthMore (x ∷ es) e =
     omega (arith, length-append (entryBytes x) (layout (es ++ (e ∷ []))), length-append (entryBytes x) (layout es), lengthMore es e)
 
 module _ (at : ℕ) (o : List ℕ) (low : at ≤ length o) where
-  wroteNone : Wrote at o [] at o
+  -- No entries are written yet.
+  wroteNone : EntriesPut at o [] at o
   wroteNone = (sym (add-zero at), sym (placedNone o at))
 
-  wroteMore : (es : List Entry) (e : Entry) {n m : ℕ} {o' o'' : List ℕ} → Wrote at o es n o' → Put n o' e m o''
-      → Wrote at o (es ++ (e ∷ [])) m o''
+  -- One more is put where they end.
+  wroteMore : (es : List Entry) (e : Entry) {n m : ℕ} {o' o'' : List ℕ} → EntriesPut at o es n o' → EntryPut n o' e m o''
+      → EntriesPut at o (es ++ (e ∷ [])) m o''
   wroteMore es e (n, p) (m, q) =
       (omega (arith, n, m, lengthMore es e), q ∙ (λ i. placed (p i) (n i) (entryBytes e)) ∙ layoutMore o at es e low)
 
 module _ (e : Entries) (at : ℕ) (o : List ℕ) (room : at + length (layout (listOf e)) ≤ length o) where
+  -- Room for the entries: so the place is within the output.
   low : at ≤ length o
   low = omega (arith, room)
 
-  being : (es : List Entry) → listOf e ≡ es → {n : ℕ} {o' : List ℕ} → Wrote at o es n o' → Wrote at o (listOf e) n o'
-  being es is {n} {o'} = subst (λ (fs : List Entry). Wrote at o fs n o') (sym is)
+  -- The entries of the code's enum, told as a list.
+  asListed : (es : List Entry) → listOf e ≡ es → {n : ℕ} {o' : List ℕ} → EntriesPut at o es n o' → EntriesPut at o (listOf e) n o'
+  asListed es is {n} {o'} = subst (λ (fs : List Entry). EntriesPut at o fs n o') (sym is)
 
-  pub wroteZero : listOf e ≡ [] → Wrote at o (listOf e) at o
-  wroteZero is = being [] is (wroteNone at o low)
+  -- The four shapes of what a step writes: none,
+  pub wroteZero : listOf e ≡ [] → EntriesPut at o (listOf e) at o
+  wroteZero is = asListed [] is (wroteNone at o low)
 
-  module _ (a : Entry) {n : ℕ} {p : List ℕ} (one : Put at o a n p) where
-    pub wroteOne : listOf e ≡ a ∷ [] → Wrote at o (listOf e) n p
-    wroteOne is = being (a ∷ []) is (wroteMore at o low [] a (wroteNone at o low) one)
+  module _ (a : Entry) {n : ℕ} {p : List ℕ} (one : EntryPut at o a n p) where
+    -- one entry,
+    pub wroteOne : listOf e ≡ a ∷ [] → EntriesPut at o (listOf e) n p
+    wroteOne is = asListed (a ∷ []) is (wroteMore at o low [] a (wroteNone at o low) one)
 
-    module _ (b : Entry) {m : ℕ} {q : List ℕ} (two : Put n p b m q) where
-      pub wroteTwo : listOf e ≡ a ∷ b ∷ [] → Wrote at o (listOf e) m q
-      wroteTwo is = being (a ∷ b ∷ []) is (wroteMore at o low (a ∷ []) b (wroteMore at o low [] a (wroteNone at o low) one) two)
+    module _ (b : Entry) {m : ℕ} {q : List ℕ} (two : EntryPut n p b m q) where
+      -- two, where the vault leads the view that it enters,
+      pub wroteTwo : listOf e ≡ a ∷ b ∷ [] → EntriesPut at o (listOf e) m q
+      wroteTwo is = asListed (a ∷ b ∷ []) is (wroteMore at o low (a ∷ []) b (wroteMore at o low [] a (wroteNone at o low) one) two)
 
-      pub wroteThree : (c : Entry) {k : ℕ} {s : List ℕ} → Put m q c k s → listOf e ≡ a ∷ b ∷ c ∷ [] → Wrote at o (listOf e) k s
+      -- three, where it does not.
+      pub wroteThree : (c : Entry) {k : ℕ} {s : List ℕ} → EntryPut m q c k s → listOf e ≡ a ∷ b ∷ c ∷ [] → EntriesPut at o (listOf e) k s
       wroteThree c three is =
-          being (a ∷ b ∷ c ∷ []) is (wroteMore at o low (a ∷ b ∷ []) c
+          asListed (a ∷ b ∷ c ∷ []) is (wroteMore at o low (a ∷ b ∷ []) c
           (wroteMore at o low (a ∷ []) b (wroteMore at o low [] a (wroteNone at o low) one) two) three)
 
--- Their sizes.
+-- The size of one entry: the room that writing it takes.
 pub sizeOne : (e : Entries) (a : Entry) → listOf e ≡ a ∷ [] → length (layout (listOf e)) ≡ length (entryBytes a)
 sizeOne e a is = ap (λ (es : List Entry). length (layout es)) is ∙ omega (arith, lengthMore [] a)
 
+-- The size of two.
 pub sizeTwo : (e : Entries) (a b : Entry) → listOf e ≡ a ∷ b ∷ [] → length (layout (listOf e)) ≡ length (entryBytes a) + length (entryBytes b)
 sizeTwo e a b is = ap (λ (es : List Entry). length (layout es)) is ∙ omega (arith, lengthMore (a ∷ []) b, lengthMore [] a)
 
+-- The size of three.
 pub sizeThree : (e : Entries) (a b c : Entry) → listOf e ≡ a ∷ b ∷ c ∷ []
     → length (layout (listOf e)) ≡ length (entryBytes a) + length (entryBytes b) + length (entryBytes c)
 sizeThree e a b c is =
@@ -102,7 +113,8 @@ module _ (o : Out) (e : Entries) (wrote : listOf e ≡ o .wrote) (at : ℕ) (out
   pub roomWritten : Room o at out → at + length (layout (listOf e)) ≤ length out
   roomWritten = subst (λ (es : List Entry). at + length (layout es) ≤ length out) (sym wrote)
 
-  pub ranWritten : {rec : List ℕ} {n : ℕ} {after : List ℕ} → contentsIn rec ≡ o .left → Ready rec → Wrote at out (listOf e) n after
+  -- The record left and the entries written are what the act leaves: the step has run.
+  pub ranWritten : {rec : List ℕ} {n : ℕ} {after : List ℕ} → contentsIn rec ≡ o .left → Ready rec → EntriesPut at out (listOf e) n after
       → Ran o at out after n rec
   ranWritten left ready (count, bytes) = record {
     left = left;
@@ -115,8 +127,9 @@ module _ (o : Out) (e : Entries) (wrote : listOf e ≡ o .wrote) (at : ℕ) (out
 pub tookFrom : (s : Step) (t : by.Record) {copy rec : List ℕ} → copy ≡ rec → Took (s (contentsIn copy)) t → Took (s (contentsIn rec)) t
 tookFrom s t e = subst (λ (l : List ℕ). Took (s (contentsIn l)) t) e
 
+-- So with the record stored and its entries written, the step has run on the lent bytes.
 pub ranStored : (o : Out) (t : by.Record) → Took o t → (at : ℕ) (out : List ℕ) {rec : List ℕ} {n : ℕ} {after : List ℕ} → rec ≡ t .bytes
-    → Wrote at out (listOf (t .wrote .entries)) n after → Ran o at out after n rec
+    → EntriesPut at out (listOf (t .wrote .entries)) n after → Ran o at out after n rec
 ranStored o t took at out stored =
     ranWritten o (t .wrote .entries) (took .wrote) at out (ap contentsIn stored ∙ took .left) (subst Ready (sym stored) (took .ready))
 
@@ -128,10 +141,12 @@ ranNothing o at out rec e ready =
 
 -- ---- one part of a pass after the other
 
+-- Two lists of entries end to end lie as one list does.
 layoutAppend : (es fs : List Entry) → layout (es ++ fs) ≡ layout es ++ layout fs
 layoutAppend [] fs = refl
 layoutAppend (e ∷ es) fs = rw (append-assoc, layoutAppend es fs)
 
+-- So their room is the sum of both.
 lengthJoin : (es fs : List Entry) → length (layout (es ++ fs)) ≡ length (layout es) + length (layout fs)
 lengthJoin es fs = ap length (layoutAppend es fs) ∙ length-append (layout es) (layout fs)
 
@@ -140,19 +155,24 @@ abbrev pub joined : Out → List Step → Out
 joined o rest = onward (o .wrote) (pass rest (o .left))
 
 module _ (o : Out) (rest : List Step) (at : ℕ) (out : List ℕ) where
+  -- The room of the whole is that of the first part and that of the rest.
   size : length (layout ((joined o rest) .wrote)) ≡ length (layout (o .wrote)) + length (layout ((pass rest (o .left)) .wrote))
   size = lengthJoin (o .wrote) ((pass rest (o .left)) .wrote)
 
+  -- Room for the whole is room for the first part.
   pub roomFirst : Room (joined o rest) at out → Room o at out
   roomFirst room = omega (arith, room, size)
 
   module _ (room : Room (joined o rest) at out) {out' : List ℕ} {n : ℕ} {rec : List ℕ} (one : Ran o at out out' n rec) where
+    -- The output keeps its size.
     pub sizeNext : length out' ≡ length out
     sizeNext = ap length (one .bytes) ∙ lengthPlaced out at (layout (o .wrote)) (roomFirst room)
 
+    -- Behind the first part there is room for the rest.
     pub roomNext : Room (pass rest (contentsIn rec)) n out'
     roomNext = subst (λ (x : Record). Room (pass rest x) n out') (sym (one .left)) (omega (arith, room, size, one .count, sizeNext))
 
+    -- The first part run, and the rest run from where it ended: the whole has run.
     pub ranJoin : {out'' : List ℕ} {m : ℕ} {left : List ℕ} → Ran (pass rest (contentsIn rec)) n out' out'' m left
         → Ran (joined o rest) at out out'' m left
     ranJoin {out''} {m} {left} two =

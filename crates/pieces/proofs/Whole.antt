@@ -5,12 +5,12 @@ use Prim.Native.Nat.{ℕ, _+_, _*_, _-_, _≤_, _<_}
 use mathlib.Core.Path.{_≡_, refl, sym, ap, subst, _∙_}
 use mathlib.Core.List.{List, [], _++_}
 use native.Mathlib.Omega.{arith}
-use lib.ListN.{length, take, drop, length-append, length-drop}
+use lib.ListN.{length, take, drop, length-append}
 use lib.Seq.{length-take-le}
 use Rattle.lines.specs.inside.Lines.{firstLine}
 use Rattle.lines.specs.inside.Steps.{KeptOf, Answered}
 use Rattle.lines.specs.Steps.{Fed, Finished}
-use Rattle.lines.proofs.Lines.{firstShort}
+use Rattle.lines.proofs.Lines.{endWithin}
 use Rattle.lines.proofs.Taking.{keptShort}
 use Rattle.lines.proofs.Feeding.{FedTo, fedNone, fedLine, fedEnd, fedDone, finishedNone, finishedLine}
 use Rattle.lines.proofs.Whole.{anySplit}
@@ -21,6 +21,7 @@ use Rattle.answers.proofs.Answers.{keptEnough}
 use Rattle.pieces.specs.inside.Sizes.{pieceSize, pageSize}
 use Rattle.pieces.specs.Steps.{Whole, WholeInput}
 
+-- The promise of the program whole: `anySplit` of crate lines, for the program over lines of crate answers.
 pub wholeInput : WholeInput
 wholeInput input pages rec line reads =
     let (so, finish) = anySplit vaultLines digitLimit keptEnough blank input pages rec line reads in
@@ -35,6 +36,7 @@ pub record FeedTo (rec₀ line₀ piece rec text page : List ℕ) (kept at i : �
   pub few : kept ≤ keptSize
   pub room : at + lineShare * (kept + (length piece - i)) ≤ lineShare * (keptSize + pieceSize)
 
+-- At the beginning of a piece: the line is what earlier pieces left, the page is empty, and all lines have room.
 pub feedNone : (rec text page piece : List ℕ) (len : ℕ) → len ≤ keptSize → length piece ≤ pieceSize
     → FeedTo rec (take len text) piece rec text page len 0 0
 feedNone rec text page piece len few small = record {
@@ -49,9 +51,11 @@ module _ {rec₀ line₀ piece rec text page : List ℕ} {kept at i : ℕ} (so :
   -- A line's bytes are taken from the piece.
   module _ {text′ : List ℕ} {to end : ℕ} (same : length text′ ≡ length text) (keeps : KeptOf (take kept text ++ firstLine (drop i piece)) text′ to)
       (is : end ≡ i + length (firstLine (drop i piece))) where
+    -- What is kept is the first 91 bytes of the line so far.
     keptIs : take to text′ ≡ take keptSize (take kept text ++ firstLine (drop i piece))
     keptIs = keeps .kept ∙ ap (λ (n : ℕ). take n (take kept text ++ firstLine (drop i piece))) (same ∙ textSize)
 
+    -- It is within the text's room.
     pub toWithin : to ≤ keptSize
     toWithin = omega (arith, keeps .few)
 
@@ -65,8 +69,9 @@ module _ {rec₀ line₀ piece rec text page : List ℕ} {kept at i : ℕ} (so :
           length-take-le kept text (omega arith),
         )
 
-    pub endWithin : end ≤ length piece
-    endWithin = omega (arith, so .within, firstShort (drop i piece), length-drop i piece)
+    -- The place where the line ends, or goes on, is within the piece.
+    pub lineWithin : end ≤ length piece
+    lineWithin = endWithin piece i end (so .within) is
 
     -- It goes on in the next piece.
     pub feedEnd : end ≡ length piece → Fed vaultLines keptSize rec₀ line₀ piece rec (take to text′) (take at page) × ((to ≤ keptSize) × (at ≤ pageSize))
@@ -89,11 +94,11 @@ module _ {rec₀ line₀ piece rec text page : List ℕ} {kept at i : ℕ} (so :
         let long : length (take (to - 0) text′) ≡ to = ap (λ (n : ℕ). length (take n text′)) whole ∙ length-take-le to text′ (keeps .few) in
         record {
           fed = fedLine vaultLines keptSize rec₀ line₀ piece rec (take kept text) (take at page) i (so .fed) keptEnough end is
-              (omega (arith, endWithin)) (take to text′) keptIs page at refl
+              (omega (arith, lineWithin)) (take to text′) keptIs page at refl
               (omega (arith, so .room)) rec′ page′ next line;
-          within = omega (arith, endWithin);
+          within = omega (arith, lineWithin);
           few = omega arith;
-          room = omega (arith, so .room, toShort, endWithin);
+          room = omega (arith, so .room, toShort, lineWithin);
         }
 
   -- The piece is done.

@@ -16,5 +16,6 @@ pub record Whole (input pages rec line : List ℕ) : Type 0 where
   pub says : pages ≡ prints vaultLines blank (ended [] input)
   pub all : (rec′ page : List ℕ) → Finished vaultLines rec line rec′ page → pages ++ page ≡ programPrints input
 
+-- The same of every input and every cut of it.
 abbrev pub WholeInput : Type 0
 WholeInput = (input pages rec line : List ℕ) → Reads vaultLines keptSize blank input pages rec line → Whole input pages rec line

@@ -191,5 +191,6 @@ refusals = replies (
 -- All of them hold by computation.
 worked : document × allVotes × lateVote × viewChanges × timerRepeats × timerBeyond × ownPlan × lockedPlan × lockedVote × twoSetVote × previousStays
     × decidesOnce × laterReplaces × refusals
-unfolding delayOf replies answer started keep heard timedOut pass stepA stepB stepC stepD stepVote stepH does writes agreed highest safe free allowed claimed twoSets backed choice smallest any weigh isQuorum isBlocking reach claims unlocked allows
+unfolding delayOf replies answer started keep heard timedOut pass stepA stepB stepC stepD stepVote stepH does writes agreed highest
+    safe free allowed claimed twoSets backed choice smallest any weigh isQuorum isBlocking reach claims unlocked allows
 worked = (refl, refl, refl, refl, refl, refl, refl, refl, refl, refl, refl, refl, refl, refl)

@@ -83,7 +83,18 @@ module _ (vs : Vaults) (rs : Reports) (v : ℕ) where
   twoFalls : Falls (twoSets vs rs v)
   twoFalls u w le h =
       let t : TwoSets vs rs v u = twoIff vs rs v u .1 h in
-      twoIff vs rs v w .0 (record { p₁ = t .p₁; p₂ = t .p₂; a = t .a; b = t .b; another = t .another; from = omega arith; later = t .later; before = t .before; first = t .first; second = t .second })
+      twoIff vs rs v w .0 (record {
+        p₁ = t .p₁;
+        p₂ = t .p₂;
+        a = t .a;
+        b = t .b;
+        another = t .another;
+        from = omega arith;
+        later = t .later;
+        before = t .before;
+        first = t .first;
+        second = t .second;
+      })
 
   -- What backs a plan at a view backs it at earlier ones.
   backedFalls : (rule : Rule) (p : ℕ) → Falls (backed rule vs rs v p)

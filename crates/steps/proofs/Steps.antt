@@ -16,17 +16,19 @@ use Rattle.rules.specs.Options.{isNone}
 use Rattle.quorum.specs.Quorums.{isBlocking}
 use Rattle.settings.specs.declared.Settings.{Settings}
 use Rattle.settings.specs.Settings.{delayOf}
+use Rattle.frame.specs.declared.Report.{Report}
 use Rattle.frame.specs.declared.Reports.{Reports}
 use Rattle.frame.specs.declared.Body.the-variants.{Plan, Empty}
 use Rattle.frame.specs.declared.Frame.{Frame}
 use Rattle.frame.specs.Valid.{fits}
 use Rattle.frame.specs.Refusal.{leaderOf}
+use Rattle.frame.specs.inside.Reading.{presentAt}
 use Rattle.frame.proofs.Laws.{inside}
 use Rattle.entry.specs.declared.Entry.{Entry}
 use Rattle.entry.specs.declared.Entry.the-variants.{ForAll, ForOne, Timer, Decision}
 use Rattle.record.specs.Slots as slots
-use Rattle.record.specs.Slots.{rows, slotOf}
-use Rattle.record.specs.inside.Slots.{withView}
+use Rattle.record.specs.Slots.{rows, slotOf, decisionSlot}
+use Rattle.record.specs.inside.Slots.{withView, withSlot}
 use Rattle.layout.specs.Layout.{decodeRecord}
 use Rattle.layout.specs.inside.Layout.{Holds}
 use Rattle.keeping.specs.inside.Kept.{told, keepFrame}
@@ -56,7 +58,7 @@ use Rattle.acts.specs.inside.Acts.{asAct, actAt}
 use Rattle.steps.specs.declared.Entries.{Entries}
 use Rattle.steps.specs.declared.Entries.the-variants.{Zero, Sent, Decided, Led, Followed}
 use Rattle.steps.specs.declared.Record as by
-use Rattle.steps.specs.inside.Steps.{listOf, OfView, OfPlan, ownReports, Did, Took}
+use Rattle.steps.specs.inside.Steps.{listOf, OfView, OfPlan, ownReports, OwnReports, Did, Took}
 use Rattle.steps.specs.inside.Order.{stepAt}
 
 -- ---- what an act does
@@ -70,16 +72,20 @@ didHeld held left clean wrote = record {
   wrote = wrote;
 }
 
+-- A vote's frame has a plan as its body, as the frame that is kept must.
 pub fitsVote : (k p : ℕ) → k ≤ 4 → fits (k + 1) (Plan p) ≡ true
 fitsVote k p low = inside 1 5 (k + 1) (omega arith) (omega arith)
 
 module _ (rec : List ℕ) (h : Ready rec) where
+  -- The record's slots.
   abbrev r : slots.Record
   r = decodeRecord rec
 
+  -- What they hold.
   abbrev c : Record
   c = contents r
 
+  -- The own number has a row.
   row : r .set .id < rows
   row = readyRow h
 
@@ -87,9 +93,11 @@ module _ (rec : List ℕ) (h : Ready rec) where
   pub rowOf : {id : ℕ} → id ≡ r .set .id → id < rows
   rowOf own = subst (λ (i : ℕ). i < rows) (sym own) row
 
+  -- The same of the settings whole.
   pub rowSet : {set : Settings} → set ≡ r .set → set .id < rows
   rowSet own = rowOf (ap (λ (s : Settings). s .id) own)
 
+  -- There is at least one vault, so a view has a leader.
   pub someSet : {set : Settings} → set ≡ r .set → 0 < set .n
   someSet own = subst (λ (s : Settings). 0 < s .n) (sym own) (omega (arith, readyAllowed h .own))
 
@@ -97,9 +105,11 @@ module _ (rec : List ℕ) (h : Ready rec) where
   abbrev pub changes : ℕ → ℕ → Frame
   changes id w = record { kind = 6; sender = id; view = w; body = Empty }
 
+  -- A vote's or a proposal's.
   abbrev pub votes : ℕ → ℕ → ℕ → ℕ → Frame
   votes kind id view p = record { kind = kind; sender = id; view = view; body = Plan p }
 
+  -- To ask for a view: the view-change in the own row, and sent to all.
   pub didAsk : {id w : ℕ} {left : List ℕ} → id ≡ r .set .id → Holds left (keepFrame r id (changes id w))
       → Did (taken c (some (ask w))) left (Sent (changes id w))
   unfolding contents writes
@@ -107,6 +117,7 @@ module _ (rec : List ℕ) (h : Ready rec) where
       didHeld (subst (Holds left) (λ i. keepFrame r (own i) (changes (own i) w)) held)
       (contentsAsk r w row) (cleanAsk r w row (h .clean)) (λ i. ForAll (changes (own i) w) ∷ [])
 
+  -- To vote or propose: the frame in the own row, and sent to all.
   pub didCast : {k p kind id view : ℕ} {left : List ℕ} → k ≤ 4 → kind ≡ suc k → id ≡ r .set .id → view ≡ r .view
       → Holds left (ownBroadcast r (votes kind id view p)) → Did (taken c (some (cast k p))) left (Sent (votes kind id view p))
   unfolding contents writes
@@ -114,25 +125,27 @@ module _ (rec : List ℕ) (h : Ready rec) where
       didHeld (subst (Holds left) (λ i. ownBroadcast r (votes (is i) (own i) (now i) p)) held)
       (contentsCast r k p low row) (cleanCast r k p low row (h .clean)) (λ i. ForAll (votes (is i) (own i) (now i) p) ∷ [])
 
-  pub didDecide : {p view : ℕ} {left : List ℕ} → view ≡ r .view → Holds left (decided r view p)
+  -- To decide: the decision in its slot, and told to the host.
+  pub didDecide : {p view : ℕ} {slot : Report} {left : List ℕ} → view ≡ r .view → slot ≡ presentAt view p → Holds left (withSlot r decisionSlot slot)
       → Did (taken c (some (decide p))) left (Decided view p)
   unfolding contents writes
-  didDecide {p} {left = left} now held =
-      didHeld (subst (Holds left) (λ i. decided r (now i) p) held)
+  didDecide {p} {left = left} now is held =
+      didHeld (subst (Holds left) (λ i. decided r (now i) p) (subst (λ (x : Report). Holds left (withSlot r decisionSlot x)) is held))
       (contentsDecided r p) (cleanDecide r (r .view) p (h .clean)) (λ i. Decision (now i) p ∷ [])
 
+  -- Nothing to do: the record as it is, and no entries.
   pub didNothing : Did (taken c none) rec Zero
   didNothing = record { size = h .size; left = refl; clean = h .clean; wrote = refl }
 
   -- To enter a view: the frames that are told, the timer and the leader as the code has them.
-  module _ (set : Settings) (own : set ≡ r .set) (w : ℕ) (proofs suggests : Reports) (ep : proofs ≡ ownReports (slotOf r) (set .id) 2 5)
-      (es : suggests ≡ ownReports (slotOf r) (set .id) 3 4) where
+  module _ (set : Settings) (own : set ≡ r .set) (w : ℕ) (proofs suggests : Reports) (tellsOwn : OwnReports r (set .id) proofs suggests) where
     abbrev proof : Frame
     proof = told 8 (set .id) w proofs
 
     abbrev suggest : Frame
     suggest = told 7 (set .id) w suggests
 
+    -- Reports of the own slots are those that 01's frame tells.
     tells : (rule : Rule) {t : Reports} → t ≡ ownReports (slotOf r) (set .id) (suc (claimVote rule)) (suc (lockVote rule))
         → told (kindOf rule) (set .id) w t ≡ reportFrame c rule w
     unfolding contents
@@ -143,25 +156,28 @@ module _ (rec : List ℕ) (h : Ready rec) where
         ∙ (λ i. told (kindOf rule) (r .set .id) w (sym there i))
 
     proofTold : proof ≡ reportFrame c rule3 w
-    proofTold = tells rule3 ep
+    proofTold = tells rule3 (tellsOwn .proofs)
 
     suggestTold : suggest ≡ reportFrame c rule1 w
-    suggestTold = tells rule1 es
+    suggestTold = tells rule1 (tellsOwn .suggests)
 
-    module _ (millis to : ℕ) (em : millis ≡ 9 * delayOf (set .class)) (et : to ≡ leaderOf w (set .n)) {viewed proved : List ℕ}
-        (hv : Holds viewed (withView r w)) (hp : Holds proved (keepFrame (decodeRecord viewed) (set .id) proof)) where
+    module _ (millis to : ℕ) (em : millis ≡ 9 * delayOf (set .class)) (et : to ≡ leaderOf w (set .n)) {proved : List ℕ}
+        (hp : Holds proved (keepFrame (withView r w) (set .id) proof)) where
       abbrev heads : List Entry → List Entry
       heads l = Timer w (9 * delayOf (r .set .class)) ∷ ForAll (reportFrame c rule3 w) ∷ l
 
+      -- The view and the proof are kept, as 01's frame has it.
       there : Holds proved (enteredBy r w false)
-      there = subst (Holds proved) (λ i. keepFrame (hv .is i) (own i .id) (proofTold i)) hp
+      there = subst (Holds proved) (λ i. keepFrame (withView r w) (own i .id) (proofTold i)) hp
 
+      -- The timer and the leader that the settings' equation gives.
       timed : millis ≡ 9 * delayOf (r .set .class)
       timed = em ∙ ap (λ (s : Settings). 9 * delayOf (s .class)) own
 
       led : to ≡ leaderOf w (r .set .n)
       led = et ∙ ap (λ (s : Settings). leaderOf w (s .n)) own
 
+      -- Whether or not the vault leads: a record that holds what 01's act leaves, with its entries.
       entered : (b : Bool) → leads c w ≡ b → {left : List ℕ} → Holds left (enteredBy r w b) → (l : Entries)
           → listOf l ≡ heads (suggestEntry c w b) → Did (taken c (some (enter w))) left l
       unfolding contents writes
@@ -169,6 +185,7 @@ module _ (rec : List ℕ) (h : Ready rec) where
           didHeld held (ap (λ (x : Bool). contents (enteredBy r w x)) (sym lead) ∙ contentsEnter r w row)
           (cleanEnter r w (h .clean) row b) (same ∙ ap (λ (x : Bool). heads (suggestEntry c w x)) (sym lead))
 
+      -- It leads, and keeps its suggest.
       pub didLead : to ≡ set .id → {left : List ℕ} → Holds left (keepFrame (decodeRecord proved) (set .id) suggest)
           → Did (taken c (some (enter w))) left (Led w millis proof)
       unfolding contents
@@ -177,6 +194,7 @@ module _ (rec : List ℕ) (h : Ready rec) where
           (subst (Holds left) (λ i. keepFrame (there .is i) (own i .id) (suggestTold i)) held)
           (Led w millis proof) (λ i. Timer w (timed i) ∷ ForAll (proofTold i) ∷ [])
 
+      -- Another leads, and is sent the suggest.
       pub didFollow : (to ≡ set .id → ⊥) → Did (taken c (some (enter w))) proved (Followed w millis proof to suggest)
       unfolding contents
       didFollow other =
@@ -184,25 +202,35 @@ module _ (rec : List ℕ) (h : Ready rec) where
           (Followed w millis proof to suggest)
           (λ i. Timer w (timed i) ∷ ForAll (proofTold i) ∷ ForOne (led i) (suggestTold i) ∷ [])
 
+-- The view kept, and then the proof: what the two writes leave is told of the record before them.
+pub keptEntered : (rec : List ℕ) (w : ℕ) (f : Frame) {viewed left : List ℕ} → Holds viewed (withView (decodeRecord rec) w)
+    → Holds left (keepFrame (decodeRecord viewed) (f .sender) f) → Holds left (keepFrame (withView (decodeRecord rec) w) (f .sender) f)
+keptEntered rec w f {left = left} hv = subst (λ (x : slots.Record). Holds left (keepFrame x (f .sender) f)) (hv .is)
+
 -- The act, as the code's match has it.
 pub didAct : (c : Record) (act was : acts.Act) → act ≡ was → {left : List ℕ} {e : Entries} → Did (taken c (asAct was)) left e
     → Did (taken c (asAct act)) left e
 didAct c act was is {left} {e} = subst (λ (a : acts.Act). Did (taken c (asAct a)) left e) (sym is)
 
+-- The number of a vote that C to H cast is one that `cast_in` takes.
 pub votesBy : (act : acts.Act) (k p : ℕ) → act ≡ Cast k p → OfPlan (asAct act) → k ≤ 4
 votesBy act k p is = subst (λ (a : acts.Act). OfPlan (asAct a)) is
 
 -- A and B have nothing to do with plans, and the others nothing with view-changes.
 module _ (act : acts.Act) where
+  -- A and B send no vote.
   pub noCast : {k p : ℕ} → act ≡ Cast k p → OfView (asAct act) → ⊥
   noCast is = subst (λ (a : acts.Act). OfView (asAct a)) is
 
+  -- A and B decide nothing.
   pub noDecide : {p : ℕ} → act ≡ Decide p → OfView (asAct act) → ⊥
   noDecide is = subst (λ (a : acts.Act). OfView (asAct a)) is
 
+  -- C to H ask for no view.
   pub noAsk : {w : ℕ} → act ≡ Ask w → OfPlan (asAct act) → ⊥
   noAsk is = subst (λ (a : acts.Act). OfPlan (asAct a)) is
 
+  -- C to H enter no view.
   pub noEnter : {w : ℕ} → act ≡ Enter w → OfPlan (asAct act) → ⊥
   noEnter is = subst (λ (a : acts.Act). OfPlan (asAct a)) is
 
@@ -231,18 +259,23 @@ stepBy (suc (suc (suc (suc (suc (suc (suc (suc k)))))))) c = refl
 pub fromE : (k : ℕ) → k ≢ 0 → k ≢ 1 → k ≢ 2 → k ≢ 3 → 4 ≤ k
 fromE k a b c d = omega arith
 
+-- The same from E on.
 pub isH : (k : ℕ) → k < 8 → 4 ≤ k → k ≢ 4 → k ≢ 5 → k ≢ 6 → k ≡ 7
 isH k low high e f g = omega arith
 
-pub numbered : {k j : ℕ} (c : Record) → k ≡ j → actAt k c ≡ actAt j c
-numbered c e = ap (λ (i : ℕ). actAt i c) e
+-- The code's match knows the number: the act of the step's number is that arm's.
+pub sameAct : {k j : ℕ} (c : Record) → k ≡ j → actAt k c ≡ actAt j c
+sameAct c e = ap (λ (i : ℕ). actAt i c) e
 
+-- What an arm's step left is what the step of that number leaves.
 pub tookAs : {k j : ℕ} (c : Record) → k ≡ j → {t : by.Record} → Took (stepAt j c) t → Took (stepAt k c) t
 tookAs c e {t} = subst (λ (i : ℕ). Took (stepAt i c) t) (sym e)
 
+-- A step without an act leaves record and output as they are, so crate pass may leave it out.
 pub idleStep : (k : ℕ) (c : Record) → actAt k c ≡ none → stepAt k c ≡ taken c none
 idleStep k c e = stepBy k c ∙ ap (taken c) e
 
+-- A step that does only what it may leaves contents that are sound and have their widths.
 wholeStep : (s : Step) → Lawful s → (c : Record) → Whole c → Whole ((s c) .left)
 wholeStep s law c w = subst (λ (o : Out). Whole (o .left)) (sym (law .does c)) (go (law .act c) refl)
   where
@@ -259,6 +292,7 @@ takenSet c (some (enter w)) = refl
 takenSet c (some (cast k p)) = refl
 takenSet c (some (decide p)) = refl
 
+-- So no step does: the settings that are read once, before a pass, hold for all of it.
 pub stepSet : (k : ℕ) (c : Record) → (stepAt k c) .left .set ≡ c .set
 stepSet k c = ap (λ (o : Out). o .left .set) (stepBy k c) ∙ takenSet c (actAt k c)
 
@@ -269,6 +303,7 @@ readyDid did whole =
     record { size = did .size; clean = did .clean; sound = there .sound; ranged = there .ranged }
 
 module _ (k : ℕ) (low : k < 8) (rec : List ℕ) (h : Ready rec) (a : acts.Act) (e : asAct a ≡ actAt k (contentsIn rec)) where
+  -- The act that the code was given is the step's.
   same : taken (contentsIn rec) (asAct a) ≡ stepAt k (contentsIn rec)
   same = ap (taken (contentsIn rec)) e ∙ sym (stepBy k (contentsIn rec))
 
@@ -285,18 +320,22 @@ module _ (k : ℕ) (low : k < 8) (rec : List ℕ) (h : Ready rec) (a : acts.Act)
 -- ---- what a step may be to do
 
 module _ (c : Record) {a : Act} where
+  -- An act that is known, among those that a step may be to do.
   abbrev isOne : (may : Option Act → Type 0) {x : Act} → x ≡ a → may (some x) → may (some a)
   isOne may e = subst (λ (b : Act). may (some b)) e
 
+  -- E, F and G cast a vote from 2 to 4.
   planVote : (k : ℕ) → k ≤ 3 → actVote c k ≡ some a → OfPlan (some a)
   planVote k high e = isOne OfPlan (actIs (agreed c k) (λ p. not (sentNow c (suc k))) (cast (suc k)) e .1) (omega arith)
 
+  -- A asks for a view, B enters one.
   viewAt : (k : ℕ) → k < 2 → actAt k c ≡ some a → OfView (some a)
   unfolding actAt
   viewAt zero low e = isOne OfView (actIs (highest (asked c isBlocking) (changeOf c) (c .set .n)) (isNews c) ask e .1) tt
   viewAt (suc zero) low e = isOne OfView (actIs (highest (canEnter c) (changeOf c) (c .set .n)) (λ w. true) enter e .1) tt
   viewAt (suc (suc k)) low e = absurd (omega arith)
 
+  -- C to G cast a vote or a proposal, H decides.
   planAt : (k : ℕ) → 2 ≤ k → actAt k c ≡ some a → OfPlan (some a)
   unfolding actAt
   planAt zero high e = absurd (omega arith)
@@ -310,6 +349,7 @@ module _ (c : Record) {a : Act} where
   planAt (suc (suc (suc (suc (suc (suc (suc (suc k)))))))) high e = absurd (none≢some e)
 
 module _ (k : ℕ) (c : Record) (a : acts.Act) (e : asAct a ≡ actAt k c) where
+  -- So the act that A or B is given is one that `view_in` takes.
   pub ofView : k < 2 → OfView (asAct a)
   ofView low = go (asAct a) e
     where
@@ -317,6 +357,7 @@ module _ (k : ℕ) (c : Record) (a : acts.Act) (e : asAct a ≡ actAt k c) where
       go none is = tt
       go (some x) is = viewAt c k low (sym is)
 
+  -- And the act that C to H are given is one that `plan_in` takes.
   pub ofPlan : 2 ≤ k → OfPlan (asAct a)
   ofPlan high = go (asAct a) e
     where
@@ -365,6 +406,7 @@ askWhole c whole w later low = record {
     }
 
 module _ (rec : List ℕ) (h : Ready rec) (w : ℕ) (later : decodeRecord rec .view < w) (low : w < 2 ^ 32) where
+  -- So after a timer's view-change the record is one that the pass may begin with.
   pub readyAsk : {left : List ℕ} {e : Entries} → Did (taken (contentsIn rec) (some (ask w))) left e → Ready left
   unfolding contents
   readyAsk did = readyDid did (askWhole (contentsIn rec) (record { sound = h .sound; ranged = h .ranged }) w later low)

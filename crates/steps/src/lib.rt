@@ -3,22 +3,26 @@
 use acts::Act;
 use frame::Body;
 use frame::Frame;
-use frame::Report;
 use frame::Reports;
+use frame::numbers;
 use settings::Settings;
 ghost use Prim.Native.Nat.{_≤_, _<_};
 ghost use mathlib.Core.Path.{_≡_};
 ghost use mathlib.Core.Option.{some};
 ghost use lib.ListN.{length};
+ghost use Rattle.frame.specs.Refusal.{leaderOf};
 ghost use Rattle.record.specs.Slots.{slotOf};
+ghost use Rattle.record.specs.inside.Slots.{withView};
 ghost use Rattle.layout.specs.Size.{recordSize};
 ghost use Rattle.layout.specs.Layout.{decodeRecord};
+ghost use Rattle.layout.specs.inside.Layout.{Holds};
+ghost use Rattle.keeping.specs.inside.Kept.{told, keepFrame};
 ghost use Rattle.protocol.specs.Pass.{ask, enter, cast, decide, taken};
 ghost use Rattle.protocol.specs.Pass.{actA, actB, actC, actD, actVote, actH, stepA, stepB, stepC, stepD, stepVote, stepH};
 ghost use Rattle.contents.specs.Contents.{contentsIn};
 ghost use Rattle.contents.specs.inside.Ready.{Ready};
 ghost use Rattle.acts.specs.inside.Acts.{asAct, actAt};
-ghost use Rattle.steps.specs.inside.Steps.{OfView, OfPlan, ownReports, Did, Took};
+ghost use Rattle.steps.specs.inside.Steps.{OfView, OfPlan, ownReports, OwnReports, Did, Took};
 ghost use Rattle.steps.specs.inside.Order.{stepAt};
 
 // The entries that a step writes: none; a frame for all vaults (A, C to G); the decision (H); a timer, given by view and milliseconds,
@@ -43,12 +47,6 @@ pub struct Record {
     pub wrote: Wrote,
 }
 
-fn wide(x: u8) -> usize
-    ensures { λ r. ⌜ r ≡ x ⌝ }
-{
-    x as usize
-}
-
 // ---- what an act does, where the bytes lie
 
 // To ask for a view.
@@ -57,7 +55,7 @@ pub fn ask_in(rec: &mut [u8], id: u8, w: u32) -> Entries
     ensures { λ e. ⌜ Did (taken (contentsIn (now (rec .entry))) (some (ask w))) (now (rec .exit)) e ⌝ }
 {
     let f = Frame {
-        kind: 6,
+        kind: numbers::VIEW_CHANGE,
         sender: id,
         view: w,
         body: Body::Empty,
@@ -66,13 +64,13 @@ pub fn ask_in(rec: &mut [u8], id: u8, w: u32) -> Entries
     Entries::Sent(f)
 }
 
-// To send a vote, or a proposal (0).
+// To send a vote, or a proposal (0): the kinds of the votes follow that of the proposal.
 fn cast_in(rec: &mut [u8], id: u8, view: u32, k: u8, p: u64) -> Entries
     requires { ⌜ Ready (now rec) × (id ≡ decodeRecord (now rec) .set .id) × (view ≡ decodeRecord (now rec) .view) × (k ≤ 4) ⌝ }
     ensures { λ e. ⌜ Did (taken (contentsIn (now (rec .entry))) (some (cast k p))) (now (rec .exit)) e ⌝ }
 {
     let f = Frame {
-        kind: k + 1,
+        kind: k + numbers::PROPOSAL,
         sender: id,
         view,
         body: Body::Plan(p),
@@ -86,11 +84,7 @@ fn decide_in(rec: &mut [u8], view: u32, p: u64) -> Entries
     requires { ⌜ Ready (now rec) × (view ≡ decodeRecord (now rec) .view) ⌝ }
     ensures { λ e. ⌜ Did (taken (contentsIn (now (rec .entry))) (some (decide p))) (now (rec .exit)) e ⌝ }
 {
-    let decision = Report {
-        mark: 1,
-        view,
-        plan: p,
-    };
+    let decision = frame::present(view, p);
     layout::put_slot(rec, layout::DECISION, decision);
     Entries::Decided(view, p)
 }
@@ -110,34 +104,58 @@ fn reports_of(rec: &[u8], id: u8, claim: u8, lock: u8) -> Reports
     }
 }
 
-// To enter a view.
-fn enter_in(rec: &mut [u8], set: Settings, w: u32) -> Entries
-    requires { ⌜ Ready (now rec) × (set ≡ decodeRecord (now rec) .set) ⌝ }
+// The leader of a view, as an entry's recipient.
+fn leader_in(w: u32, n: u8) -> u8
+    requires { ⌜ 0 < n ⌝ }
+    ensures { λ r. ⌜ r ≡ leaderOf w n ⌝ }
+{
+    tally::leader(w, n as usize) as u8
+}
+
+// Keeps a view, and the own proof of it.
+fn keep_entered(rec: &mut [u8], id: u8, w: u32, proof: Reports)
+    requires { ⌜ (length (now rec) ≡ recordSize) × (id < 64) ⌝ }
+    ensures { λ _. ⌜ Holds (now (rec .exit)) (keepFrame (withView (decodeRecord (now (rec .entry))) w) id (told 8 id w proof)) ⌝ }
+{
+    layout::put_view(rec, w);
+    keeping::keep_told(rec, id, numbers::PROOF, w, proof);
+}
+
+// To enter a view, with the own reports as they are before it: the suggest is kept where the vault leads the view, and sent elsewhere.
+fn tell_in(rec: &mut [u8], set: Settings, w: u32, proof: Reports, suggest: Reports) -> Entries
+    requires { ⌜ Ready (now rec) × (set ≡ decodeRecord (now rec) .set) × OwnReports (decodeRecord (now rec)) (set .id) proof suggest ⌝ }
     ensures { λ e. ⌜ Did (taken (contentsIn (now (rec .entry))) (some (enter w))) (now (rec .exit)) e ⌝ }
 {
-    let proof = reports_of(rec, set.id, 2, 5);
-    let suggest = reports_of(rec, set.id, 3, 4);
     let millis = settings::timer_millis(set.class);
-    let to = tally::leader(w, wide(set.n)) as u8;
-    layout::put_view(rec, w);
-    keeping::keep_told(rec, set.id, 8, w, proof);
+    let to = leader_in(w, set.n);
+    keep_entered(rec, set.id, w, proof);
     let all = Frame {
-        kind: 8,
+        kind: numbers::PROOF,
         sender: set.id,
         view: w,
         body: Body::Told(proof),
     };
     if to == set.id {
-        keeping::keep_told(rec, set.id, 7, w, suggest);
+        keeping::keep_told(rec, set.id, numbers::SUGGEST, w, suggest);
         return Entries::Led(w, millis, all);
     }
     let one = Frame {
-        kind: 7,
+        kind: numbers::SUGGEST,
         sender: set.id,
         view: w,
         body: Body::Told(suggest),
     };
     Entries::Followed(w, millis, all, to, one)
+}
+
+// To enter a view.
+fn enter_in(rec: &mut [u8], set: Settings, w: u32) -> Entries
+    requires { ⌜ Ready (now rec) × (set ≡ decodeRecord (now rec) .set) ⌝ }
+    ensures { λ e. ⌜ Did (taken (contentsIn (now (rec .entry))) (some (enter w))) (now (rec .exit)) e ⌝ }
+{
+    let proof = reports_of(rec, set.id, numbers::VOTE_1, numbers::VOTE_4);
+    let suggest = reports_of(rec, set.id, numbers::VOTE_2, numbers::VOTE_3);
+    tell_in(rec, set, w, proof, suggest)
 }
 
 // The act of A or B.

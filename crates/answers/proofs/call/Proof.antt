@@ -1,13 +1,17 @@
--- `answers::call` meets its contract: each arm of the match is one kind, and an empty line is an empty frame.
+-- `answers::call` meets its contract: its two tests are those of the definition.
 -- Assumes nothing.
+use mathlib.Core.Path.{sym, _∙_}
 use denote.Ref.{now}
 use borrow.Author.Needs.{needs}
-use Rattle.answers.proofs.Calls.{emptyFrames, kindStarts, kindTimes, kindFrames}
+use Rattle.answers.proofs.Calls.{kindStarts, kindTimes, kindFrames}
 use Rattle.answers.proofs.call.Statement.{statement}
 use Rattle.answers.proofs.call.Tie as tie
 
-frame-requires : tie.Need-frame-requires
-frame-requires c κs = search needs
+is-kind-requires : tie.Need-is-kind-requires
+is-kind-requires c κs = search needs
+
+start-requires : tie.Need-start-requires
+start-requires c κs = search needs
 
 same-length : tie.Need-same-length
 same-length c = search needs
@@ -17,21 +21,16 @@ same-length-2 c = search needs
 
 returns : tie.Need-returns
 returns c =
-    let i = c .before .before .before .before .before .before .before in
-    let a = i .before .before .before .before .args in
-    emptyFrames (now (a .rec)) (now (a .out)) (now (a .bytes)) _ (i .if1 .taken) (c .before .before .before .before .frame .ensures)
+    let called = c .before .before .before .before in
+    let starts = called .before .before .before in
+    let a = starts .before .before .before .before .before .args in
+    kindStarts (now (a .rec)) (now (a .out)) (now (a .bytes)) _ (sym (starts .before .is-kind .ensures) ∙ starts .if1 .taken) (called .start .ensures)
 
-shared-slice-read-match : tie.Need-shared-slice-read-match
-shared-slice-read-match c = search needs
-
-start-requires : tie.Need-start-requires
-start-requires c κs = search needs
+is-kind-requires-2 : tie.Need-is-kind-requires-2
+is-kind-requires-2 c κs = search needs
 
 timer-requires : tie.Need-timer-requires
 timer-requires c κs = search needs
-
-frame-requires-2 : tie.Need-frame-requires-2
-frame-requires-2 c κs = search needs
 
 same-length-3 : tie.Need-same-length-3
 same-length-3 c = search needs
@@ -41,10 +40,15 @@ same-length-4 c = search needs
 
 returns-2 : tie.Need-returns-2
 returns-2 c =
-    let m = c .before .before .before .before .before .before .before in
-    let i = m .before .before in
-    let a = i .before .before .before .before .args in
-    kindStarts (now (a .rec)) (now (a .out)) (now (a .bytes)) _ (i .if1 .left) (m .match .keys1) (c .before .before .before .before .start .ensures)
+    let called = c .before .before .before .before in
+    let times = called .before .before .before in
+    let starts = times .before .before in
+    let a = starts .before .before .before .before .before .args in
+    kindTimes (now (a .rec)) (now (a .out)) (now (a .bytes)) _ (sym (starts .before .is-kind .ensures) ∙ starts .if1 .left)
+    (sym (times .before .is-kind2 .ensures) ∙ times .if2 .taken) (called .timer .ensures)
+
+frame-requires : tie.Need-frame-requires
+frame-requires c κs = search needs
 
 same-length-5 : tie.Need-same-length-5
 same-length-5 c = search needs
@@ -54,43 +58,28 @@ same-length-6 c = search needs
 
 returns-3 : tie.Need-returns-3
 returns-3 c =
-    let m = c .before .before .before .before .before .before .before in
-    let i = m .before .before in
-    let a = i .before .before .before .before .args in
-    kindTimes (now (a .rec)) (now (a .out)) (now (a .bytes)) _ (i .if1 .left) (m .match .keys2) (c .before .before .before .before .timer .ensures)
-
-same-length-7 : tie.Need-same-length-7
-same-length-7 c = search needs
-
-same-length-8 : tie.Need-same-length-8
-same-length-8 c = search needs
-
-returns-4 : tie.Need-returns-4
-returns-4 c =
-    let m = c .before .before .before .before .before .before .before in
-    let i = m .before .before in
-    let a = i .before .before .before .before .args in
-    kindFrames (now (a .rec)) (now (a .out)) (now (a .bytes)) _ (i .if1 .left) (m .match .rest .0 .1) (m .match .rest .1)
-    (c .before .before .before .before .frame2 .ensures)
+    let called = c .before .before .before .before in
+    let times = called .before .before .before in
+    let starts = times .before .before in
+    let a = starts .before .before .before .before .before .args in
+    kindFrames (now (a .rec)) (now (a .out)) (now (a .bytes)) _ (sym (starts .before .is-kind .ensures) ∙ starts .if1 .left)
+    (sym (times .before .is-kind2 .ensures) ∙ times .if2 .left) (called .frame .ensures)
 
 pub call-spec : {M : Type 1} → statement M
 call-spec =
     tie.close
     (tie.spec
-    frame-requires
+    is-kind-requires
+    start-requires
     same-length
     same-length-2
     returns
-    shared-slice-read-match
-    start-requires
+    is-kind-requires-2
     timer-requires
-    frame-requires-2
     same-length-3
     same-length-4
     returns-2
+    frame-requires
     same-length-5
     same-length-6
-    returns-3
-    same-length-7
-    same-length-8
-    returns-4)
+    returns-3)

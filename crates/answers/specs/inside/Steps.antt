@@ -11,7 +11,7 @@ use Rattle.contents.specs.Left.{Left}
 use Rattle.runs.specs.Runs.{recordIn}
 use Rattle.vault.specs.declared.Answer.{Answer}
 use Rattle.vault.specs.declared.Answer.the-variants.{Written, Refused}
-use Rattle.lines.specs.inside.Steps.{Shown}
+use Rattle.lines.specs.inside.Steps.{OnPage}
 use Rattle.answers.specs.Lines.{printed}
 
 -- 'a zeroed 256-byte output array'.
@@ -37,7 +37,7 @@ Printable (Written count) out = (count ≤ outputSize) × (length out ≡ output
 Printable (Refused number) out = Unit {0}
 
 -- What a call left, put on the page: the record's bytes afterwards, and what is printed.
-pub record Put (left : Left) (page : List ℕ) (at : ℕ) (rec′ page′ : List ℕ) (next : ℕ) : Type 0 where
+pub record AnswerPut (left : Left) (page : List ℕ) (at : ℕ) (rec′ page′ : List ℕ) (next : ℕ) : Type 0 where
   pub kept : rec′ ≡ recordIn left
-  pub lines : Shown (printed left) page at page′ next
+  pub lines : OnPage (printed left) page at page′ next
   pub short : next ≤ at + answerSize

@@ -1,20 +1,14 @@
 -- `explain::feed` meets its contract: a line's text stays within what is kept of it, and the place within the piece.
 -- The measure is what is left of the piece.
 -- Assumes nothing.
-use Prim.Native.Nat.{ℕ, _+_, _≤_, _-_}
+use Prim.Native.Nat.{_≤_, _-_}
 use mathlib.Core.Path.{_≡_, refl, _∙_}
-use mathlib.Core.List.{List}
 use native.Mathlib.Omega.{arith}
 use denote.Ref.{now}
-use lib.ListN.{length, drop, length-drop}
-use Rattle.lines.specs.inside.Lines.{firstLine}
-use Rattle.lines.proofs.Lines.{firstShort}
+use lib.ListN.{length}
+use Rattle.lines.proofs.Lines.{endWithin}
 use Rattle.explain.proofs.feed.Statement.{statement}
 use Rattle.explain.proofs.feed.Tie as tie
-
--- A line ends within its piece.
-endWithin : (piece : List ℕ) (i end : ℕ) → i ≤ length piece → end ≡ i + length (firstLine (drop i piece)) → end ≤ length piece
-endWithin piece i end within is = omega (arith, firstShort (drop i piece), length-drop i piece)
 
 abbrev Inv-loop : tie.InvT-loop
 Inv-loop text₀ piece len₀ given₀ i₀ text len given i =
@@ -36,8 +30,9 @@ same-length c = omega arith
 
 returns : tie.Need-returns Inv-loop μ-loop
 returns c =
-    let t = c .before .before .before .take-line in
-    let l = c .before .before .before .before .before .before .loop in
+    let taken = c .before .before .before in
+    let t = taken .take-line in
+    let l = taken .before .before .before .loop in
     (omega (arith, t .ensures .0 .few, t .kept .0, l .inv .1), l .inv .3)
 
 sub-explain-line : tie.Need-sub-explain-line Inv-loop μ-loop
@@ -54,23 +49,25 @@ explain-line-requires c κs = omega arith
 
 add-i : tie.Need-add-i Inv-loop μ-loop
 add-i c =
-    let t = c .before .before .before .before .before .before .take-line in
-    let h = c .before .before .before .before .before .before .before .before .before in
-    let piece = now (h .before .before .before .before .args .piece) in
-    omega (arith, endWithin piece (h .loop .i) _ (h .loop .inv .4) (t .ensures .1), c .before .before .before .if1 .left)
+    let taken = c .before .before .before .before .before .before in
+    let head = taken .before .before .before in
+    let t = taken .take-line in
+    let piece = now (head .before .before .before .before .args .piece) in
+    omega (arith, endWithin piece (head .loop .i) _ (head .loop .inv .4) (t .ensures .1), c .before .before .before .if1 .left)
 
 loop-less : tie.Need-loop-less Inv-loop μ-loop
 loop-less c =
-    let t = c .before .before .before .before .before .before .take-line in
-    omega (arith, t .ensures .1, c .before .before .before .before .before .before .before .before .loop-test .taken)
+    let taken = c .before .before .before .before .before .before in
+    omega (arith, taken .take-line .ensures .1, taken .before .before .loop-test .taken)
 
 loop-again : tie.Need-loop-again Inv-loop μ-loop
 loop-again c =
     let r = c .explain-line in
-    let t = c .before .before .before .before .before .before .take-line in
-    let h = c .before .before .before .before .before .before .before .before .before in
-    let l = h .loop in
-    let piece = now (h .before .before .before .before .args .piece) in
+    let taken = c .before .before .before .before .before .before in
+    let head = taken .before .before .before in
+    let t = taken .take-line in
+    let l = head .loop in
+    let piece = now (head .before .before .before .before .args .piece) in
     let end = endWithin piece (l .i) _ (l .inv .4) (t .ensures .1) in
     (t .kept .0 ∙ l .inv .0, t .kept .0 ∙ l .inv .1, omega arith, r .ensures, omega (arith, end, c .before .before .before .if1 .left))
 

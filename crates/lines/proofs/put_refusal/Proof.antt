@@ -4,7 +4,7 @@ use mathlib.Core.List.{[], _∷_}
 use denote.Ref.{now}
 use borrow.Author.Needs.{needs}
 use Rattle.lines.specs.Digits.{lineOf}
-use Rattle.lines.specs.inside.Steps.{Shown}
+use Rattle.lines.specs.inside.Steps.{OnPage}
 use Rattle.lines.proofs.put_refusal.Statement.{statement}
 use Rattle.lines.proofs.put_refusal.Tie as tie
 
@@ -21,7 +21,7 @@ returns : tie.Need-returns
 returns c =
     let a = c .before .before .before .before .before .before .args in
     let p = c .before .before .put-line in
-    let shown : Shown (lineOf (253 ∷ a .number ∷ [])) (now (a .page)) (a .at) (p .last .0) (p .result) = p .ensures in
+    let shown : OnPage (lineOf (253 ∷ a .number ∷ [])) (now (a .page)) (a .at) (p .last .0) (p .result) = p .ensures in
     shown
 
 pub put-refusal-spec : {M : Type 1} → statement M

@@ -23,7 +23,7 @@ countOf (Count n) = n
 countOf Bad = 0
 
 -- Lines put on the page: it holds them from a place on and is otherwise as it was; where they end.
-pub record Shown (lines page : List ℕ) (at : ℕ) (page′ : List ℕ) (next : ℕ) : Type 0 where
+pub record OnPage (lines page : List ℕ) (at : ℕ) (page′ : List ℕ) (next : ℕ) : Type 0 where
   pub shown : page′ ≡ placed page at lines
   pub ends : next ≡ at + length lines
 
@@ -41,7 +41,7 @@ module _ {S : Type 0} (p : Program S) where
   -- A line answered: the state that it leaves, and what it prints, put on the page.
   pub record Answered (s : S) (text page : List ℕ) (at : ℕ) (s′ : S) (page′ : List ℕ) (next : ℕ) : Type 0 where
     pub left : s′ ≡ p .next s text
-    pub lines : Shown (p .says s text) page at page′ next
+    pub lines : OnPage (p .says s text) page at page′ next
 
   -- However the input is split: pages, state and line are those of the input as a whole.
   pub record ReadsAs (room : ℕ) (s : S) (input pages : List ℕ) (s′ : S) (line′ : List ℕ) : Type 0 where

@@ -7,7 +7,7 @@ use denote.Ref.{now}
 use lib.ListN.{length, take}
 use Rattle.answers.specs.Lines.{keptSize}
 use Rattle.pieces.specs.inside.Sizes.{pageSize}
-use Rattle.pieces.proofs.Whole.{FeedTo, feedNone, feedEnd, feedLine, feedDone, roomThere, endWithin}
+use Rattle.pieces.proofs.Whole.{FeedTo, feedNone, feedEnd, feedLine, feedDone, roomThere, lineWithin}
 use Rattle.pieces.proofs.feed.Statement.{statement}
 use Rattle.pieces.proofs.feed.Tie as tie
 
@@ -44,8 +44,9 @@ same-length-3 c = omega arith
 
 returns : tie.Need-returns Inv-loop μ-loop
 returns c =
-    let t = c .before .before .before .take-line in
-    let l = c .before .before .before .before .before .before .loop in
+    let taken = c .before .before .before in
+    let l = taken .before .before .before .loop in
+    let t = taken .take-line in
     feedEnd (l .inv .3) (l .inv .1) (l .inv .2) (t .kept .0) (t .ensures .0) (t .ensures .1) (c .if1 .taken)
 
 sub-answer-line : tie.Need-sub-answer-line Inv-loop μ-loop
@@ -59,33 +60,37 @@ part-answer-line-end c = c .before .before .before .before .before .take-line .e
 
 answer-line-requires : tie.Need-answer-line-requires Inv-loop μ-loop
 answer-line-requires c κs =
-    let t = c .before .before .before .before .before .before .before .take-line in
-    let l = c .before .before .before .before .before .before .before .before .before .before .loop in
+    let taken = c .before .before .before .before .before .before .before in
+    let l = taken .before .before .before .loop in
+    let t = taken .take-line in
     roomThere (l .inv .3) (l .inv .1) (l .inv .2) (t .kept .0) (t .ensures .0) (t .ensures .1)
 
 add-i : tie.Need-add-i Inv-loop μ-loop
 add-i c =
-    let e = c .before .before .before .before .before .before .before .before .before in
-    let t = e .before .before .before .take-line in
-    let l = e .before .before .before .before .before .before .loop in
-    let low = endWithin (l .inv .3) (l .inv .1) (l .inv .2) (t .kept .0) (t .ensures .0) (t .ensures .1) in
-    omega (arith, low, e .if1 .left)
+    let ended = c .before .before .before .before .before .before .before .before in
+    let l = ended .before .before .before .before .before .before .before .loop in
+    let t = ended .before .before .before .before .take-line in
+    let low = lineWithin (l .inv .3) (l .inv .1) (l .inv .2) (t .kept .0) (t .ensures .0) (t .ensures .1) in
+    omega (arith, low, ended .before .if1 .left)
 
 loop-less : tie.Need-loop-less Inv-loop μ-loop
 loop-less c =
-    let t = c .before .before .before .before .before .before .before .before .before .before .before .before in
-    omega (arith, t .take-line .ensures .1, t .before .before .loop-test .taken)
+    let answered = c .before .before .before .before in
+    let taken = answered .before .before .before .before .before .before .before .before in
+    omega (arith, taken .take-line .ensures .1, taken .before .before .loop-test .taken)
 
 loop-again : tie.Need-loop-again Inv-loop μ-loop
 loop-again c =
-    let r = c .before .before .before .before .answer-line in
-    let e = c .before .before .before .before .before .before .before .before .before in
-    let t = e .before .before .before .take-line in
-    let l = e .before .before .before .before .before .before .loop in (
+    let answered = c .before .before .before .before in
+    let branch = answered .before .before .before .before .before in
+    let taken = branch .before .before .before in
+    let l = taken .before .before .before .loop in
+    let t = taken .take-line in
+    let r = answered .answer-line in (
       r .kept .0 ∙ l .inv .0,
       t .kept .0 ∙ l .inv .1,
       r .kept .1 .1 .0 ∙ l .inv .2,
-      feedLine (l .inv .3) (l .inv .1) (l .inv .2) (t .kept .0) (t .ensures .0) (t .ensures .1) (e .if1 .left)
+      feedLine (l .inv .3) (l .inv .1) (l .inv .2) (t .kept .0) (t .ensures .0) (t .ensures .1) (branch .if1 .left)
           (r .last .0) (r .last .1 .1 .0) (r .result) (r .ensures .0) (r .ensures .1),
     )
 

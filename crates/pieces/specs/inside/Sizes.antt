@@ -4,6 +4,7 @@ use Prim.Native.Nat.{ℕ, _+_, _*_}
 use Rattle.answers.specs.Lines.{keptSize}
 use Rattle.answers.specs.inside.Steps.{answerSize, lineShare}
 
+-- The bytes that are read at once.
 abbrev pub pieceSize : ℕ
 pieceSize = 4096
 

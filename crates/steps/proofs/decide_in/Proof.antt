@@ -5,6 +5,9 @@ use borrow.Author.Needs.{needs}
 use Rattle.steps.proofs.decide_in.Statement.{statement}
 use Rattle.steps.proofs.decide_in.Tie as tie
 
+present-requires : tie.Need-present-requires
+present-requires c κs = search needs
+
 put-slot-requires : tie.Need-put-slot-requires
 put-slot-requires c κs = search needs
 
@@ -13,8 +16,9 @@ same-length c = search needs
 
 returns : tie.Need-returns
 returns c =
-    let s = c .before .before .before .before .before in
-    didDecide _ (s .pre .0) (s .pre .1) (c .before .before .put-slot .ensures)
+    let put = c .before .before in
+    let s = put .before .before .before .before in
+    didDecide _ (s .pre .0) (s .pre .1) (put .before .before .present .ensures) (put .put-slot .ensures)
 
 pub decide-in-spec : {M : Type 1} → statement M
-decide-in-spec = tie.close (tie.spec put-slot-requires same-length returns)
+decide-in-spec = tie.close (tie.spec present-requires put-slot-requires same-length returns)

@@ -9,7 +9,8 @@ use Rattle.frame.specs.declared.Report.{Report}
 use Rattle.frame.specs.declared.Reports.{Reports}
 use Rattle.entry.specs.declared.Entry.{Entry}
 use Rattle.entry.specs.declared.Entry.the-variants.{ForAll, ForOne, Timer, Decision}
-use Rattle.record.specs.Slots.{frameSlot, previousSlot}
+use Rattle.record.specs.Slots as slots
+use Rattle.record.specs.Slots.{frameSlot, previousSlot, slotOf}
 use Rattle.layout.specs.Size.{recordSize}
 use Rattle.layout.specs.Layout.{decodeRecord}
 use Rattle.protocol.specs.Pass.{Act, ask, enter, cast, decide, Out}
@@ -48,6 +49,11 @@ OfPlan (some (decide p)) = Unit {0}
 abbrev pub ownReports : (ℕ → Report) → ℕ → ℕ → ℕ → Reports
 ownReports slots id claim lock =
     record { highest = slots (frameSlot claim id); previous = slots (previousSlot claim); lock = slots (frameSlot lock id) }
+
+-- Reports that are those of the own proof ('highest vote-1, previous vote-1, highest vote-4') and of the own suggest.
+pub record OwnReports (r : slots.Record) (id : ℕ) (proof suggest : Reports) : Type 0 where
+  pub proofs : proof ≡ ownReports (slotOf r) id 2 5
+  pub suggests : suggest ≡ ownReports (slotOf r) id 3 4
 
 -- An act is done: the record's bytes hold what it leaves, and the entries are those that it writes.
 pub record Did (o : Out) (rec : List ℕ) (e : Entries) : Type 0 where

@@ -73,18 +73,19 @@ part-feed-end c = search needs
 
 feed-requires : tie.Need-feed-requires Inv-loop μ-loop
 feed-requires c κs =
-    let atCount = c .before .before .before .before .before in
-    let atRead = atCount .before .before .before .before .before in
-    let atLoop = atRead .before .before .before in
-    let r = atRead .read in
-    let l = atLoop .loop in
-    (l .inv .1, l .inv .4 .0, l .inv .2, pieceSmall (r .last .1 .0) (atCount .count .result - 0) (r .kept .1 .0 ∙ l .inv .3))
+    let counted = c .before .before .before .before .before in
+    let got = counted .before .before .before .before .before in
+    let r = got .read in
+    let l = got .before .before .before .loop in
+    (l .inv .1, l .inv .4 .0, l .inv .2, pieceSmall (r .last .1 .0) (counted .count .result - 0) (r .kept .1 .0 ∙ l .inv .3))
 
 flush-requires : tie.Need-flush-requires Inv-loop μ-loop
 flush-requires c κs =
-    let g = c .before .before .before .before .before .before .before in
-    let f = g .feed in
-    let l = g .before .before .before .before .before .before .before .before .before .before .before .before .before .before .loop in
+    let fed = c .before .before .before .before .before .before .before in
+    let counted = fed .before .before .before .before .before .before in
+    let got = counted .before .before .before .before .before in
+    let f = fed .feed in
+    let l = got .before .before .before .loop in
     omega (arith, f .ensures .1 .1, f .kept .1 .1 .1 .0, l .inv .2)
 
 sub-turns : tie.Need-sub-turns Inv-loop μ-loop
@@ -95,10 +96,12 @@ loop-less c = omega arith
 
 loop-again : tie.Need-loop-again Inv-loop μ-loop
 loop-again c =
-    let g = c .before .before .before .before .before .before .before .before in
-    let f = g .feed in
-    let r = g .before .before .before .before .before .before .before .before .before .before .before .read in
-    let l = g .before .before .before .before .before .before .before .before .before .before .before .before .before .before .loop in (
+    let fed = c .before .before .before .before .before .before .before .before in
+    let counted = fed .before .before .before .before .before .before in
+    let got = counted .before .before .before .before .before in
+    let f = fed .feed in
+    let r = got .read in
+    let l = got .before .before .before .loop in (
       f .kept .0 ∙ l .inv .0,
       f .kept .1 .0 ∙ l .inv .1,
       f .kept .1 .1 .1 .0 ∙ l .inv .2,

@@ -5,7 +5,7 @@ use mathlib.Core.Path.{_≡_, _∙_}
 use mathlib.Core.Logic.{_≢_}
 use Rattle.contents.specs.Contents.{contentsIn}
 use Rattle.acts.specs.inside.Acts.{actAt}
-use Rattle.steps.proofs.Steps.{fromE, isH, numbered, tookAs}
+use Rattle.steps.proofs.Steps.{fromE, isH, sameAct, tookAs}
 use Rattle.steps.proofs.Record.step_at.Statement.{statement}
 use Rattle.steps.proofs.Record.step_at.Tie as tie
 
@@ -17,50 +17,50 @@ step-a-requires : tie.Need-step-a-requires
 unfolding actAt
 step-a-requires c κs =
     let s = c .before in
-    (s .pre .0, s .pre .2 ∙ numbered (contentsIn (s .args .self .bytes)) (c .match .keys1))
+    (s .pre .0, s .pre .2 ∙ sameAct (contentsIn (s .args .self .bytes)) (c .match .keys1))
 
 step-b-requires : tie.Need-step-b-requires
 unfolding actAt
 step-b-requires c κs =
     let s = c .before in
-    (s .pre .0, s .pre .2 ∙ numbered (contentsIn (s .args .self .bytes)) (c .match .keys2))
+    (s .pre .0, s .pre .2 ∙ sameAct (contentsIn (s .args .self .bytes)) (c .match .keys2))
 
 step-c-requires : tie.Need-step-c-requires
 unfolding actAt
 step-c-requires c κs =
     let s = c .before in
-    (s .pre .0, s .pre .2 ∙ numbered (contentsIn (s .args .self .bytes)) (c .match .keys3))
+    (s .pre .0, s .pre .2 ∙ sameAct (contentsIn (s .args .self .bytes)) (c .match .keys3))
 
 step-d-requires : tie.Need-step-d-requires
 unfolding actAt
 step-d-requires c κs =
     let s = c .before in
-    (s .pre .0, s .pre .2 ∙ numbered (contentsIn (s .args .self .bytes)) (c .match .keys4))
+    (s .pre .0, s .pre .2 ∙ sameAct (contentsIn (s .args .self .bytes)) (c .match .keys4))
 
 step-e-requires : tie.Need-step-e-requires
 unfolding actAt
 step-e-requires c κs =
     let s = c .before in
-    (s .pre .0, s .pre .2 ∙ numbered (contentsIn (s .args .self .bytes)) (c .match .keys5))
+    (s .pre .0, s .pre .2 ∙ sameAct (contentsIn (s .args .self .bytes)) (c .match .keys5))
 
 step-f-requires : tie.Need-step-f-requires
 unfolding actAt
 step-f-requires c κs =
     let s = c .before in
-    (s .pre .0, s .pre .2 ∙ numbered (contentsIn (s .args .self .bytes)) (c .match .keys6))
+    (s .pre .0, s .pre .2 ∙ sameAct (contentsIn (s .args .self .bytes)) (c .match .keys6))
 
 step-g-requires : tie.Need-step-g-requires
 unfolding actAt
 step-g-requires c κs =
     let s = c .before in
-    (s .pre .0, s .pre .2 ∙ numbered (contentsIn (s .args .self .bytes)) (c .match .keys7))
+    (s .pre .0, s .pre .2 ∙ sameAct (contentsIn (s .args .self .bytes)) (c .match .keys7))
 
 step-h-requires : tie.Need-step-h-requires
 unfolding actAt
 step-h-requires c κs =
     let s = c .before in
     let is = last (s .args .k) (s .pre .1) (c .match .rest) in
-    (s .pre .0, s .pre .2 ∙ numbered (contentsIn (s .args .self .bytes)) (is))
+    (s .pre .0, s .pre .2 ∙ sameAct (contentsIn (s .args .self .bytes)) is)
 
 returns : tie.Need-returns
 returns c =
@@ -101,7 +101,7 @@ returns-8 : tie.Need-returns-8
 returns-8 c =
     let s = c .before .before in
     let is = last (s .args .k) (s .pre .1) (c .before .match .rest) in
-    tookAs (contentsIn (s .args .self .bytes)) (is) (c .step-h .ensures)
+    tookAs (contentsIn (s .args .self .bytes)) is (c .step-h .ensures)
 
 pub step-at-spec : {M : Type 1} → statement M
 step-at-spec =
