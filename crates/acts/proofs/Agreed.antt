@@ -10,22 +10,22 @@ use mathlib.Core.Option.{Option, none, some}
 use native.Mathlib.Omega.{arith}
 use lib.Dec.{leb, eqb}
 use borrow.Author.Tests.{eq-eqb, ne-eqb}
-use Rattle.quorum.specs.Sets.{equals, total}
-use Rattle.quorum.specs.Quorums.{isQuorum}
-use Rattle.quorum.proofs.Laws.{weighSame}
+use Rattle.rules.specs.Sets.{equals, total}
+use Rattle.rules.specs.Quorums.{isQuorum}
+use Rattle.rules.proofs.Quorums.{weighSame}
 use Rattle.rules.specs.Options.{isNone, holds}
 use Rattle.frame.specs.declared.Report.{Report}
 use Rattle.record.specs.Slots as slots
 use Rattle.record.specs.Slots.{frameSlot, decisionSlot, slotOf}
-use Rattle.layout.specs.Layout.{slotIn}
-use Rattle.agreement.proofs.Reports.{none≢some}
+use Rattle.record.specs.Layout.{slotIn}
+use Rattle.rules.proofs.Reports.{none≢some}
 use Rattle.protocol.specs.Record.{when, each, reported, planNow, sentNow}
 use Rattle.protocol.specs.Pass.{cast, decide, hasQuorum, agreed, actVote, actH}
 use Rattle.protocol.proofs.Agreed.{agreedIs}
 use Rattle.protocol.proofs.Tables.{eachNone, whenFalse}
 use Rattle.contents.specs.Contents.{contents}
 use Rattle.tally.specs.inside.Parts.{blockPart, blockPlace}
-use Rattle.tally.specs.inside.Votes.{voted, voteIn, votes, quorumFor, agreedIn}
+use Rattle.tally.specs.inside.Votes.{voted, voteInBlock, rowVotes, quorumFor, agreedIn}
 use Rattle.tally.proofs.Votes.{agreedWhere, agreedHas}
 use Rattle.acts.specs.inside.Lent.{Reads}
 use Rattle.acts.proofs.Kept.{planAt}
@@ -44,7 +44,7 @@ module _ (s : List ℕ) (r : slots.Record) (reads : Reads s r) where
   module _ (k from : ℕ) (low : k ≤ 4) (at : from ≡ blockPlace (frameSlot (k + 1) 0)) where
     -- The plans of these votes, by sender.
     abbrev ballots : ℕ → Option ℕ
-    ballots = votes (blockPart s) (r .view) from
+    ballots = rowVotes (blockPart s) (r .view) from
 
     -- Below n they are the plans that the record's contents say.
     ballotAt : (j : ℕ) → j < n → planNow (contents r) k j ≡ ballots j
@@ -79,11 +79,11 @@ module _ (s : List ℕ) (r : slots.Record) (reads : Reads s r) where
   -- ---- what was sent
 
   -- The own vote-k (0: proposal) in its slot is of this view just where one was sent in it.
-  pub sentSame : (k : ℕ) → k ≤ 4 → not (isNone (voteIn (blockPart s) (r .view) k (r .set .id))) ≡ sentNow (contents r) k
+  pub sentSame : (k : ℕ) → k ≤ 4 → not (isNone (voteInBlock (blockPart s) (r .view) k (r .set .id))) ≡ sentNow (contents r) k
   unfolding contents
   sentSame k low = ap (λ (o : Option ℕ). not (isNone o)) (sym (planAt s r reads k (r .set .id) low (omega (arith, reads .allows .most, reads .allows .own))))
 
-  module _ (k : ℕ) (low : k ≤ 3) (told : Bool) (sent : told ≡ not (isNone (voteIn (blockPart s) (r .view) (k + 1) (r .set .id)))) where
+  module _ (k : ℕ) (low : k ≤ 3) (told : Bool) (sent : told ≡ not (isNone (voteInBlock (blockPart s) (r .view) (k + 1) (r .set .id)))) where
     -- The same of the vote that the step would send.
     sentNext : told ≡ sentNow (contents r) (suc k)
     sentNext = let next : k + 1 ≡ suc k = omega arith in sent ∙ sentSame (k + 1) (omega arith) ∙ ap (sentNow (contents r)) next
@@ -95,7 +95,8 @@ module _ (s : List ℕ) (r : slots.Record) (reads : Reads s r) where
         (λ p e. whenFalse (not (sentNow (contents r) (suc k))) (some (cast (suc k) p)) (ap not (sym sentNext ∙ was))))
 
     -- 'A quorum of vote-1 (vote-2, vote-3) for this view and one plan: send vote-2 (vote-3, vote-4)'.
-    pub voteActs : told ≡ false → (from : ℕ) → from ≡ blockPlace (frameSlot (k + 1) 0) → (o : Option ℕ) → o ≡ agreedIn (votes (blockPart s) (r .view) from) n f
+    pub voteActs : told ≡ false → (from : ℕ) → from ≡ blockPlace (frameSlot (k + 1) 0) → (o : Option ℕ)
+        → o ≡ agreedIn (rowVotes (blockPart s) (r .view) from) n f
         → each o (λ p. some (cast (k + 1) p)) ≡ actVote (contents r) k
     voteActs unsent from at o e =
         let same : o ≡ agreed (contents r) k = e ∙ agreedSame k from (omega arith) at in
@@ -130,7 +131,7 @@ module _ (s : List ℕ) (r : slots.Record) (reads : Reads s r) where
 
   -- 'A quorum of vote-4 for this view and one plan: decide'.
   pub decides : decision .mark ≢ 1 → (from : ℕ) → from ≡ blockPlace (frameSlot 5 0) → (o : Option ℕ)
-      → o ≡ agreedIn (votes (blockPart s) (r .view) from) n f → each o (λ p. some (decide p)) ≡ actH (contents r)
+      → o ≡ agreedIn (rowVotes (blockPart s) (r .view) from) n f → each o (λ p. some (decide p)) ≡ actH (contents r)
   decides off from place o is =
       let same : o ≡ agreed (contents r) 4 = is ∙ agreedSame 4 from (omega arith) place in
       rw (undecided off, same)

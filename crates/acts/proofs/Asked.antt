@@ -11,10 +11,10 @@ use native.Mathlib.Omega.{arith}
 use native.Mathlib.Decide.{decLt}
 use lib.Dec.{leb, ltb, eqb}
 use borrow.Author.Tests.{eqb-true, leb-true, lt-ltb, le-ltb, le-leb, lt-leb}
-use Rattle.quorum.specs.Sets.{Set, weigh}
-use Rattle.quorum.specs.Quorums.{isQuorum, isBlocking}
-use Rattle.quorum.proofs.Bools.{bothSplit}
-use Rattle.quorum.proofs.Laws.{weighSame, totalEquals}
+use Rattle.rules.specs.Sets.{Set, weigh}
+use Rattle.rules.specs.Quorums.{isQuorum, isBlocking}
+use Rattle.rules.proofs.Bools.{bothSplit}
+use Rattle.rules.proofs.Quorums.{weighSame, totalEquals}
 use Rattle.rules.specs.Options.{holds}
 use Rattle.rules.proofs.Laws.{holdsWhere}
 use Rattle.record.specs.Slots as slots

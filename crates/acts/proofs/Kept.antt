@@ -18,19 +18,19 @@ use Rattle.frame.specs.Format.{within}
 use Rattle.frame.specs.Refusal.{present}
 use Rattle.record.specs.Slots as slots
 use Rattle.record.specs.Slots.{rows, frameSlot, reportSlot, slotOf}
-use Rattle.keeping.specs.Kept.{bodyIn, frameIn, keptIn}
-use Rattle.layout.specs.Layout.{slotIn}
+use Rattle.record.specs.Kept.{bodyIn, frameHeld, keptIn}
+use Rattle.record.specs.Layout.{slotIn}
 use Rattle.protocol.specs.Record.{when, each, reported, reportBy, changeOf, planNow}
 use Rattle.contents.specs.Contents.{contents}
 use Rattle.contents.proofs.Clean.{keptAt}
 use Rattle.contents.proofs.Acts.{voteAt}
 use Rattle.tally.specs.inside.Parts.{sharedPart, blockPart, blockPlace}
 use Rattle.tally.specs.inside.Changes.{asks, changeIn}
-use Rattle.tally.specs.inside.Votes.{voted, voteIn}
-use Rattle.tally.specs.inside.Reports.{aboveOf, voteBy, reportsBy, Filled}
+use Rattle.tally.specs.inside.Votes.{voted, voteInBlock}
+use Rattle.tally.specs.inside.Reports.{aboveOf, slotVote, reportsBy, Filled}
 use Rattle.tally.proofs.Reports.{filledSame, filledAll}
 use Rattle.acts.specs.inside.Lent.{Reads}
-use Rattle.acts.specs.inside.Proposals.{reportsIn}
+use Rattle.acts.specs.inside.Proposals.{reportsNow}
 
 -- An option that a test lets pass, as the slots have it.
 whenIs : {A : Type 0} (b : Bool) (x : A) → when b (some x) ≡ cond b (some x) none
@@ -51,7 +51,7 @@ votedBy v x = go (present x)
     go false = refl
 
 -- The vote that the table tells of a slot is the one that the slot reports.
-voteBack : (x : Report) → voteBy x ≡ reported x
+voteBack : (x : Report) → slotVote x ≡ reported x
 unfolding voteAbove aboveOf
 voteBack x = go (eqb (x .mark) 1)
   where
@@ -89,9 +89,9 @@ module _ (r : slots.Record) where
 
   -- A kind and a sender that a record has a slot for.
   frameAt : (kind j : ℕ) → 1 ≤ kind → kind ≤ 8 → j < rows
-      → contents r .kept kind j ≡ when (present (slotOf r (frameSlot kind j))) (some (frameIn (slotOf r) kind j))
+      → contents r .kept kind j ≡ when (present (slotOf r (frameSlot kind j))) (some (frameHeld (slotOf r) kind j))
   unfolding keptIn
-  frameAt kind j low high row = keptAt r kind j low high row ∙ sym (whenIs (present (slotOf r (frameSlot kind j))) (frameIn (slotOf r) kind j))
+  frameAt kind j low high row = keptAt r kind j low high row ∙ sym (whenIs (present (slotOf r (frameSlot kind j))) (frameHeld (slotOf r) kind j))
 
   -- The plan of a vote of this view, by contents, is the one in its slot.
   planSlot : (k j : ℕ) → k ≤ 4 → j < rows → planNow (contents r) k j ≡ voted (r .view) (slotOf r (frameSlot (suc k) j))
@@ -102,11 +102,11 @@ module _ (r : slots.Record) where
 
   -- The view for which a sender's view-change is, by contents, is the one in its slot.
   changeSlot : (j : ℕ) → j < rows → changeOf (contents r) j ≡ asks (slotOf r (frameSlot 6 j))
-  unfolding contents frameIn asks
+  unfolding contents frameHeld asks
   changeSlot j row =
       ap (λ (o : Option Frame). each o (λ f. some (f .view))) (frameAt 6 j (omega arith) (omega arith) row) ∙ go (present (slotOf r (frameSlot 6 j)))
     where
-      go : (b : Bool) → each (when b (some (frameIn (slotOf r) 6 j))) (λ f. some (f .view)) ≡ cond b (some (slotOf r (frameSlot 6 j) .view)) none
+      go : (b : Bool) → each (when b (some (frameHeld (slotOf r) 6 j))) (λ f. some (f .view)) ≡ cond b (some (slotOf r (frameSlot 6 j) .view)) none
       go true = refl
       go false = refl
 
@@ -114,16 +114,16 @@ module _ (r : slots.Record) where
   reportSlots : (kind j : ℕ) → 7 ≤ kind → kind ≤ 8 → j < rows
       → each (contents r .kept kind j) (λ f. when (eqb (f .view) (r .view)) (reportBy (f .body)))
       ≡ cond (present (slotOf r (frameSlot kind j)) && eqb (slotOf r (frameSlot kind j) .view) (r .view)) (some (three kind j)) none
-  unfolding frameIn
+  unfolding frameHeld
   reportSlots kind j low high row =
       ap (λ (o : Option Frame). each o (λ f. when (eqb (f .view) (r .view)) (reportBy (f .body)))) (frameAt kind j (omega arith) high row)
-      ∙ reportRead (slotOf r (frameSlot kind j)) (frameIn (slotOf r) kind j) (r .view) (three kind j) refl (toldBody kind j low)
+      ∙ reportRead (slotOf r (frameSlot kind j)) (frameHeld (slotOf r) kind j) (r .view) (three kind j) refl (toldBody kind j low)
 
 -- ---- in the parts that are lent
 
 module _ (s : List ℕ) (r : slots.Record) (reads : Reads s r) where
   -- The plan of sender j's vote-k (0: proposal) of the current view.
-  pub planAt : (k j : ℕ) → k ≤ 4 → j < rows → planNow (contents r) k j ≡ voteIn (blockPart s) (r .view) k j
+  pub planAt : (k j : ℕ) → k ≤ 4 → j < rows → planNow (contents r) k j ≡ voteInBlock (blockPart s) (r .view) k j
   planAt k j low row =
       let next : suc k ≡ k + 1 = omega arith in
       planSlot r k j low row
@@ -142,7 +142,7 @@ module _ (s : List ℕ) (r : slots.Record) (reads : Reads s r) where
   unfolding reportsBy
   reportAt kind j low high row =
       let head = reads .block (frameSlot kind j) (omega arith) (omega arith) in
-      let told : (w : ℕ) → w < 3 → reported (slotOf r (reportSlot kind w j)) ≡ voteBy (slotIn (blockPart s) (blockPlace (reportSlot kind w j))) = λ w less.
+      let told : (w : ℕ) → w < 3 → reported (slotOf r (reportSlot kind w j)) ≡ slotVote (slotIn (blockPart s) (blockPlace (reportSlot kind w j))) = λ w less.
       ap reported (reads .block (reportSlot kind w j) (omega arith) (omega arith)) ∙ sym (voteBack (slotIn (blockPart s) (blockPlace (reportSlot kind w j)))) in
       sym (reportSlots r kind j low high row ∙ (λ i. cond (present (head i) && eqb (head i .view) (r .view)) (some (record {
         highest = told 0 (omega arith) i;
@@ -164,10 +164,10 @@ module _ (s : List ℕ) (r : slots.Record) (reads : Reads s r) where
 
   -- The table that is gathered has the reports kept.
   pub tableIs : (kind : ℕ) → 7 ≤ kind → kind ≤ 8 → (t : List ℕ) → Filled (reportsBy (blockPart s) kind (r .view)) (r .set .n) t
-      → reportsInTable t ≡ reportsIn (contents r) kind
+      → reportsInTable t ≡ reportsNow (contents r) kind
   unfolding contents
   tableIs kind low high t f =
-      filledAll (reportsIn (contents r) kind) (r .set .n) t (reads .allows .most)
-      (filledSame (reportsBy (blockPart s) kind (r .view)) (reportsIn (contents r) kind) (r .set .n) t
+      filledAll (reportsNow (contents r) kind) (r .set .n) t (reads .allows .most)
+      (filledSame (reportsBy (blockPart s) kind (r .view)) (reportsNow (contents r) kind) (r .set .n) t
       (λ j below. reportAt kind j low high (omega (arith, reads .allows .most))) f)
       (λ j over. noneFrom kind j over)

@@ -9,15 +9,15 @@ use lib.ListN.{length, drop, length-take, length-drop}
 use Rattle.settings.specs.declared.Settings.{Settings}
 use Rattle.settings.specs.inside.Allowed.{Allowed}
 use Rattle.record.specs.Slots.{rows, slotCount, slotOf}
-use Rattle.layout.specs.Layout.{sharedSize, partPlace, slotIn, decodeRecord}
-use Rattle.layout.specs.inside.Layout.{blockSize}
-use Rattle.layout.proofs.Laws.{placeShared, placeBlock, slotThere, slotPart}
+use Rattle.record.specs.Layout.{sharedSize, partPlace, slotIn, decodeRecord}
+use Rattle.record.specs.inside.Layout.{blockSize}
+use Rattle.record.proofs.Laws.{placeShared, placeBlock, slotThere, slotPart}
 use Rattle.protocol.specs.Sound.{Sound}
 use Rattle.contents.specs.Contents.{contents, contentsIn}
 use Rattle.contents.specs.inside.Ready.{Ready}
 use Rattle.contents.proofs.Ready.{readyAllowed}
 use Rattle.tally.specs.inside.Parts.{sharedPart, blockPart, blockPlace}
-use Rattle.acts.specs.inside.Lent.{Lent}
+use Rattle.acts.specs.inside.Lent.{LentRecord}
 
 -- ---- the slots of a record
 
@@ -43,7 +43,7 @@ module _ (s : List ℕ) (ready : Ready s) where
   blockLength = length-take blockSize (drop sharedSize s) ∙ omega (arith, length-drop sharedSize s, ready .size)
 
 -- Ready bytes are lent so: the slots can be read in the two parts, and the record is sound.
-pub lent : (s : List ℕ) (set : Settings) (view : ℕ) → Ready s → set ≡ decodeRecord s .set → view ≡ decodeRecord s .view → Lent s set view
+pub lent : (s : List ℕ) (set : Settings) (view : ℕ) → Ready s → set ≡ decodeRecord s .set → view ≡ decodeRecord s .view → LentRecord s set view
 unfolding decodeRecord
 lent s set view ready isSet isView = record {
   allows = subst Allowed (sym isSet) (readyAllowed ready);

@@ -14,13 +14,13 @@ use Rattle.rules.specs.Options.{isNone}
 use Rattle.frame.specs.Refusal.{leaderOf}
 use Rattle.record.specs.Slots as slots
 use Rattle.record.specs.Slots.{frameSlot}
-use Rattle.layout.specs.Layout.{slotIn}
+use Rattle.record.specs.Layout.{slotIn}
 use Rattle.protocol.specs.Record.{Record, when, each, leader, leads, planNow, sentNow}
 use Rattle.protocol.specs.Pass.{cast, mayPropose, approves, actC, actD}
 use Rattle.protocol.proofs.Tables.{eachNone, whenFalse}
 use Rattle.contents.specs.Contents.{contents}
 use Rattle.tally.specs.inside.Parts.{blockPart, blockPlace}
-use Rattle.tally.specs.inside.Votes.{voted, voteIn}
+use Rattle.tally.specs.inside.Votes.{voted, voteInBlock}
 use Rattle.tally.proofs.Votes.{votedPlan, toldNone}
 use Rattle.acts.specs.inside.Proposals.{proposalOf, approvedBy, safePlan}
 use Rattle.acts.specs.inside.Lent.{Reads}
@@ -45,7 +45,8 @@ module _ (s : List ℕ) (r : slots.Record) (reads : Reads s r) where
         rw other
 
     -- It leads: it may propose where no proposal of this view was sent.
-    pub leadsOwn : l ≡ r .set .id → (told : Bool) → told ≡ not (isNone (voteIn (blockPart s) (r .view) 0 (r .set .id))) → not told ≡ mayPropose (contents r)
+    pub leadsOwn : l ≡ r .set .id → (told : Bool) → told ≡ not (isNone (voteInBlock (blockPart s) (r .view) 0 (r .set .id)))
+        → not told ≡ mayPropose (contents r)
     leadsOwn own told sent =
         let led : leads (contents r) (contents r .view) ≡ true = leadsSame ∙ eq-eqb l (r .set .id) own in
         let same : told ≡ sentNow (contents r) 0 = sent ∙ sentSame s r reads 0 (omega arith) in
@@ -54,7 +55,7 @@ module _ (s : List ℕ) (r : slots.Record) (reads : Reads s r) where
   -- ---- D
 
   -- 'If vote-1 was not sent in this view'.
-  module _ (told : Bool) (sent : told ≡ not (isNone (voteIn (blockPart s) (r .view) 1 (r .set .id)))) where
+  module _ (told : Bool) (sent : told ≡ not (isNone (voteInBlock (blockPart s) (r .view) 1 (r .set .id)))) where
     -- What the slot tells of the own vote-1 is what was sent in this view.
     votedIs : told ≡ sentNow (contents r) 1
     votedIs = sent ∙ sentSame s r reads 1 (omega arith)

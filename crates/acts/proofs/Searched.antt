@@ -9,19 +9,19 @@ use mathlib.Core.List.{List}
 use mathlib.Core.Option.{none, some}
 use lib.Dec.{eqb}
 use borrow.Author.Tests.{eq-eqb, ne-eqb}
-use Rattle.quorum.specs.Sets.{Vaults}
+use Rattle.rules.specs.Sets.{Vaults}
 use Rattle.rules.specs.Rules.{Reports, Rule, rule3}
 use Rattle.rules.specs.inside.Counts.{safe, choice}
 use Rattle.claims.specs.Table.{reportsInTable}
 use Rattle.settings.specs.Vaults.{vaultsOf}
 use Rattle.record.specs.Slots as slots
-use Rattle.layout.specs.Layout.{decodeRecord}
+use Rattle.record.specs.Layout.{decodeRecord}
 use Rattle.protocol.specs.Record.{Record}
 use Rattle.contents.specs.Contents.{contents, contentsIn}
 use Rattle.tally.specs.inside.Parts.{blockPart}
 use Rattle.tally.specs.inside.Reports.{reportsBy, Filled}
 use Rattle.acts.specs.inside.Lent.{Reads}
-use Rattle.acts.specs.inside.Proposals.{proposalOf, approvedBy, reportsIn, safePlan}
+use Rattle.acts.specs.inside.Proposals.{proposalOf, approvedBy, reportsNow, safePlan}
 use Rattle.acts.proofs.Kept.{tableIs}
 
 -- In view 0 every plan is safe, whatever the reports.
@@ -50,8 +50,8 @@ module _ (s : List ℕ) (r : slots.Record) (reads : Reads s r) (kind p : ℕ) wh
 
       go : some p ≡ safePlan (contents r) kind p
       go =
-          rw (choiceFirst (vaultsOf (r .set)) (reportsIn (contents r) kind) (r .view) p e)
-          (rw (safeFirst rule3 (vaultsOf (r .set)) (reportsIn (contents r) kind) (r .view) p e) (both (eqb kind 7)))
+          rw (choiceFirst (vaultsOf (r .set)) (reportsNow (contents r) kind) (r .view) p e)
+          (rw (safeFirst rule3 (vaultsOf (r .set)) (reportsNow (contents r) kind) (r .view) p e) (both (eqb kind 7)))
 
   module _ (low : 7 ≤ kind) (high : kind ≤ 8) (t : List ℕ) (table : Filled (reportsBy (blockPart s) kind (r .view)) (r .set .n) t) where
     -- By suggests, it is what the search chooses.
@@ -68,7 +68,7 @@ module _ (s : List ℕ) (r : slots.Record) (reads : Reads s r) (kind p : ℕ) wh
     unfolding contents safePlan
     plannedThree off b is = go ∙ spells
       where
-        told : b ≡ safe rule3 (vaultsOf (r .set)) (reportsIn (contents r) kind) (r .view) p
+        told : b ≡ safe rule3 (vaultsOf (r .set)) (reportsNow (contents r) kind) (r .view) p
         told = is ∙ ap (λ (rs : Reports). safe rule3 (vaultsOf (r .set)) rs (r .view) p) (tableIs s r reads kind low high t table)
 
         go : cond b (some p) none ≡ safePlan (contents r) kind p
@@ -77,7 +77,7 @@ module _ (s : List ℕ) (r : slots.Record) (reads : Reads s r) (kind p : ℕ) wh
 -- By suggests, with the starting plan as p, it is C's plan.
 pub planOne : (s : List ℕ) (start : ℕ) → start ≡ decodeRecord s .plan → safePlan (contentsIn s) 7 start ≡ proposalOf (contentsIn s)
 unfolding contents safePlan
-planOne s start e = ap (choice (vaultsOf (decodeRecord s .set)) (reportsIn (contentsIn s) 7) (decodeRecord s .view)) e
+planOne s start e = ap (choice (vaultsOf (decodeRecord s .set)) (reportsNow (contentsIn s) 7) (decodeRecord s .view)) e
 
 -- By proofs it is the plan that D asks for, where that is safe.
 pub planThree : (c : Record) (p : ℕ) → safePlan c 8 p ≡ cond (approvedBy c p) (some p) none

@@ -5,13 +5,13 @@ use safe::Choice;
 use settings::Settings;
 ghost use Prim.Native.Nat.{_≤_, _<_};
 ghost use mathlib.Core.Path.{_≡_};
-ghost use Rattle.layout.specs.Layout.{decodeRecord};
+ghost use Rattle.record.specs.Layout.{decodeRecord};
 ghost use Rattle.safe.specs.Choices.{chosen};
 ghost use Rattle.protocol.specs.Pass.{mayPropose, actA, actB, actC, actD, actVote, actH};
 ghost use Rattle.contents.specs.Contents.{contentsIn};
 ghost use Rattle.contents.specs.inside.Ready.{Ready};
 ghost use Rattle.acts.specs.inside.Acts.{asAct, actAt};
-ghost use Rattle.acts.specs.inside.Lent.{Lent};
+ghost use Rattle.acts.specs.inside.Lent.{LentRecord};
 ghost use Rattle.acts.specs.inside.Proposals.{safePlan};
 
 // What a step does: ask for a view, enter it, send a vote (0: a proposal) for a plan, decide a plan, or nothing.
@@ -27,13 +27,13 @@ pub enum Act {
 
 // Step A.
 fn act_a(rec: &[u8], set: Settings, view: u32) -> Act
-    requires { ⌜ Lent (now rec) set view ⌝ }
+    requires { ⌜ LentRecord (now rec) set view ⌝ }
     ensures { λ r. ⌜ asAct r ≡ actA (contentsIn (now (rec .entry))) ⌝ }
 {
-    let shared = &rec[0..layout::SHARED];
+    let shared = &rec[0..record::SHARED];
     let low = tally::change_above(
         shared,
-        layout::HEAD + layout::SLOT * (set.id as usize),
+        record::HEAD + record::SLOT * (set.id as usize),
         view,
     );
     let w = tally::highest_change(shared, set.n as usize, (set.f as usize) + 1, low);
@@ -45,11 +45,11 @@ fn act_a(rec: &[u8], set: Settings, view: u32) -> Act
 
 // Step B.
 fn act_b(rec: &[u8], set: Settings, view: u32) -> Act
-    requires { ⌜ Lent (now rec) set view ⌝ }
+    requires { ⌜ LentRecord (now rec) set view ⌝ }
     ensures { λ r. ⌜ asAct r ≡ actB (contentsIn (now (rec .entry))) ⌝ }
 {
     let n = set.n as usize;
-    let w = tally::highest_change(&rec[0..layout::SHARED], n, n - (set.f as usize), view);
+    let w = tally::highest_change(&rec[0..record::SHARED], n, n - (set.f as usize), view);
     if view < w {
         return Act::Enter(w);
     }
@@ -60,25 +60,25 @@ fn act_b(rec: &[u8], set: Settings, view: u32) -> Act
 
 // Whether the vault leads this view, and has not proposed in it.
 fn may_propose(rec: &[u8], set: Settings, view: u32) -> bool
-    requires { ⌜ Lent (now rec) set view ⌝ }
+    requires { ⌜ LentRecord (now rec) set view ⌝ }
     ensures { λ b. ⌜ b ≡ mayPropose (contentsIn (now (rec .entry))) ⌝ }
 {
     if tally::leader(view, set.n as usize) != set.id as usize {
         return false;
     }
-    !tally::sent(&rec[layout::SHARED..layout::SIZE], 0, set.id, view)
+    !tally::sent(&rec[record::SHARED..record::SIZE], 0, set.id, view)
 }
 
 // What is safe by the reports kept of this view. In suggests (kind 7), for C: p, else the smallest safe plan. In proofs (kind 8), for D: p.
 // In view 0 every plan is safe, and no report is read.
 fn safe_plan(rec: &[u8], set: Settings, view: u32, kind: u8, p: u64) -> Choice
-    requires { ⌜ Lent (now rec) set view × (7 ≤ kind) × (kind ≤ 8) ⌝ }
+    requires { ⌜ LentRecord (now rec) set view × (7 ≤ kind) × (kind ≤ 8) ⌝ }
     ensures { λ c. ⌜ chosen c ≡ safePlan (contentsIn (now (rec .entry))) kind p ⌝ }
 {
     if view == 0 {
         return Choice::Plan(p);
     }
-    let table = tally::gather(&rec[layout::SHARED..layout::SIZE], kind, set.n, view);
+    let table = tally::gather(&rec[record::SHARED..record::SIZE], kind, set.n, view);
     if kind == numbers::SUGGEST {
         return safe::choose(&table, set, view, p);
     }
@@ -90,11 +90,11 @@ fn safe_plan(rec: &[u8], set: Settings, view: u32, kind: u8, p: u64) -> Choice
 
 // Step C.
 fn act_c(rec: &[u8], set: Settings, view: u32) -> Act
-    requires { ⌜ Lent (now rec) set view ⌝ }
+    requires { ⌜ LentRecord (now rec) set view ⌝ }
     ensures { λ r. ⌜ asAct r ≡ actC (contentsIn (now (rec .entry))) ⌝ }
 {
     if may_propose(rec, set, view) {
-        let choice = safe_plan(rec, set, view, numbers::SUGGEST, layout::plan_of(rec));
+        let choice = safe_plan(rec, set, view, numbers::SUGGEST, record::plan_of(rec));
         let Choice::Plan(p) = choice else {
             return Act::Nothing;
         };
@@ -105,16 +105,16 @@ fn act_c(rec: &[u8], set: Settings, view: u32) -> Act
 
 // Step D.
 fn act_d(rec: &[u8], set: Settings, view: u32) -> Act
-    requires { ⌜ Lent (now rec) set view ⌝ }
+    requires { ⌜ LentRecord (now rec) set view ⌝ }
     ensures { λ r. ⌜ asAct r ≡ actD (contentsIn (now (rec .entry))) ⌝ }
 {
-    let block = &rec[layout::SHARED..layout::SIZE];
+    let block = &rec[record::SHARED..record::SIZE];
     if tally::sent(block, 1, set.id, view) {
         return Act::Nothing;
     }
     let at = tally::vote_place(0, tally::leader(view, set.n as usize) as u8);
     if tally::is_of_view(block, at, view) {
-        let choice = safe_plan(rec, set, view, numbers::PROOF, layout::plan_at(block, at));
+        let choice = safe_plan(rec, set, view, numbers::PROOF, record::plan_at(block, at));
         let Choice::Plan(p) = choice else {
             return Act::Nothing;
         };
@@ -127,10 +127,10 @@ fn act_d(rec: &[u8], set: Settings, view: u32) -> Act
 
 // Steps E, F, G for k = 1, 2, 3.
 fn act_vote(rec: &[u8], set: Settings, view: u32, k: u8) -> Act
-    requires { ⌜ Lent (now rec) set view × (1 ≤ k) × (k ≤ 3) ⌝ }
+    requires { ⌜ LentRecord (now rec) set view × (1 ≤ k) × (k ≤ 3) ⌝ }
     ensures { λ r. ⌜ asAct r ≡ actVote (contentsIn (now (rec .entry))) k ⌝ }
 {
-    let block = &rec[layout::SHARED..layout::SIZE];
+    let block = &rec[record::SHARED..record::SIZE];
     if tally::sent(block, k + 1, set.id, view) {
         return Act::Nothing;
     }
@@ -141,14 +141,14 @@ fn act_vote(rec: &[u8], set: Settings, view: u32, k: u8) -> Act
 }
 
 // Where the decision's mark stands in the block.
-const DECIDED: usize = layout::HEAD + layout::SLOT * (layout::DECISION - layout::ROWS);
+const DECIDED: usize = record::HEAD + record::SLOT * (record::DECISION - record::ROWS);
 
 // Step H.
 fn act_h(rec: &[u8], set: Settings, view: u32) -> Act
-    requires { ⌜ Lent (now rec) set view ⌝ }
+    requires { ⌜ LentRecord (now rec) set view ⌝ }
     ensures { λ r. ⌜ asAct r ≡ actH (contentsIn (now (rec .entry))) ⌝ }
 {
-    let block = &rec[layout::SHARED..layout::SIZE];
+    let block = &rec[record::SHARED..record::SIZE];
     if block[DECIDED] == numbers::PRESENT {
         return Act::Nothing;
     }

@@ -1,10 +1,10 @@
 -- Laws of a line's answer. Whatever call a line makes, the bytes that it writes are entries end to end (`callWell`), so they can be printed;
 -- what is printed of an answer is what is printed of what the call leaves, and has room.
 -- Assumes nothing.
-use Prim.Native.Nat.{ℕ, suc, _+_, _*_, _-_, _≤_, _<_}
+use Prim.Native.Nat.{ℕ, _+_, _*_, _-_, _≤_, _<_}
 use mathlib.Core.Path.{_≡_, refl, sym, ap, subst, _∙_}
 use mathlib.Core.List.{List, [], _∷_}
-use mathlib.Core.Option.{Option, some}
+use mathlib.Core.Option.{some}
 use native.Mathlib.Decide.{decLe}
 use native.Mathlib.Omega.{arith}
 use lib.ListN.{length, take, length-replicate}
@@ -19,12 +19,12 @@ use Rattle.vault.specs.declared.Answer.the-variants.{Written, Refused}
 use Rattle.vault.specs.Answers.{leftBy}
 use Rattle.lines.specs.declared.Spelling.{Spelling}
 use Rattle.lines.specs.declared.Spelling.the-variants.{Count, Bad}
-use Rattle.lines.specs.Digits.{lineOf, refusalLine, bytesOf}
-use Rattle.lines.specs.inside.Steps.{spells, countOf, OnPage, Enough, Answered}
+use Rattle.lines.specs.Digits.{refusalLine, bytesOf}
+use Rattle.lines.specs.inside.Steps.{spells, spellingCount, OnPage, Enough, Answered}
 use Rattle.lines.proofs.Digits.{lengthLine}
 use Rattle.lines.proofs.Spelled.{keptSpells, spelledShort}
 use Rattle.answers.specs.Lines.{entryLines, callOf, callLeft, zeroed, spelledLeft, digitLimit, lineLeft, printed, vaultLines}
-use Rattle.answers.specs.inside.Steps.{outputSize, answerSize, lineShare, Laid, Printable, AnswerPut}
+use Rattle.answers.specs.inside.Steps.{outputSize, answerSize, lineShare, LaidOut, Printable, AnswerPut}
 use Rattle.answers.specs.Lines.{keptSize}
 use Rattle.answers.proofs.Entries.{laidShort}
 use Rattle.answers.proofs.Calls.{callWell, shortRefused}
@@ -84,7 +84,7 @@ module _ (a : Answer) (out : List ℕ) (p : Printable a out) (n : ℕ) (is : a �
   countFits = let (few, size, laid) = written in omega arith
 
   -- The written entries may be put on the page: they have room, and are entries end to end.
-  pub writtenMay : (page : List ℕ) (at : ℕ) → at + answerSize ≤ length page → (at + 3 * length (take (n - 0) out) ≤ length page) × Laid (take (n - 0) out)
+  pub writtenMay : (page : List ℕ) (at : ℕ) → at + answerSize ≤ length page → (at + 3 * length (take (n - 0) out) ≤ length page) × LaidOut (take (n - 0) out)
   writtenMay page at room =
       let (few, size, laid) = written in
       rw whole (omega (arith, length-take-le n out (omega arith)), laid)
@@ -142,8 +142,8 @@ module _ (rec text page : List ℕ) (at : ℕ) (g : Spelling) (bytes : List ℕ)
       )
 
 -- The bytes of a line are among those that `bytes_in` was lent.
-pub countWithin : (g : Spelling) (n size : ℕ) → g ≡ Count n → countOf g ≤ size → n ≤ size
-countWithin g n size is few = subst (λ (x : Spelling). countOf x ≤ size) is few
+pub countWithin : (g : Spelling) (n size : ℕ) → g ≡ Count n → spellingCount g ≤ size → n ≤ size
+countWithin g n size is few = subst (λ (x : Spelling). spellingCount x ≤ size) is few
 
 -- ---- what is kept of a line
 

@@ -10,32 +10,28 @@ use mathlib.Core.Option.{Option, none, some}
 use native.Mathlib.Omega.{arith}
 use borrow.Author.Tests.{eq-eqb, ne-eqb}
 use lib.Dec.{ltb, eqb}
-use lib.ListN.{length, getD, take, drop, List·getD-eq-default}
-use lib.Seq.{take-at}
+use lib.ListN.{length, getD, List·getD-eq-default}
 use Rattle.wire.specs.Digits.{numberAt}
 use Rattle.wire.specs.Fields.{Bytes}
-use Rattle.wire.specs.Placed.{placed}
 use Rattle.wire.proofs.Laws.{numberBelow}
 use Rattle.frame.specs.declared.Reading.{Reading}
 use Rattle.frame.specs.declared.Reading.the-variants.{Refused}
 use Rattle.frame.specs.Refusal.{first, formRows, readFrame}
 use Rattle.frame.proofs.Laws.{formed, headIsThere}
 use Rattle.frame.proofs.Steps.{byForm}
-use Rattle.entry.specs.Layout.{layout}
-use Rattle.entry.specs.Reading.{entriesOf}
-use Rattle.layout.specs.Layout.{decodeRecord}
+use Rattle.record.specs.Layout.{decodeRecord}
 use Rattle.sound.specs.declared.Lent.{Lent}
 use Rattle.sound.specs.declared.Lent.the-variants.{Blank, Unsound, Sound}
 use Rattle.sound.specs.inside.Sound.{lentIs}
 use Rattle.protocol.specs.Calls as by
 use Rattle.protocol.specs.Calls.{answer}
 use Rattle.contents.specs.Contents.{contents}
-use Rattle.contents.specs.Calls.{after, onLent, called, startLeft, frameLeft, timerLeft}
+use Rattle.contents.specs.Calls.{leftAfter, onLent, called, startLeft, frameLeft, timerLeft}
 use Rattle.contents.specs.Left.{Left, gave}
-use Rattle.runs.specs.Runs.{Call, start, frame, timer, InWidth, recordIn}
+use Rattle.runs.specs.Runs.{ByteCall, start, frame, timer, InWidth}
 use Rattle.runs.specs.Left.{LeavesWell}
 use Rattle.runs.proofs.Left.{callLeavesWell}
-use Rattle.answers.specs.Lines.{isKind, settingsIn, startOf, timerOf, frameOf, callOf, callLeft, entryLines, printed}
+use Rattle.answers.specs.Lines.{isKind, settingsIn, startOf, timerOf, frameOf, callOf, callLeft}
 
 -- ---- each kind's call
 
@@ -110,12 +106,12 @@ senderUnread rec s out a b short =
 -- ---- what a line's call leaves can be printed
 
 -- What bytes say is in width.
-abbrev InWidthIf : Option Call → Type 0
+abbrev InWidthIf : Option ByteCall → Type 0
 InWidthIf none = Unit {0}
 InWidthIf (some a) = InWidth a
 
 -- Whichever call a test picks, it is in width where both are.
-either : (b : Bool) (x y : Option Call) → InWidthIf x → InWidthIf y → InWidthIf (cond b x y)
+either : (b : Bool) (x y : Option ByteCall) → InWidthIf x → InWidthIf y → InWidthIf (cond b x y)
 either true x y p q = p
 either false x y p q = q
 
@@ -126,14 +122,14 @@ callInWidth s bytes =
     either (isKind 0 s) (startOf s) (cond (isKind 9 s) (timerOf s) (frameOf s)) (either (eqb (length s) 13) (some starts) none (numberBelow 8 s 5 bytes) tt)
     (either (isKind 9 s) (timerOf s) (frameOf s) (either (eqb (length s) 5) (some (timer (numberAt 4 s 1))) none tt tt) bytes)
   where
-    starts : Call
+    starts : ByteCall
     starts = start (settingsIn s) (numberAt 8 s 5)
 
 -- So what a line's call writes is entries end to end, and can be printed.
 pub callWell : (rec out s : List ℕ) → Bytes rec → Bytes s → LeavesWell rec out (callLeft rec out (callOf s))
 callWell rec out s br bs = go (callOf s) (callInWidth s bs)
   where
-    go : (o : Option Call) → InWidthIf o → LeavesWell rec out (callLeft rec out o)
+    go : (o : Option ByteCall) → InWidthIf o → LeavesWell rec out (callLeft rec out o)
     go none low = (refl, refl)
     go (some a) low = callLeavesWell rec out a br low
 
@@ -145,7 +141,7 @@ unfolding called answer
 calledRefused k rec out x j is = subst (λ (y : Reading). (i : ℕ) × (called k rec out (by.frame y) ≡ gave i rec out)) is (go (ltb (length out) 256) (lentIs rec))
   where
     go : (t : Bool) (l : Lent) → (i : ℕ)
-        × (cond t (gave 1 rec out) (after rec out (onLent l k (contents (decodeRecord rec)) (by.frame (Refused j)))) ≡ gave i rec out)
+        × (cond t (gave 1 rec out) (leftAfter rec out (onLent l k (contents (decodeRecord rec)) (by.frame (Refused j)))) ≡ gave i rec out)
     go true l = (1, refl)
     go false Blank = (2, refl)
     go false Unsound = (k, refl)

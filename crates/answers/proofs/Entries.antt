@@ -1,4 +1,4 @@
--- Laws of entries on the page: 'Entries lie end to end', 'one output entry a line'. The size of an entry is found (crate entries), so
+-- Laws of entries on the page: 'Entries lie end to end', 'one output entry a line'. The size of an entry is found (crate entry), so
 -- entries laid end to end are found again, one after the other (`inEntry`, `entriesReadBack`). The loop that prints
 -- them keeps that what is on the page, with the lines of the rest put behind it, is the page with all the lines.
 -- Assumes nothing.
@@ -18,13 +18,13 @@ use Rattle.entry.specs.Layout.{hostFields, entryBytes, layout}
 use Rattle.entry.specs.Valid.{AllValid}
 use Rattle.entry.specs.Reading.{entriesWithin, entriesOf}
 use Rattle.entry.proofs.Theorems.{entriesReadBack}
-use Rattle.entries.specs.Walk.{sizeIn}
-use Rattle.entries.proofs.Walk.{inEntry}
+use Rattle.entry.specs.Walk.{sizeIn}
+use Rattle.entry.proofs.Walk.{inEntry}
 use Rattle.lines.specs.Digits.{lineOf}
 use Rattle.lines.specs.inside.Steps.{OnPage}
 use Rattle.lines.proofs.Digits.{lengthLine}
 use Rattle.answers.specs.Lines.{entryLines}
-use Rattle.answers.specs.inside.Steps.{Laid}
+use Rattle.answers.specs.inside.Steps.{LaidOut}
 
 -- An entry has its recipient and at least the six bytes of a view-change.
 entryLeast : (e : Entry) → 7 ≤ length (entryBytes e)
@@ -40,7 +40,7 @@ entryLeast (Decision view plan) = omega (arith, lengthSpell (hostFields 10 view 
 record First (s : List ℕ) (e : Entry) : Type 0 where
   size : sizeIn s ≡ length (entryBytes e)
   here : take (sizeIn s) s ≡ entryBytes e
-  rest : Laid (drop (sizeIn s) s)
+  rest : LaidOut (drop (sizeIn s) s)
   entries : entriesOf s ≡ e ∷ entriesOf (drop (sizeIn s) s)
   fits : sizeIn s ≤ length s
 
@@ -65,7 +65,7 @@ firstIs s e es v is read =
     }
 
 -- Bytes that are entries, and are not at their end, begin with an entry: there is a next line to print.
-first : (s : List ℕ) → Laid s → 0 < length s → (e : Entry) × First s e
+first : (s : List ℕ) → LaidOut s → 0 < length s → (e : Entry) × First s e
 first s laid there = go (entriesOf s) refl
   where
     go : (es : List Entry) → entriesOf s ≡ es → (e : Entry) × First s e
@@ -75,14 +75,14 @@ first s laid there = go (entriesOf s) refl
 -- What holds of the page after i bytes of s: it stands at end.
 pub record PutTo (page₀ : List ℕ) (at : ℕ) (s page : List ℕ) (i end : ℕ) : Type 0 where
   pub within : i ≤ length s
-  pub laid : Laid (drop i s)
+  pub laid : LaidOut (drop i s)
   pub size : length page ≡ length page₀
   pub room : end + 3 * (length s - i) ≤ length page
   pub ends : end + length (entryLines (entriesOf (drop i s))) ≡ at + length (entryLines (entriesOf s))
   pub shown : placed page end (entryLines (entriesOf (drop i s))) ≡ placed page₀ at (entryLines (entriesOf s))
 
 -- Before the first entry nothing is put, and the loop may begin.
-pub putNone : (page : List ℕ) (at : ℕ) (s : List ℕ) → at + 3 * length s ≤ length page → Laid s → PutTo page at s page 0 at
+pub putNone : (page : List ℕ) (at : ℕ) (s : List ℕ) → at + 3 * length s ≤ length page → LaidOut s → PutTo page at s page 0 at
 putNone page at s room laid = record { within = omega arith; laid = laid; size = refl; room = omega arith; ends = refl; shown = refl }
 
 -- The next entry is found, and fits.
@@ -137,7 +137,7 @@ module _ (page₀ : List ℕ) (at : ℕ) (s page : List ℕ) (i end : ℕ) (so :
       ap length page″ ∙ lengthPlaced page end (lineOf (entryBytes e)) (omega (arith, next .fits, next .least, next .bytes, so .room)) in
       record {
         within = next .fits;
-        laid = subst Laid rest (f .rest);
+        laid = subst LaidOut rest (f .rest);
         size = length′ ∙ so .size;
         room = omega (arith, next .fits, next .least, next .bytes, so .room);
         ends = omega (arith, so .ends);
@@ -174,5 +174,5 @@ linesShort (e ∷ es) =
     )
 
 -- So bytes that are entries print at most three bytes each: the room that `put_entries` asks for.
-pub laidShort : (s : List ℕ) → Laid s → length (entryLines (entriesOf s)) ≤ 3 * length s
+pub laidShort : (s : List ℕ) → LaidOut s → length (entryLines (entriesOf s)) ≤ 3 * length s
 laidShort s laid = subst (λ (l : List ℕ). length (entryLines (entriesOf s)) ≤ 3 * length l) (laid .entries) (linesShort (entriesOf s))

@@ -3,3 +3,4 @@ pub mod Calls
 pub mod Entries
 pub mod Example
 pub mod Worked
+pub mod Whole

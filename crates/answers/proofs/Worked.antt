@@ -13,23 +13,23 @@ use Rattle.entry.specs.declared.Entry.{Entry}
 use Rattle.entry.specs.declared.Entry.the-variants.{ForAll, Timer}
 use Rattle.entry.specs.Layout.{entryBytes, layout}
 use Rattle.entry.specs.Reading.{entryAt, sizeAt, entriesWithin}
-use Rattle.layout.specs.Layout.{decodeRecord}
+use Rattle.record.specs.Layout.{decodeRecord}
 use Rattle.sound.specs.inside.Sound.{lentIs}
 use Rattle.protocol.specs.Calls.{answer}
 use Rattle.contents.specs.Calls.{called, frameLeft, timerLeft}
 use Rattle.contents.specs.Left.{wrote, gave}
-use Rattle.runs.specs.Runs.{Call, start, frame, timer}
+use Rattle.runs.specs.Runs.{ByteCall, start, frame, timer}
 use Rattle.lines.specs.Digits.{between, valueOf, digitOf, lineOf, allDigits, badLine, spelled, bytesOf}
-use Rattle.answers.specs.Lines.{startOf, timerOf, frameOf, callOf, zeroed, digitLimit, lineLeft, printed, blank}
+use Rattle.answers.specs.Lines.{startOf, timerOf, frameOf, callOf, zeroed, digitLimit, lineLeft, printed, blankRecord}
 use Rattle.answers.specs.Example.{text}
 
 -- The call that a line makes, if any.
-abbrev callOfBytes : Option (List ℕ) → Option Call
+abbrev callOfBytes : Option (List ℕ) → Option ByteCall
 callOfBytes none = none
 callOfBytes (some s) = callOf s
 
 -- The same of a line's text.
-abbrev says : String → Option Call
+abbrev says : String → Option ByteCall
 says line = callOfBytes (bytesOf digitLimit (text line))
 
 -- The example's calls; and a timer, an empty line, a start and a timer of wrong length.
@@ -58,7 +58,7 @@ unfolding between valueOf allDigits badLine spelled bytesOf startOf timerOf fram
 refusals rec = (refl, refl, refl, refl, refl, refl)
 
 -- A frame or a timer on a blank record gives 2.
-unstarted : (printed (lineLeft blank (text "")) ≡ text "fd02\n") × (printed (lineLeft blank (text "0900000000")) ≡ text "fd02\n")
+unstarted : (printed (lineLeft blankRecord (text "")) ≡ text "fd02\n") × (printed (lineLeft blankRecord (text "0900000000")) ≡ text "fd02\n")
 unfolding between valueOf allDigits badLine spelled bytesOf startOf timerOf frameOf callOf numberAt lineLeft
     zeroed digitOf lineOf frameLeft timerLeft called lentIs decodeRecord answer
 unstarted = (refl, refl)

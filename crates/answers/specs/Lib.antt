@@ -1,3 +1,4 @@
 pub mod Example
 pub mod Lines
 pub mod inside
+pub mod Steps

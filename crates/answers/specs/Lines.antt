@@ -12,9 +12,9 @@ use Rattle.entry.specs.declared.Entry.{Entry}
 use Rattle.entry.specs.Layout.{entryBytes}
 use Rattle.entry.specs.Reading.{entriesOf}
 use Rattle.settings.specs.declared.Settings.{Settings}
-use Rattle.layout.specs.Size.{recordSize}
+use Rattle.record.specs.Size.{recordSize}
 use Rattle.contents.specs.Left.{Left, wrote, gave}
-use Rattle.runs.specs.Runs.{Call, start, frame, timer, recordIn}
+use Rattle.runs.specs.Runs.{ByteCall, start, frame, timer, recordIn}
 use Rattle.runs.specs.Fixed.{leaves}
 use Rattle.lines.specs.Digits.{bytesOf, lineOf, refusalLine}
 use Rattle.lines.specs.Lines.{Program, answers}
@@ -28,24 +28,24 @@ abbrev pub settingsIn : List ℕ → Settings
 settingsIn s = record { n = getD s 1 0; f = getD s 2 0; id = getD s 3 0; class = getD s 4 0 }
 
 -- 'Kind 00 starts (n, f, id, class, one byte each, then plan; 13 bytes)'; with another length it is no call.
-unfoldable pub startOf : List ℕ → Option Call
+unfoldable pub startOf : List ℕ → Option ByteCall
 startOf s = cond (eqb (length s) 13) (some (start (settingsIn s) (numberAt 8 s 5))) none
 
 -- 'kind 09 is a timer (view; 5 bytes)'; with another length it is no call.
-unfoldable pub timerOf : List ℕ → Option Call
+unfoldable pub timerOf : List ℕ → Option ByteCall
 timerOf s = cond (eqb (length s) 5) (some (timer (numberAt 4 s 1))) none
 
 -- 'other lines are frames whose byte 1 is also the link's sender'. Where there is no byte 1, no sender is looked at (`senderUnread`,
 -- proofs/Calls).
-unfoldable pub frameOf : List ℕ → Option Call
+unfoldable pub frameOf : List ℕ → Option ByteCall
 frameOf s = some (frame (getD s 1 0) s)
 
 -- The call that a line's bytes make; 'an empty line is an empty frame'.
-unfoldable pub callOf : List ℕ → Option Call
+unfoldable pub callOf : List ℕ → Option ByteCall
 callOf s = cond (isKind 0 s) (startOf s) (cond (isKind 9 s) (timerOf s) (frameOf s))
 
 -- 'A wrong length for 00 or 09 gives 10, before the call'. Else what the call leaves: `leaves` is startLeft, frameLeft or timerLeft.
-abbrev pub callLeft : List ℕ → List ℕ → Option Call → Left
+abbrev pub callLeft : List ℕ → List ℕ → Option ByteCall → Left
 callLeft rec out none = gave 10 rec out
 callLeft rec out (some a) = leaves rec a out
 
@@ -85,9 +85,9 @@ unfoldable pub vaultLines : Program (List ℕ)
 vaultLines = record { next = λ rec text. recordIn (lineLeft rec text); says = λ rec text. printed (lineLeft rec text) }
 
 -- '`vaultlines` begins with a blank record': a record of zeros is blank.
-abbrev pub blank : List ℕ
-blank = replicate recordSize 0
+abbrev pub blankRecord : List ℕ
+blankRecord = replicate recordSize 0
 
 -- What it prints for a whole input: `linesOf` (crate lines) are the input's lines, and each is answered at the record that the last one left.
 abbrev pub programPrints : List ℕ → List ℕ
-programPrints input = answers vaultLines blank input
+programPrints input = answers vaultLines blankRecord input

@@ -14,12 +14,12 @@ use lib.Dec.{leb, ltb, eqb}
 use lib.ListN.{length, length-set, getD, set}
 use lib.Seq.{getD-set-same, getD-set-other}
 use borrow.Author.Tests.{leb-true, leb-false, le-leb, lt-leb, lt-ltb, le-ltb, eq-eqb, ne-eqb}
-use Rattle.quorum.specs.Sets.{weigh}
-use Rattle.quorum.proofs.Laws.{weighNone, weighMore, weighSame}
+use Rattle.rules.specs.Sets.{weigh}
+use Rattle.rules.proofs.Quorums.{weighNone, weighMore, weighSame}
 use Rattle.rules.specs.Rules.{Report, Reports, viewOf, viewFor, reach, claims, reporting}
 use Rattle.claims.specs.declared.Search.{Search}
 use Rattle.claims.specs.declared.Tally.{Tally}
-use Rattle.claims.specs.inside.Rows.{rowsSize, countOf, Fits, Stance, forAll, forOne, forNone, added, Tells, SameBelow}
+use Rattle.claims.specs.inside.Rows.{rowsSize, countOf, FitsRow, Stance, forAll, forOne, forNone, added, RowTells, SameBelow}
 use Rattle.claims.specs.inside.Rows.{tallyAt, placeAt, claimedIn, endOf, servingView}
 use Rattle.claims.specs.Table.{column, voteAbove, reporter, reportsInTable}
 
@@ -157,14 +157,14 @@ module _ (plans : List ℕ) (at k x : ℕ) (low : at + k < length plans) where
   module _ (rs : Reports) (test : ℕ → Report → Bool) (i all every some : ℕ) where
     -- What the row tells after report i.
     abbrev Grown : Type 0
-    Grown = Tells rs (i + 1) test after at (record { every = all + every; some = k + some })
+    Grown = RowTells rs (i + 1) test after at (record { every = all + every; some = k + some })
 
     -- How many of the first j reports pass the test of plan p.
     abbrev weighed : ℕ → ℕ → ℕ
     weighed p j = weigh (λ i. 1) (reporting rs (test p)) j
 
     -- A row that tells of the first i reports tells of one more, whether that one is for every plan, for one or for none.
-    rowMore : Stance (λ p. reporting rs (test p) i) x every some → Tells rs i test plans at (record { every = all; some = k }) → Grown
+    rowMore : Stance (λ p. reporting rs (test p) i) x every some → RowTells rs i test plans at (record { every = all; some = k }) → Grown
     rowMore (forAll e s pass) row = record { most = omega (arith, row .most); tells = λ p. tell p }
       where
         tell : (p : ℕ) → all + every + countOf after at (k + some) p ≡ weighed p (i + 1)
@@ -194,7 +194,7 @@ pub record Counted (rs : Reports) (test : ℕ → ℕ → Report → Bool) (view
   pub within : r ≤ n
   pub size : length plans ≡ rowsSize
   pub same : SameBelow first plans at
-  pub row : Tells rs r (λ p. test p view) plans at t
+  pub row : RowTells rs r (λ p. test p view) plans at t
 
 -- An empty row tells of no report.
 pub countedNone : (rs : Reports) (test : ℕ → ℕ → Report → Bool) (view n at : ℕ) (first : List ℕ) → length first ≡ rowsSize
@@ -236,15 +236,15 @@ module _ {rs : Reports} {test : ℕ → ℕ → Report → Bool} {view n at : �
         })
 
   -- All n reports are counted, at the view that was asked for.
-  pub countedAll : (u : ℕ) → view ≡ u → n ≤ r → (length plans ≡ rowsSize) × SameBelow first plans at × Tells rs n (λ p. test p u) plans at t
+  pub countedAll : (u : ℕ) → view ≡ u → n ≤ r → (length plans ≡ rowsSize) × SameBelow first plans at × RowTells rs n (λ p. test p u) plans at t
   countedAll u same over =
       let all : r ≡ n = omega (arith, c .within) in
-      (c .size, c .same, subst₂ (λ (k v : ℕ). Tells rs k (λ p. test p v) plans at t) all same (c .row))
+      (c .size, c .same, subst₂ (λ (k v : ℕ). RowTells rs k (λ p. test p v) plans at t) all same (c .row))
 
 -- A row stays where what lies behind it is written.
 pub rowKept : (rs : Reports) (n : ℕ) (test : ℕ → Report → Bool) (before after : List ℕ) (at end : ℕ) (t : Tally) → SameBelow before after end
     → at + t .some ≤ end
-    → Tells rs n test before at t → Tells rs n test after at t
+    → RowTells rs n test before at t → RowTells rs n test after at t
 rowKept rs n test before after at end t same low row = record {
   most = row .most;
   tells = λ p. ap (λ (c : ℕ). t .every + c) (countSame before after at (t .some) p (λ r (less : r < t .some). same (at + r) (omega arith))) ∙ row .tells p;
@@ -253,10 +253,10 @@ rowKept rs n test before after at end t same low row = record {
 -- ---- the search over candidate views
 
 -- A row and its tally lie within the rows.
-pub rowFits : (c : Search) (w row : ℕ) (t : Tally) → row ≡ placeAt c w → t ≡ tallyAt c w → Fits (c .here) → Fits (c .next) → (row ≤ column) × Fits t
+pub rowFits : (c : Search) (w row : ℕ) (t : Tally) → row ≡ placeAt c w → t ≡ tallyAt c w → FitsRow (c .here) → FitsRow (c .next) → (row ≤ column) × FitsRow t
 rowFits c w row t at is here next = rw (at, is) (go (eqb w (c .u)))
   where
-    go : (b : Bool) → (cond b 0 column ≤ column) × Fits (cond b (c .here) (c .next))
+    go : (b : Bool) → (cond b 0 column ≤ column) × FitsRow (cond b (c .here) (c .next))
     go true = (omega arith, here)
     go false = (omega arith, next)
 

@@ -14,10 +14,10 @@ use lib.Dec.{leb, ltb}
 use lib.ListN.{length, getD, set}
 use lib.Seq.{getD-set-same, getD-set-other}
 use borrow.Author.Tests.{leb-true, leb-false, le-leb, lt-leb, ltb-true, lt-ltb}
-use Rattle.quorum.specs.Sets.{equals, weigh}
-use Rattle.quorum.specs.Quorums.{isBlocking}
-use Rattle.quorum.proofs.Bools.{notTrue}
-use Rattle.quorum.proofs.Laws.{weighMono, weighSame, blockingWeighs}
+use Rattle.rules.specs.Sets.{equals, weigh}
+use Rattle.rules.specs.Quorums.{isBlocking}
+use Rattle.rules.proofs.Bools.{notTrue}
+use Rattle.rules.proofs.Quorums.{weighMono, weighSame, blockingWeighs}
 use Rattle.rules.specs.inside.Views.{views}
 use Rattle.rules.proofs.Views.{Falls, viewsAre}
 use Rattle.claims.specs.inside.Spans.{covering, covered, coveredViews, highestTo, Within, AreSpans}

@@ -5,9 +5,9 @@ ghost use mathlib.Core.Path.{_≡_};
 ghost use mathlib.Core.Bool.{cond};
 ghost use lib.Dec.{leb, ltb, eqb};
 ghost use lib.ListN.{length, getD, set};
-ghost use Rattle.quorum.specs.Sets.{weigh};
+ghost use Rattle.rules.specs.Sets.{weigh};
 ghost use Rattle.rules.specs.Rules.{claims, reporting};
-ghost use Rattle.claims.specs.inside.Rows.{rowsSize, forPlan, Fits, Stance, added, Tells, SameBelow, tallyAt, placeAt, claimedIn, endOf, servingView};
+ghost use Rattle.claims.specs.inside.Rows.{rowsSize, forPlan, FitsRow, Stance, added, RowTells, SameBelow, tallyAt, placeAt, claimedIn, endOf, servingView};
 ghost use Rattle.claims.specs.inside.Spans.{covering, coveredViews, highestTo, Within};
 ghost use Rattle.claims.specs.Table.{column, tableSize, reporter, reportsInTable};
 
@@ -118,7 +118,7 @@ pub fn add_share(plans: &mut [u64], at: usize, tally: Tally, share: Tally, plan:
 // Who claims which plan at view w: the row of plans is written from place at on.
 pub fn claims_at<'a>(table: &'a [u64], n: usize, w: u32, plans: &mut [u64], at: usize) -> Tally
     requires { ⌜ (length (now table) ≡ tableSize) × (n ≤ column) × (length (now plans) ≡ rowsSize) × (at + column ≤ rowsSize) ⌝ }
-    ensures { λ t. ⌜ (length (now (plans .exit)) ≡ rowsSize) × SameBelow (now (plans .entry)) (now (plans .exit)) at × Tells (reportsInTable (now (table .entry))) n (λ p. claims p w) (now (plans .exit)) at t ⌝ }
+    ensures { λ t. ⌜ (length (now (plans .exit)) ≡ rowsSize) × SameBelow (now (plans .entry)) (now (plans .exit)) at × RowTells (reportsInTable (now (table .entry))) n (λ p. claims p w) (now (plans .exit)) at t ⌝ }
 {
     let view = w as u64;
     let mut tally = Tally { every: 0, some: 0 };
@@ -172,7 +172,7 @@ fn plan_share(x: u64, p: u64) -> usize
 
 // How many are for plan p, by the row that begins at a place.
 pub fn count_for<'a>(plans: &'a [u64], at: usize, tally: Tally, p: u64) -> usize
-    requires { ⌜ (length (now plans) ≡ rowsSize) × (at + column ≤ rowsSize) × Fits tally ⌝ }
+    requires { ⌜ (length (now plans) ≡ rowsSize) × (at + column ≤ rowsSize) × FitsRow tally ⌝ }
     ensures { λ c. ⌜ c ≡ forPlan (now (plans .entry)) at tally p ⌝ }
 {
     let some = tally.some;
@@ -188,7 +188,7 @@ pub fn count_for<'a>(plans: &'a [u64], at: usize, tally: Tally, p: u64) -> usize
 // The search over candidate views, downwards and not below low: the first view at which a blocking set of reporters claims plan p,
 // v where there is none. The count is new for every plan and view. The nested loops with labels are a form that document 01 names.
 pub fn serving_view<'a>(plans: &'a [u64], c: Search, low: u32, p: u64) -> u32
-    requires { ⌜ (length (now plans) ≡ rowsSize) × (c .u < c .v) × Fits (c .here) × Fits (c .next) ⌝ }
+    requires { ⌜ (length (now plans) ≡ rowsSize) × (c .u < c .v) × FitsRow (c .here) × FitsRow (c .next) ⌝ }
     ensures { λ w. ⌜ w ≡ servingView (claimedIn (now (plans .entry)) c p) low (c .v) (endOf c) ⌝ }
 {
     let mut end = end_of(c);

@@ -10,7 +10,7 @@ use mathlib.Core.Option.{Option, none, some}
 use native.Mathlib.Omega.{arith}
 use lib.Dec.{eqb}
 use borrow.Author.Tests.{ne-eqb, eqb-true, eqb-false, le-leb, lt-leb}
-use Rattle.quorum.proofs.Bools.{which}
+use Rattle.rules.proofs.Bools.{which}
 use Rattle.rules.specs.Rules.{Vote, Rule, rule1, rule3, claimVote, lockVote}
 use Rattle.frame.specs.declared.Report.{Report}
 use Rattle.frame.specs.declared.Body.the-variants.{Plan}
@@ -21,10 +21,10 @@ use Rattle.frame.proofs.Laws.{inside}
 use Rattle.record.specs.Slots as slots
 use Rattle.record.specs.Slots.{rows, frameSlot, previousSlot, slotOf}
 use Rattle.record.specs.inside.Slots.{withSlot, withView}
-use Rattle.keeping.specs.Kept.{frameIn, keptIn}
-use Rattle.keeping.specs.inside.Kept.{keepFrame}
-use Rattle.keeping.specs.inside.Keeping.{moves, shifted, ownBroadcast}
-use Rattle.keeping.proofs.Forms.{bodyPlan, keptThere, keptNothing}
+use Rattle.record.specs.Kept.{frameHeld, keptIn}
+use Rattle.record.specs.inside.Kept.{keepFrame}
+use Rattle.record.specs.inside.Keeping.{moves, shiftedSlots, ownBroadcast}
+use Rattle.record.proofs.Forms.{bodyPlan, keptThere, keptNothing}
 use Rattle.protocol.specs.Record.{Record, changed, each, reported, spelt, voteBy, leads, voteOf, tells, changeFrame, voteFrame, reportFrame}
 use Rattle.protocol.specs.Tables.{put}
 use Rattle.protocol.specs.Pass.{ask, enter, cast, decide, shift, hasPrevious, does}
@@ -71,7 +71,7 @@ module _ (s : ℕ → Report) (k j : ℕ) where
 
   -- The frame that these slots hold is that of the vote in the slot.
   keptVote : k ≤ 4 → keptIn s (suc k) j ≡ framed k j (reported there)
-  unfolding frameIn
+  unfolding frameHeld
   keptVote low = go (which (eqb (there .mark) 1))
     where
       go : (eqb (there .mark) 1 ≡ true) ⊎ (eqb (there .mark) 1 ≡ false) → keptIn s (suc k) j ≡ framed k j (reported there)
@@ -150,16 +150,16 @@ module _ (r : slots.Record) (k p : ℕ) where
       (contents r .previous))) (sym same)
 
   -- 'a new vote for the same plan leaves previous alone'.
-  pub contentsShifted : k ≤ 4 → r .set .id < rows → contents (shifted r (suc k) p) ≡ previously (protocol.shifted (contents r) k p)
-  unfolding shifted moves contents
+  pub contentsShifted : k ≤ 4 → r .set .id < rows → contents (shiftedSlots r (suc k) p) ≡ previously (protocol.shifted (contents r) k p)
+  unfolding shiftedSlots moves contents
   contentsShifted low row =
       ap (λ (b : Bool). contents (moved (b && (present own && not (eqb (own .plan) p))))) (ofKind k)
       ∙ contentsMoved (hasPrevious k) (eqb (own .mark) 1) (eqb (own .plan) p) refl refl refl
       ∙ ap (λ (o : Option Vote). previously (shiftedBy (hasPrevious k) o)) (sym (voteAt r k (r .set .id) low row))
 
   -- The record stays clean: what moves is a vote.
-  pub cleanShifted : Clean r → k ≤ 4 → r .set .id < rows → Clean (shifted r (suc k) p)
-  unfolding shifted moves
+  pub cleanShifted : Clean r → k ≤ 4 → r .set .id < rows → Clean (shiftedSlots r (suc k) p)
+  unfolding shiftedSlots moves
   cleanShifted h low row = rw (ofKind k) (go (hasPrevious k) (present own && not (eqb (own .plan) p)) refl)
     where
       go : (b c : Bool) → hasPrevious k ≡ b → Clean (moved (b && c))
@@ -175,7 +175,7 @@ module _ (r : slots.Record) (k p : ℕ) where
 module _ (r : slots.Record) (k p : ℕ) (low : k ≤ 4) (row : r .set .id < rows) where
   -- The record with the previous vote shifted, before the new vote is kept.
   abbrev after : slots.Record
-  after = shifted r (suc k) p
+  after = shiftedSlots r (suc k) p
 
   -- A vote's kind is one that has a plan.
   fitsVote : within 1 5 (suc k) ≡ true

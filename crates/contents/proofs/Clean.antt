@@ -16,8 +16,8 @@ use Rattle.frame.specs.Valid.{fits}
 use Rattle.frame.proofs.Laws.{inside}
 use Rattle.record.specs.Slots as slots
 use Rattle.record.specs.Slots.{rows, kinds, slotCount, frameSlot, reportSlot, previousSlot, decisionSlot, emptySlot, slotOf}
-use Rattle.keeping.specs.Kept.{keptIn, keptFrame, headSlot}
-use Rattle.keeping.specs.inside.Kept.{keepFrame}
+use Rattle.record.specs.Kept.{keptIn, keptFrame, headSlot}
+use Rattle.record.specs.inside.Kept.{keepFrame}
 use Rattle.protocol.specs.Record.{when, reported, spelt}
 use Rattle.protocol.specs.Pass.{hasPrevious}
 use Rattle.contents.specs.Contents.{keptOf, previousOf, contents, headOf, reportOfFrame, slotAt}

@@ -10,7 +10,7 @@ use mathlib.Core.Option.{Option, none, some}
 use native.Mathlib.Omega.{arith}
 use lib.Dec.{ltb, eqb}
 use borrow.Author.Tests.{eqb-true, eq-eqb, ltb-true, lt-ltb}
-use Rattle.quorum.proofs.Bools.{which, clash, bothSplit, bothJoin, either}
+use Rattle.rules.proofs.Bools.{which, clash, bothSplit, bothJoin, either}
 use Rattle.frame.specs.declared.Report.{Report}
 use Rattle.frame.specs.declared.Reports.{Reports}
 use Rattle.frame.specs.declared.Body.{Body}
@@ -23,9 +23,9 @@ use Rattle.record.specs.Slots as slots
 use Rattle.record.specs.Slots.{rows, kinds, firstPrevious, frameSlot, reportSlot, previousSlot, decisionSlot, slotOf}
 use Rattle.record.specs.inside.Slots.{withSlot}
 use Rattle.record.proofs.Slots.{slotSame, slotOther}
-use Rattle.keeping.specs.Kept.{bodyIn, frameIn, keptIn, planOf, headSlot}
-use Rattle.keeping.specs.inside.Kept.{withReports, withBody, keepFrame}
-use Rattle.keeping.proofs.Forms.{bodyPlan, bodyBare, bodyReports, keptThere, fitsKind}
+use Rattle.record.specs.Kept.{bodyIn, frameHeld, keptIn, planOf, headSlot}
+use Rattle.record.specs.inside.Kept.{withReports, withBody, keepFrame}
+use Rattle.record.proofs.Forms.{bodyPlan, bodyBare, bodyReports, keptThere, fitsKind}
 use Rattle.protocol.specs.Record.{when, reported, keeping}
 use Rattle.protocol.specs.Pass.{hasPrevious}
 use Rattle.protocol.specs.Calls.{keep}
@@ -48,7 +48,7 @@ module _ (s t : ℕ → Report) (k j : ℕ) (head : s (frameSlot k j) ≡ t (fra
 
   -- They hold the same frame.
   pub keptSame : 1 ≤ k → k ≤ kinds → keptIn s k j ≡ keptIn t k j
-  unfolding keptIn frameIn
+  unfolding keptIn frameHeld
   keptSame low high = rw (head, bodySame (form k low high))
 
 -- Slots that hold a frame's head, and its reports where it has any, hold that frame.
@@ -72,7 +72,7 @@ module _ (s : ℕ → Report) (f : Frame) (fit : fits (f .kind) (f .body) ≡ tr
 
   -- They hold the frame.
   pub keptIs : keptIn s (f .kind) (f .sender) ≡ some f
-  unfolding frameIn
+  unfolding frameHeld
   keptIs =
       let v : s (frameSlot (f .kind) (f .sender)) .view ≡ f .view = ap (λ (x : Report). x .view) head in
       let b = bodyIs in

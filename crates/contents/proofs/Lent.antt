@@ -11,9 +11,9 @@ use lib.Dec.{eqb}
 use lib.ListN.{length, getD}
 use borrow.Author.Tests.{eqb-true}
 use Rattle.wire.specs.Fields.{Bytes}
-use Rattle.layout.specs.Layout.{decodeRecord}
-use Rattle.layout.specs.Size.{recordSize}
-use Rattle.layout.proofs.Laws.{fitsDecoded}
+use Rattle.record.specs.Layout.{decodeRecord}
+use Rattle.record.specs.Size.{recordSize}
+use Rattle.record.proofs.Laws.{fitsDecoded}
 use Rattle.sound.specs.declared.Lent.the-variants.{Blank, Unsound, Sound}
 use Rattle.sound.specs.inside.Sound.{sound, lentIs}
 use Rattle.sound.proofs.Laws.{lentBlank}

@@ -11,17 +11,17 @@ use native.Mathlib.Omega.{arith}
 use native.Mathlib.Decide.{ℕ-discrete}
 use lib.Dec.{ltb, eqb}
 use borrow.Author.Tests.{eqb-true, eqb-false, ltb-true}
-use Rattle.quorum.proofs.Bools.{which, bothSplit}
+use Rattle.rules.proofs.Bools.{which, bothSplit}
 use Rattle.frame.specs.declared.Report.{Report}
 use Rattle.frame.specs.Format.{within}
 use Rattle.frame.proofs.Laws.{bounds}
 use Rattle.record.specs.Slots as slots
 use Rattle.settings.specs.declared.Settings.{Settings}
 use Rattle.record.specs.Slots.{rows, kinds, firstPrevious, slotCount, frameSlot, reportSlot, previousSlot, decisionSlot, emptySlot, slotOf}
-use Rattle.record.specs.inside.Slots.{withSlot, withView, fresh}
+use Rattle.record.specs.inside.Slots.{withSlot, withView, freshSlots}
 use Rattle.record.proofs.Slots.{slotSame, slotOther}
-use Rattle.keeping.specs.Kept.{keptIn}
-use Rattle.keeping.proofs.Forms.{keptNothing}
+use Rattle.record.specs.Kept.{keptIn}
+use Rattle.record.proofs.Forms.{keptNothing}
 use Rattle.protocol.specs.Record.{changed, when, reported, spelt}
 use Rattle.protocol.specs.Tables.{put}
 use Rattle.protocol.specs.Pass.{hasPrevious}
@@ -170,19 +170,19 @@ module _ (r : slots.Record) (v p : ℕ) where
 
 module _ (set : Settings) (plan : ℕ) where
   -- All slots are empty.
-  slotFresh : (i : ℕ) → slotOf (fresh set plan) i ≡ emptySlot
-  unfolding fresh
+  slotFresh : (i : ℕ) → slotOf (freshSlots set plan) i ≡ emptySlot
+  unfolding freshSlots
   slotFresh i = refl
 
   -- So no frame is kept.
-  keptFresh : (k j : ℕ) → keptIn (slotOf (fresh set plan)) k j ≡ none
-  keptFresh k j = keptNothing (slotOf (fresh set plan)) k j (λ e.
+  keptFresh : (k j : ℕ) → keptIn (slotOf (freshSlots set plan)) k j ≡ none
+  keptFresh k j = keptNothing (slotOf (freshSlots set plan)) k j (λ e.
       let z : _≡_ {A = ℕ} 0 1 = sym (ap (λ (x : Report). x .mark) (slotFresh (frameSlot k j))) ∙ e in
       omega arith)
 
   -- The record of a start holds what a start has by contents.
-  pub contentsFresh : contents (fresh set plan) ≡ protocol.fresh set plan
-  unfolding contents keptOf previousOf fresh
+  pub contentsFresh : contents (freshSlots set plan) ≡ protocol.fresh set plan
+  unfolding contents keptOf previousOf freshSlots
   contentsFresh = λ i. record {
     set = set;
     start = plan;
@@ -193,8 +193,8 @@ module _ (set : Settings) (plan : ℕ) where
   }
 
   -- And is clean.
-  pub cleanFresh : Clean (fresh set plan)
-  cleanFresh = cleanOf (fresh set plan) (λ i far. slotFresh i) (record {
+  pub cleanFresh : Clean (freshSlots set plan)
+  cleanFresh = cleanOf (freshSlots set plan) (λ i far. slotFresh i) (record {
     head = λ k j low high row. slotFresh (frameSlot k j) ∙ ap headOf (sym (keptFresh k j));
     told = λ k w j low high lw row. slotFresh (reportSlot k w j) ∙ ap (reportOfFrame w) (sym (keptFresh k j));
     previous = λ k has. asWas (slotFresh (previousSlot (suc k))) refl;

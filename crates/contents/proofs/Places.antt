@@ -7,7 +7,7 @@ use mathlib.Core.Bool.{true}
 use native.Mathlib.Omega.{arith}
 use native.Mathlib.Decide.{decLt}
 use borrow.Author.Tests.{lt-ltb, le-ltb}
-use Rattle.record.specs.Slots.{rows, kinds, reportRows, firstReport, firstPrevious, slotCount, frameSlot, reportSlot, previousSlot, decisionSlot}
+use Rattle.record.specs.Slots.{rows, kinds, reportsOfKind, firstReport, firstPrevious, slotCount, frameSlot, reportSlot, previousSlot, decisionSlot}
 use Rattle.protocol.specs.Record.{Record, spelt}
 use Rattle.protocol.specs.Pass.{hasPrevious}
 use Rattle.contents.specs.Contents.{headOf, reportOfFrame, slotAt}
@@ -30,7 +30,7 @@ module _ (c : Record) where
   pub slotTold : (k w j : ℕ) → 7 ≤ k → k ≤ kinds → w < 3 → j < rows → slotAt c (reportSlot k w j) ≡ reportOfFrame w (c .kept k j)
   unfolding slotAt
   slotTold k w j low high lw row =
-      let kind : 7 + (reportSlot k w j - firstReport) / reportRows ≡ k = omega arith in
+      let kind : 7 + (reportSlot k w j - firstReport) / reportsOfKind ≡ k = omega arith in
       let report : (reportSlot k w j - firstReport) / rows % 3 ≡ w = omega arith in
       let sender : reportSlot k w j % rows ≡ j = omega arith in
       rw (le-ltb (reportSlot k w j) firstReport (omega arith), lt-ltb (reportSlot k w j) firstPrevious (omega arith), kind, report, sender)
@@ -67,8 +67,10 @@ everywhere P head told previous decision i low = go (decLt i firstReport) (decLt
         let is : frameSlot (suc ((i / rows + 5) % kinds)) (i % rows) ≡ i = omega arith in
         subst P is (head (suc ((i / rows + 5) % kinds)) (i % rows) (omega arith) (omega arith) (omega arith))
     go (no a) (yes b) c d =
-        let is : reportSlot (7 + (i - firstReport) / reportRows) ((i - firstReport) / rows % 3) (i % rows) ≡ i = omega arith in
-        subst P is (told (7 + (i - firstReport) / reportRows) ((i - firstReport) / rows % 3) (i % rows) (omega arith) (omega arith) (omega arith) (omega arith))
+        let kind = 7 + (i - firstReport) / reportsOfKind in
+        let which = (i - firstReport) / rows % 3 in
+        let is : reportSlot kind which (i % rows) ≡ i = omega arith in
+        subst P is (told kind which (i % rows) (omega arith) (omega arith) (omega arith) (omega arith))
     go (no a) (no b) (yes c) d = let is : firstPrevious ≡ i = omega arith in subst P is (previous 1 refl)
     go (no a) (no b) (no c) (yes d) = let is : firstPrevious + 1 ≡ i = omega arith in subst P is (previous 2 refl)
     go (no a) (no b) (no c) (no d) = let is : decisionSlot ≡ i = omega arith in subst P is decision

@@ -12,9 +12,9 @@ use Rattle.settings.specs.inside.Allowed.{Allowed}
 use Rattle.settings.proofs.Allowed.{allowed}
 use Rattle.record.specs.Slots as slots
 use Rattle.record.specs.Slots.{rows}
-use Rattle.layout.specs.Layout.{encodeRecord, decodeRecord}
-use Rattle.layout.specs.inside.Layout.{Holds}
-use Rattle.layout.proofs.Theorems.{encodeDecode}
+use Rattle.record.specs.Layout.{encodeRecord, decodeRecord}
+use Rattle.record.specs.inside.Layout.{HoldsRecord}
+use Rattle.record.proofs.Theorems.{encodeDecode}
 use Rattle.sound.specs.declared.Lent.the-variants as lent
 use Rattle.sound.specs.inside.Sound.{lentIs}
 use Rattle.sound.proofs.Laws.{lentOther}
@@ -29,7 +29,7 @@ use Rattle.contents.proofs.Sound.{soundContents, sizeSound, soundRead}
 
 -- ---- bytes that hold a record
 
-module _ {s : List ℕ} {r : slots.Record} (h : Holds s r) where
+module _ {s : List ℕ} {r : slots.Record} (h : HoldsRecord s r) where
   -- Their contents are the record's.
   pub contentsHeld : contentsIn s ≡ contents r
   contentsHeld = ap contents (h .is)

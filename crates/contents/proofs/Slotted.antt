@@ -9,7 +9,7 @@ use mathlib.Core.Option.{Option, none, some}
 use native.Mathlib.Omega.{arith}
 use lib.Dec.{ltb}
 use borrow.Author.Tests.{lt-ltb, le-ltb, ltb-true}
-use Rattle.quorum.proofs.Bools.{which, bothSplit, bothJoin}
+use Rattle.rules.proofs.Bools.{which, bothSplit, bothJoin}
 use Rattle.rules.specs.Rules.{Vote}
 use Rattle.frame.specs.declared.Report.{Report}
 use Rattle.frame.specs.declared.Frame.{Frame}
@@ -17,8 +17,8 @@ use Rattle.frame.specs.Format.{within}
 use Rattle.frame.proofs.Laws.{inside, bounds}
 use Rattle.record.specs.Slots as slots
 use Rattle.record.specs.Slots.{rows, kinds, slotCount, frameSlot, reportSlot, previousSlot, decisionSlot, emptySlot, slotOf}
-use Rattle.keeping.specs.Kept.{keptIn, keptFrame}
-use Rattle.keeping.proofs.Forms.{keptNothing, fitsKind}
+use Rattle.record.specs.Kept.{keptIn, keptFrame}
+use Rattle.record.proofs.Forms.{keptNothing, fitsKind}
 use Rattle.protocol.specs.Record.{Record, when, reported, spelt}
 use Rattle.protocol.specs.Pass.{hasPrevious}
 use Rattle.protocol.specs.Sound.{Sound}
@@ -27,7 +27,7 @@ use Rattle.contents.specs.Contents.{keptOf, previousOf, contents, headOf
 use Rattle.contents.specs.Lent.{Clean}
 use Rattle.contents.proofs.Kept.{keptIs, guardedNone, previousBounds}
 use Rattle.contents.proofs.Places.{slotHead, slotTold, slotPrevious, slotDecision}
-use Rattle.contents.proofs.Clean.{filledAt, cleanOf}
+use Rattle.contents.proofs.Clean.{cleanOf}
 
 -- ---- a clean record is the one that its contents fill
 

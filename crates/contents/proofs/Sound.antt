@@ -12,8 +12,8 @@ use native.Mathlib.Omega.{arith}
 use lib.Dec.{ltb, eqb}
 use lib.ListN.{length}
 use borrow.Author.Tests.{eqb-true, eqb-false, eq-eqb, ne-eqb, ltb-true, ltb-false, lt-ltb, le-ltb, not-true}
-use Rattle.quorum.proofs.Bools.{which, bothSplit, bothJoin, either}
-use Rattle.agreement.proofs.Reports.{none≢some}
+use Rattle.rules.proofs.Bools.{which, bothSplit, bothJoin, either}
+use Rattle.rules.proofs.Reports.{none≢some}
 use Rattle.wire.specs.Fields.{Bytes}
 use Rattle.frame.specs.declared.Report.{Report}
 use Rattle.frame.specs.declared.Frame.{Frame}
@@ -23,13 +23,13 @@ use Rattle.frame.proofs.Laws.{form, bounds, Positive, firstNone, firstBoth}
 use Rattle.settings.specs.declared.Settings.{Settings}
 use Rattle.record.specs.Slots as slots
 use Rattle.record.specs.Slots.{rows, kinds, frameSlot, previousSlot, decisionSlot, slotOf}
-use Rattle.layout.specs.inside.Layout as layout
-use Rattle.layout.specs.Layout.{encodeRecord, decodeRecord}
-use Rattle.layout.specs.Size.{recordSize}
-use Rattle.layout.proofs.Laws.{fitsDecoded}
-use Rattle.layout.proofs.Theorems.{decodeEncode, encodeSize}
-use Rattle.keeping.specs.Kept.{frameIn, keptFrame}
-use Rattle.keeping.proofs.Forms.{keptThere, keptNothing}
+use Rattle.record.specs.inside.Layout as layout
+use Rattle.record.specs.Layout.{encodeRecord, decodeRecord}
+use Rattle.record.specs.Size.{recordSize}
+use Rattle.record.proofs.Laws.{fitsDecoded}
+use Rattle.record.proofs.Theorems.{decodeEncode, encodeSize}
+use Rattle.record.specs.Kept.{frameHeld, keptFrame}
+use Rattle.record.proofs.Forms.{keptThere, keptNothing}
 use Rattle.sound.specs.declared.Lent.the-variants as lent
 use Rattle.sound.specs.inside.Sound.{emptyAt, noPlan, ahead, frameSound, placeSound, kindSound, rowsSound, stands, previousSound, votesSound}
 use Rattle.sound.specs.inside.Sound.{soundIn, sound, lentIs}
@@ -105,7 +105,7 @@ record There (r : slots.Record) (k j : ℕ) (x : Frame) : Type 0 where
   high : k ≤ kinds
   row : j < rows
   mark : slotOf r (frameSlot k j) .mark ≡ 1
-  is : frameIn (slotOf r) k j ≡ x
+  is : frameHeld (slotOf r) k j ≡ x
 
 -- Whatever the contents keep stands in slots.
 keptWas : (r : slots.Record) (k j : ℕ) (x : Frame) → contents r .kept k j ≡ some x → There r k j x
@@ -121,7 +121,7 @@ keptWas r k j x e =
     someIs e = cc
 
     go : keptFrame r k j ≡ some x → (present (slotOf r (frameSlot k j)) ≡ true) ⊎ (present (slotOf r (frameSlot k j)) ≡ false)
-        → (slotOf r (frameSlot k j) .mark ≡ 1) × (frameIn (slotOf r) k j ≡ x)
+        → (slotOf r (frameSlot k j) .mark ≡ 1) × (frameHeld (slotOf r) k j ≡ x)
     go is (inl p) =
         let m = eqb-true (slotOf r (frameSlot k j) .mark) 1 p in
         (m, someIs (sym (keptThere (slotOf r) k j m) ∙ is))
@@ -139,7 +139,7 @@ standsSpelt r h row k has =
 
 -- ---- from the test on slots
 
-module _ (r : slots.Record) (z : layout.Fits r) (h : sound r ≡ true) where
+module _ (r : slots.Record) (z : layout.FitsBytes r) (h : sound r ≡ true) where
   -- The slots.
   abbrev s : ℕ → Report
   s = slotOf r
@@ -167,11 +167,11 @@ module _ (r : slots.Record) (z : layout.Fits r) (h : sound r ≡ true) where
 
   -- Where a frame is kept, it has a plan only in kinds 1 to 5, and passes.
   framePass : (k j : ℕ) → 1 ≤ k → k ≤ kinds → j < rows → s (frameSlot k j) .mark ≡ 1
-      → (noPlan k (s (frameSlot k j) .plan) ≡ true) × (frameSound (r .set) (r .view) (frameIn s k j) ≡ true)
+      → (noPlan k (s (frameSlot k j) .plan) ≡ true) × (frameSound (r .set) (r .view) (frameHeld s k j) ≡ true)
   unfolding placeSound
   framePass k j low high row e =
-      bothSplit (noPlan k (s (frameSlot k j) .plan)) (frameSound (r .set) (r .view) (frameIn s k j))
-      (ap (λ (b : Bool). cond b (noPlan k (s (frameSlot k j) .plan) && frameSound (r .set) (r .view) (frameIn s k j)) (emptyAt s k j))
+      bothSplit (noPlan k (s (frameSlot k j) .plan)) (frameSound (r .set) (r .view) (frameHeld s k j))
+      (ap (λ (b : Bool). cond b (noPlan k (s (frameSlot k j) .plan) && frameSound (r .set) (r .view) (frameHeld s k j)) (emptyAt s k j))
       (sym (eq-eqb (s (frameSlot k j) .mark) 1 e))
       ∙ placePass k j low high row)
 
@@ -221,9 +221,9 @@ module _ (r : slots.Record) (z : layout.Fits r) (h : sound r ≡ true) where
 
   -- Each kept frame passes 9 to 15 for its row.
   inRow : (k j : ℕ) (x : Frame) → There r k j x → InRow (r .set) k j x
-  unfolding frameIn
+  unfolding frameHeld
   inRow k j x t =
-      let p = passedOf (r .set) (r .view) (frameIn s k j) (framePass k j (t .low) (t .high) (t .row) (t .mark) .1) in
+      let p = passedOf (r .set) (r .view) (frameHeld s k j) (framePass k j (t .low) (t .high) (t .row) (t .mark) .1) in
       subst (λ (y : Frame). InRow (r .set) k j y) (t .is) (record {
         row = p .row;
         kind = refl;
@@ -235,10 +235,10 @@ module _ (r : slots.Record) (z : layout.Fits r) (h : sound r ≡ true) where
 
   -- No frame in the own row but the view-change is above the current view.
   ownLow : (k : ℕ) (x : Frame) → There r k (r .set .id) x → k ≢ 6 → x .view ≤ r .view
-  unfolding frameIn
+  unfolding frameHeld
   ownLow k x t other =
-      let p = passedOf (r .set) (r .view) (frameIn s k (r .set .id)) (framePass k (r .set .id) (t .low) (t .high) (t .row) (t .mark) .1) in
-      subst (λ (y : Frame). y .view ≤ r .view) (t .is) (notAhead (r .set) (r .view) (frameIn s k (r .set .id)) refl other (p .behind))
+      let p = passedOf (r .set) (r .view) (frameHeld s k (r .set .id)) (framePass k (r .set .id) (t .low) (t .high) (t .row) (t .mark) .1) in
+      subst (λ (y : Frame). y .view ≤ r .view) (t .is) (notAhead (r .set) (r .view) (frameHeld s k (r .set .id)) refl other (p .behind))
 
   -- The contents of a record that passes the test are sound.
   pub contentsSound : Sound (contents r)
@@ -274,22 +274,22 @@ module _ (r : slots.Record) (clean : Clean r) (given : Sound (contents r)) where
   }
 
   -- A frame that is kept passes its test.
-  passedGiven : (k j : ℕ) → 1 ≤ k → k ≤ kinds → j < rows → u (frameSlot k j) .mark ≡ 1 → Passed (r .set) (r .view) (frameIn u k j)
-  unfolding contents frameIn
+  passedGiven : (k j : ℕ) → 1 ≤ k → k ≤ kinds → j < rows → u (frameSlot k j) .mark ≡ 1 → Passed (r .set) (r .view) (frameHeld u k j)
+  unfolding contents frameHeld
   passedGiven k j low high row e =
-      let kept : contents r .kept k j ≡ some (frameIn u k j) = keptAt r k j low high row ∙ keptThere u k j e in
-      let is = given .kept k j (frameIn u k j) kept in
+      let kept : contents r .kept k j ≡ some (frameHeld u k j) = keptAt r k j low high row ∙ keptThere u k j e in
+      let is = given .kept k j (frameHeld u k j) kept in
       record {
         row = is .row;
-        behind = behindOf (r .set) (r .view) (frameIn u k j)
-            (λ own other. given .own k (frameIn u k j) (subst (λ (i : ℕ). contents r .kept k i ≡ some (frameIn u k j)) own kept) other);
+        behind = behindOf (r .set) (r .view) (frameHeld u k j)
+            (λ own other. given .own k (frameHeld u k j) (subst (λ (i : ℕ). contents r .kept k i ≡ some (frameHeld u k j)) own kept) other);
         content = is .content;
         leader = is .leader;
       }
 
   -- So each kind and sender passes its test, with a frame or without.
   placeGiven : (k j : ℕ) → 1 ≤ k → k ≤ kinds → j < rows → placeSound u (r .set) (r .view) k j ≡ true
-  unfolding frameIn
+  unfolding frameHeld
   placeGiven k j low high row = go (which (present (u (frameSlot k j))))
     where
       go : (present (u (frameSlot k j)) ≡ true) ⊎ (present (u (frameSlot k j)) ≡ false) → placeSound u (r .set) (r .view) k j ≡ true
@@ -297,7 +297,7 @@ module _ (r : slots.Record) (clean : Clean r) (given : Sound (contents r)) where
           let m = eqb-true (u (frameSlot k j) .mark) 1 e in
           let head = heldGiven k j low high row .head ∙ ap headOf (keptThere u k j m) in
           placeOfFrame u (r .set) (r .view) k j m (planOnly u k j (form k low high) (ap (λ (x : Report). x .plan) head))
-          ∙ passedSound (r .set) (r .view) (frameIn u k j) (passedGiven k j low high row m)
+          ∙ passedSound (r .set) (r .view) (frameHeld u k j) (passedGiven k j low high row m)
       go (inr e) =
           let m = eqb-false (u (frameSlot k j) .mark) 1 e in
           placeEmpty u (r .set) (r .view) k j m ∙ emptyOf u k j m (heldGiven k j low high row)

@@ -9,16 +9,15 @@ use mathlib.Core.Bool.{Bool, cond}
 use mathlib.Core.List.{List}
 use mathlib.Core.Option.{Option, none, some}
 use native.Mathlib.Omega.{arith}
-use lib.Dec.{ltb}
 use lib.ListN.{length, getD, replicate, length-replicate}
 use borrow.Author.Tests.{le-ltb}
 use Rattle.wire.specs.Fields.{Bytes}
-use Rattle.agreement.proofs.Reports.{none≢some}
+use Rattle.rules.proofs.Reports.{none≢some}
 use Rattle.record.specs.Slots as slots
 use Rattle.record.specs.Slots.{previousSlot, slotOf}
-use Rattle.layout.specs.Layout.{encodeRecord, decodeRecord}
-use Rattle.layout.specs.Size.{recordSize}
-use Rattle.layout.proofs.Theorems.{encodeBytes}
+use Rattle.record.specs.Layout.{encodeRecord, decodeRecord}
+use Rattle.record.specs.Size.{recordSize}
+use Rattle.record.proofs.Theorems.{encodeBytes}
 use Rattle.sound.specs.declared.Lent.{Lent}
 use Rattle.sound.specs.inside.Sound.{lentIs}
 use Rattle.sound.proofs.Laws.{lentBlank}
@@ -31,7 +30,7 @@ use Rattle.protocol.specs.Fed.{Fed}
 use Rattle.protocol.proofs.Tables.{whenFalse}
 use Rattle.protocol.proofs.Proper.{callProper}
 use Rattle.contents.specs.Contents.{previousOf, contents, contentsIn, slotted}
-use Rattle.contents.specs.Calls.{after, onLent, called}
+use Rattle.contents.specs.Calls.{leftAfter, onLent, called}
 use Rattle.contents.specs.Left.{gave}
 use Rattle.contents.specs.Spelling.{Spells, Reached, blank, next, LeavesSpelled, LosesNothing}
 use Rattle.contents.proofs.Slotted.{Placed}
@@ -121,11 +120,12 @@ onSpelled k rec none a h = ap (λ (t : Lent). onLent t k (contentsIn rec) a) h
 onSpelled k rec (some r) a h = ap (λ (t : Lent). onLent t k (contentsIn rec) a) (h .sound) ∙ ap (λ (z : Record). answer (some z) a) (h .holds)
 
 -- Where there is room, it comes to what the call by contents answers.
-pub calledRoom : (k : ℕ) (rec out : List ℕ) (b : Option Record) (a : Call) → Spells rec b → 256 ≤ length out → called k rec out a ≡ after rec out (answer b a)
+pub calledRoom : (k : ℕ) (rec out : List ℕ) (b : Option Record) (a : Call) → Spells rec b → 256 ≤ length out
+    → called k rec out a ≡ leftAfter rec out (answer b a)
 unfolding called
 calledRoom k rec out b a h room =
-    ap (λ (t : Bool). cond t (gave 1 rec out) (after rec out (onLent (lentIs rec) k (contentsIn rec) a))) (le-ltb (length out) 256 room)
-    ∙ ap (after rec out) (onSpelled k rec b a h)
+    ap (λ (t : Bool). cond t (gave 1 rec out) (leftAfter rec out (onLent (lentIs rec) k (contentsIn rec) a))) (le-ltb (length out) 256 room)
+    ∙ ap (leftAfter rec out) (onSpelled k rec b a h)
 
 -- The layout loses nothing: a blank record, every content reached, one spelling of each, and what calls leave.
 pub losesNothing : LosesNothing
@@ -135,6 +135,6 @@ losesNothing = record {
   once = λ r s t bs bt ss st. spelledOnce r s bs ss ∙ sym (spelledOnce r t bt st);
   left = λ k rec out b a bytes spells fed room o is.
       let fine = callFine b a (spelledFine rec b bytes spells) fed o is in
-      let same = calledRoom k rec out b a spells room ∙ ap (after rec out) is in
+      let same = calledRoom k rec out b a spells room ∙ ap (leftAfter rec out) is in
       subst (LeavesSpelled o out) (sym same) (refl, refl, fineBytes (o .left) fine, fineSpells (o .left) fine);
 }

@@ -7,7 +7,7 @@ use mathlib.Core.Path.{_≡_, refl, sym, _∙_, ap, subst}
 use mathlib.Core.Bool.{Bool, true, false, cond}
 use mathlib.Core.List.{List}
 use mathlib.Core.Option.{Option, none, some}
-use Rattle.quorum.proofs.Bools.{clash}
+use Rattle.rules.proofs.Bools.{clash}
 use Rattle.rules.specs.Rules.{Vote}
 use Rattle.frame.specs.declared.Frame.{Frame}
 use Rattle.protocol.specs.Record.{Record}

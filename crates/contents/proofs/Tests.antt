@@ -11,7 +11,7 @@ use native.Mathlib.Omega.{arith}
 use native.Mathlib.Decide.{decLt}
 use lib.Dec.{ltb, eqb}
 use borrow.Author.Tests.{eqb-true, eq-eqb, lt-ltb, le-ltb, not-false}
-use Rattle.quorum.proofs.Bools.{which, clash, bothSplit, bothJoin, orLeft, orRight}
+use Rattle.rules.proofs.Bools.{which, clash, bothSplit, bothJoin, orLeft, orRight}
 use Rattle.rules.specs.Rules.{Vote}
 use Rattle.wire.specs.Fields as wire
 use Rattle.frame.specs.declared.Report.{Report}
@@ -22,9 +22,9 @@ use Rattle.frame.specs.Valid.{fits, Valid}
 use Rattle.frame.specs.Refusal.{present, absent, badForm}
 use Rattle.frame.proofs.Laws.{Form, plan, bare, reports, inside}
 use Rattle.record.specs.Slots.{rows, kinds, frameSlot, reportSlot, emptySlot}
-use Rattle.layout.specs.inside.Layout.{Small}
-use Rattle.keeping.specs.Kept.{reportsIn, bodyIn, frameIn, keptIn, planOf}
-use Rattle.keeping.proofs.Forms.{bodyPlan, bodyBare, bodyReports, keptThere, keptNothing}
+use Rattle.record.specs.inside.Layout.{Small}
+use Rattle.record.specs.Kept.{reportsIn, bodyIn, frameHeld, keptIn, planOf}
+use Rattle.record.proofs.Forms.{bodyPlan, bodyBare, bodyReports, keptThere, keptNothing}
 use Rattle.sound.specs.inside.Sound.{all, reportsAbsent, emptyAt, noPlan}
 use Rattle.sound.proofs.Laws.{allStop}
 use Rattle.protocol.specs.Record.{reported, spelt}
@@ -94,7 +94,7 @@ module _ (s : ℕ → Report) (k j : ℕ) where
 
   -- The frame that the slots say.
   abbrev f : Frame
-  f = frameIn s k j
+  f = frameHeld s k j
 
   -- The table's column 'Rest': only kinds 1 to 5 have a plan.
   planIs : Form k → noPlan k (x .plan) ≡ true → x .plan ≡ planOf (bodyIn s k j)
@@ -120,7 +120,7 @@ module _ (s : ℕ → Report) (k j : ℕ) where
 
   -- A slot that is marked, with a plan where its kind has one, holds the frame and nothing besides.
   pub heldThere : Form k → x .mark ≡ 1 → noPlan k (x .plan) ≡ true → Held s k j
-  unfolding frameIn
+  unfolding frameHeld
   heldThere form e h =
       let p = planIs form h in
       let kept = keptThere s k j e in
@@ -171,7 +171,7 @@ module _ (s : ℕ → Report) (k j : ℕ) where
 
   -- A frame that slots of their widths hold has bytes.
   pub validIn : Form k → k ≤ kinds → j < rows → ((i : ℕ) → Small (s i)) → Valid f
-  unfolding frameIn
+  unfolding frameHeld
   validIn form high row small = record { shape = shape form; sized = (omega arith, (omega arith, (small (frameSlot k j) .view, sized form))) }
     where
       shape : Form k → fits k (bodyIn s k j) ≡ true

@@ -11,7 +11,7 @@ use native.Mathlib.Decide.{decLt}
 use lib.Dec.{eqb}
 use borrow.Author.Tests.{ltb-false}
 use Rattle.rules.specs.Rules.{Vote}
-use Rattle.agreement.proofs.Reports.{none≢some}
+use Rattle.rules.proofs.Reports.{none≢some}
 use Rattle.wire.specs.Fields as wire
 use Rattle.frame.specs.declared.Report.{Report}
 use Rattle.frame.specs.declared.Body.{Body}
@@ -21,13 +21,13 @@ use Rattle.frame.specs.Format.{headFields, bodyFields}
 use Rattle.frame.specs.Valid.{Valid}
 use Rattle.record.specs.Slots as slots
 use Rattle.record.specs.Slots.{slotCount, previousSlot, decisionSlot, emptySlot, slotOf}
-use Rattle.layout.specs.inside.Layout as layout
-use Rattle.layout.specs.inside.Layout.{Small}
-use Rattle.keeping.specs.Kept.{planOf, headSlot}
+use Rattle.record.specs.inside.Layout as layout
+use Rattle.record.specs.inside.Layout.{Small}
+use Rattle.record.specs.Kept.{planOf, headSlot}
 use Rattle.protocol.specs.Record.{Record, reported, spelt}
 use Rattle.protocol.specs.Pass.{hasPrevious}
 use Rattle.settings.specs.Settings.{settingRows}
-use Rattle.protocol.specs.inside.Sound.{Fits, Ranged}
+use Rattle.protocol.specs.inside.Sound.{FitsVote, Ranged}
 use Rattle.protocol.specs.Sound.{Sound}
 use Rattle.protocol.proofs.Tables.{whenSome}
 use Rattle.protocol.proofs.Slots.{viewFits}
@@ -40,15 +40,15 @@ use Rattle.contents.proofs.Slotted.{slotSlotted, slotBeyond}
 -- ---- from slots to contents
 
 -- The vote in a slot has the slot's widths.
-reportedFits : (y : Report) (x : Vote) → Small y → reported y ≡ some x → Fits x
+reportedFits : (y : Report) (x : Vote) → Small y → reported y ≡ some x → FitsVote x
 reportedFits y x small e = go (eqb (y .mark) 1) e
   where
-    go : (b : Bool) → cond b (some (record { view = y .view; plan = y .plan })) none ≡ some x → Fits x
+    go : (b : Bool) → cond b (some (record { view = y .view; plan = y .plan })) none ≡ some x → FitsVote x
     go true e = let is : record { view = y .view; plan = y .plan } ≡ x = cc in rw (← is) (small .view, small .plan)
     go false e = absurd (none≢some e)
 
 -- Contents of slots that have their widths have theirs.
-pub rangedFits : (r : slots.Record) → layout.Fits r → Ranged (contents r)
+pub rangedFits : (r : slots.Record) → layout.FitsBytes r → Ranged (contents r)
 unfolding contents previousOf
 rangedFits r z = record {
   start = z .plan;
@@ -64,7 +64,7 @@ smallEmpty : Small emptySlot
 smallEmpty = record { mark = omega arith; view = omega arith; plan = omega arith }
 
 -- A spelt vote has its widths.
-smallSpelt : (o : Option Vote) → ((x : Vote) → o ≡ some x → Fits x) → Small (spelt o)
+smallSpelt : (o : Option Vote) → ((x : Vote) → o ≡ some x → FitsVote x) → Small (spelt o)
 smallSpelt none fit = smallEmpty
 smallSpelt (some x) fit = record { mark = omega arith; view = fit x refl .0; plan = fit x refl .1 }
 
@@ -115,7 +115,7 @@ module _ (c : Record) (sound : Sound c) (ranged : Ranged c) where
       go (no far) = subst Small (sym (slotBeyond c i (omega arith))) smallEmpty
 
   -- The record that sound contents fill has the widths of its bytes.
-  pub fitsSlotted : layout.Fits (slotted c)
+  pub fitsSlotted : layout.FitsBytes (slotted c)
   unfolding slotted
   fitsSlotted = record {
     set = record {

@@ -11,7 +11,7 @@ use Rattle.wire.specs.Placed.{placed}
 use Rattle.frame.specs.Refusal.{readFrame}
 use Rattle.entry.specs.Layout.{layout}
 use Rattle.settings.specs.declared.Settings.{Settings}
-use Rattle.layout.specs.Layout.{encodeRecord, decodeRecord}
+use Rattle.record.specs.Layout.{encodeRecord, decodeRecord}
 use Rattle.sound.specs.declared.Lent.{Lent}
 use Rattle.sound.specs.declared.Lent.the-variants.{Blank, Unsound, Sound}
 use Rattle.sound.specs.inside.Sound.{lentIs}
@@ -22,9 +22,9 @@ use Rattle.contents.specs.Left.{Left, wrote, gave}
 
 -- 'Each gives its number, zero bytes written, record and output unchanged.' 'Accepted calls return the byte count written; bytes
 -- beyond it keep their contents.'
-abbrev pub after : List ℕ → List ℕ → Answer → Left
-after rec out (refused k) = gave k rec out
-after rec out (accepted o) = wrote (length (layout (o .wrote))) (encodeRecord (slotted (o .left))) (placed out 0 (layout (o .wrote)))
+abbrev pub leftAfter : List ℕ → List ℕ → Answer → Left
+leftAfter rec out (refused k) = gave k rec out
+leftAfter rec out (accepted o) = wrote (length (layout (o .wrote))) (encodeRecord (slotted (o .left))) (placed out 0 (layout (o .wrote)))
 
 -- A call on a lent record, by what it is (`LentIsSaid` in Lent): 3 or 4 where it is unsound (4 is 'start on a record not blank').
 abbrev pub onLent : Lent → ℕ → Record → Call → Answer
@@ -35,7 +35,7 @@ onLent Sound k r a = answer (some r) a
 -- 'output space below 256 bytes' first; then the record; then the call by contents.
 unfoldable pub called : ℕ → List ℕ → List ℕ → Call → Left
 called k rec out a =
-    cond (ltb (length out) 256) (gave 1 rec out) (after rec out (onLent (lentIs rec) k (contents (decodeRecord rec)) a))
+    cond (ltb (length out) 256) (gave 1 rec out) (leftAfter rec out (onLent (lentIs rec) k (contents (decodeRecord rec)) a))
 
 -- Start: settings and a starting plan.
 unfoldable pub startLeft : List ℕ → Settings → ℕ → List ℕ → Left

@@ -13,9 +13,9 @@ use Rattle.frame.specs.declared.Body.the-variants.{Plan, Empty, Told}
 use Rattle.frame.specs.declared.Frame.{Frame}
 use Rattle.frame.specs.Format.{within}
 use Rattle.record.specs.Slots as slots
-use Rattle.record.specs.Slots.{rows, kinds, reportRows, firstReport, firstPrevious, decisionSlot, slotCount, previousSlot, emptySlot, slotOf}
-use Rattle.layout.specs.Layout.{decodeRecord}
-use Rattle.keeping.specs.Kept.{keptFrame, headSlot}
+use Rattle.record.specs.Slots.{rows, kinds, reportsOfKind, firstReport, firstPrevious, decisionSlot, slotCount, previousSlot, emptySlot, slotOf}
+use Rattle.record.specs.Layout.{decodeRecord}
+use Rattle.record.specs.Kept.{keptFrame, headSlot}
 use Rattle.rules.specs.Rules.{Vote}
 use Rattle.protocol.specs.Record.{Record, when, reported, spelt}
 use Rattle.protocol.specs.Pass.{hasPrevious}
@@ -69,7 +69,7 @@ reportOfFrame j (some f) = reportOfBody j (f .body)
 unfoldable pub slotAt : Record → ℕ → Report
 slotAt c i =
     cond (ltb i firstReport) (headOf (c .kept (suc ((i / rows + 5) % kinds)) (i % rows)))
-    (cond (ltb i firstPrevious) (reportOfFrame ((i - firstReport) / rows % 3) (c .kept (7 + (i - firstReport) / reportRows) (i % rows)))
+    (cond (ltb i firstPrevious) (reportOfFrame ((i - firstReport) / rows % 3) (c .kept (7 + (i - firstReport) / reportsOfKind) (i % rows)))
     (cond (ltb i decisionSlot) (spelt (c .previous (suc (i - firstPrevious)))) (spelt (c .decision))))
 
 -- What stands at a number: beyond the last slot there is nothing.

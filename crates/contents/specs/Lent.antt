@@ -9,8 +9,8 @@ use lib.ListN.{length, getD}
 use Rattle.wire.specs.Fields.{Bytes}
 use Rattle.record.specs.Slots as slots
 use Rattle.record.specs.Slots.{slotOf}
-use Rattle.layout.specs.Layout.{decodeRecord}
-use Rattle.layout.specs.Size.{recordSize}
+use Rattle.record.specs.Layout.{decodeRecord}
+use Rattle.record.specs.Size.{recordSize}
 use Rattle.sound.specs.declared.Lent.the-variants as lent
 use Rattle.sound.specs.inside.Sound.{lentIs}
 use Rattle.protocol.specs.Sound.{Sound}

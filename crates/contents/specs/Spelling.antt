@@ -8,7 +8,7 @@ use lib.ListN.{length}
 use Rattle.wire.specs.Fields.{Bytes}
 use Rattle.wire.specs.Placed.{placed}
 use Rattle.entry.specs.Layout.{layout}
-use Rattle.layout.specs.Layout.{encodeRecord}
+use Rattle.record.specs.Layout.{encodeRecord}
 use Rattle.sound.specs.declared.Lent.the-variants as lent
 use Rattle.sound.specs.inside.Sound.{lentIs}
 use Rattle.protocol.specs.Record.{Record}
@@ -20,14 +20,14 @@ use Rattle.contents.specs.Calls.{called}
 use Rattle.contents.specs.Left.{Left, wrote, gave}
 
 -- Bytes that are lent as a sound record, and are read as contents r.
-pub record Holds (s : List ℕ) (r : Record) : Type 0 where
+pub record HoldsContents (s : List ℕ) (r : Record) : Type 0 where
   pub sound : lentIs s ≡ lent.Sound
   pub holds : contentsIn s ≡ r
 
 -- What bytes spell: a blank record (none), or a vault's contents.
 abbrev pub Spells : List ℕ → Option Record → Type 0
 Spells s none = lentIs s ≡ lent.Blank
-Spells s (some r) = Holds s r
+Spells s (some r) = HoldsContents s r
 
 -- 'every content that accepted calls reach from a blank record'. A start brings a 64-bit plan, and a frame is one that the reader accepted (`Fed`).
 pub data Reached : Option Record → Type 0 where

@@ -1,4 +1,4 @@
--- Outputs read as their entries, uniquely: "Entries lie end to end: a recipient byte .., then the frame" (01, Refusals). The first two bytes
+-- Outputs read as their entries, uniquely: 'Entries lie end to end: a recipient byte .., then the frame' (01, Refusals). The first two bytes
 -- of an entry tell its recipient and its kind, so also its length; what is left is the next entry. A frame in an entry says itself by
 -- `decodeEncoded`, and a host entry by the laws of fields.
 -- Assumes nothing.
@@ -104,14 +104,6 @@ entrySpan (ForAll f) = (omega arith, omega (arith, encodeShort f))
 entrySpan (ForOne to f) = (omega arith, omega (arith, encodeShort f))
 entrySpan (Timer view millis) = let l = lengthSpell (hostFields 11 view 4 millis) in (omega arith, omega arith)
 entrySpan (Decision view plan) = let l = lengthSpell (hostFields 10 view 8 plan) in (omega arith, omega arith)
-
--- Where 46 bytes are left, any entry fits, and ends within them.
-pub entryFits : (e : Entry) (at size : ℕ) → at + 46 ≤ size → at + length (entryBytes e) ≤ size
-entryFits e at size h = omega (arith, entrySpan e .1)
-
--- The next place after an entry is at most 46 bytes on.
-pub entryEnds : (e : Entry) (at next : ℕ) → next ≡ at + length (entryBytes e) → next ≤ at + 46
-entryEnds e at next h = omega (arith, entrySpan e .1)
 
 -- Entries end to end read back one by one, for any bound on their number that the bytes do not pass.
 readWithin : (es : List Entry) (bound : ℕ) → AllValid es → length (layout es) ≤ bound → entriesWithin bound (layout es) ≡ es

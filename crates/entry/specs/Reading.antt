@@ -10,11 +10,11 @@ use Rattle.frame.specs.Format.{lengthOf, decode}
 use Rattle.entry.specs.declared.Entry.{Entry}
 use Rattle.entry.specs.declared.Entry.the-variants.{ForAll, ForOne, Timer, Decision}
 
--- "a recipient byte .. then the frame": the frame's bytes, as many as its kind has, in an entry at the start of some bytes
+-- 'a recipient byte .. then the frame': the frame's bytes, as many as its kind has, in an entry at the start of some bytes
 abbrev pub frameIn : List ℕ → List ℕ
 frameIn s = take (lengthOf (getD s 1 0)) (drop 1 s)
 
--- "fe the host", "0b .. for a timer", "0a .. for a decision", "ff all vaults, else a vault's number": the entry at the start of some bytes
+-- 'fe the host', '0b .. for a timer', '0a .. for a decision', 'ff all vaults, else a vault's number': the entry at the start of some bytes
 unfoldable pub entryAt : List ℕ → Entry
 entryAt s =
     cond (eqb (getD s 0 0) 254)
@@ -25,7 +25,7 @@ entryAt s =
 unfoldable pub sizeAt : List ℕ → ℕ
 sizeAt s = cond (eqb (getD s 0 0) 254) (cond (eqb (getD s 1 0) 11) 10 14) (suc (lengthOf (getD s 1 0)))
 
--- "Entries lie end to end": the entries of some bytes, at most a given number.
+-- 'Entries lie end to end': the entries of some bytes, at most a given number.
 unfoldable pub entriesWithin : ℕ → List ℕ → List Entry
 entriesWithin zero s = []
 entriesWithin (suc more) s = cond (eqb (length s) 0) [] (entryAt s ∷ entriesWithin more (drop (sizeAt s) s))

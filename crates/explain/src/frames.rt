@@ -21,7 +21,7 @@ pub(crate) fn frame_in(s: &[u8]) -> Reading
     if why != 0 {
         return Reading::Refused(why);
     }
-    Reading::Accepted(reader::parse(s))
+    Reading::Accepted(frame::reader::parse(s))
 }
 
 pub(crate) fn say_kind(kind: u8) {
@@ -38,7 +38,7 @@ pub(crate) fn say_kind(kind: u8) {
     }
 }
 
-// "A suggest reports highest vote-2, previous vote-2, highest vote-3. A proof reports highest vote-1, previous vote-1, highest vote-4."
+// 'A suggest reports highest vote-2, previous vote-2, highest vote-3. A proof reports highest vote-1, previous vote-1, highest vote-4.'
 pub(crate) fn vote_of(kind: u8) -> u8
     ensures { λ r. ⌜ r ≤ 2 ⌝ }
 {
@@ -105,7 +105,7 @@ fn say_body(f: Frame) {
     }
 }
 
-// Kind, sender and what the frame holds: "vote-2 of vault 1, view 0, plan 7".
+// Kind, sender and what the frame holds: 'vote-2 of vault 1, view 0, plan 7'.
 pub(crate) fn say_frame(f: Frame) {
     say_kind(f.kind);
     say_number(b" of vault ", f.sender as u64);

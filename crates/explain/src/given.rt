@@ -1,4 +1,4 @@
-// What lines say that are given to vaultlines: "Kind 00 starts ..; kind 09 is a timer ..; other lines are frames".
+// What lines say that are given to vaultlines: 'Kind 00 starts ..; kind 09 is a timer ..; other lines are frames'.
 use crate::frames::frame_in;
 use crate::frames::say_frame;
 use crate::frames::say_kind;

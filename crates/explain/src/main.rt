@@ -1,6 +1,6 @@
 // Explains lines of vaultlines, given and printed: each is shown, with its meaning in plain words below it.
 //
-// Proved: it ends, and touches only what it is lent. Digits are read by crate lines and frames by crate reader; the sentences are tested.
+// Proved: it ends, and touches only what it is lent. Digits are read by crate lines and frames by crate frame; the sentences are tested.
 mod frames;
 mod given;
 mod printed;

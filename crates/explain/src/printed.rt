@@ -1,4 +1,4 @@
-// What lines say that vaultlines prints: "one output entry a line, or fd and the refusal number as one byte".
+// What lines say that vaultlines prints: 'one output entry a line, or fd and the refusal number as one byte'.
 ghost use Prim.Native.Nat.{_≤_};
 ghost use lib.ListN.{length};
 use crate::frames::frame_in;

@@ -29,7 +29,7 @@ const LONGEST: usize = 120;
 // The library's own sentence, as hosts get it.
 fn say_reason(number: u8) {
     let mut text = [0u8; LONGEST];
-    let count = texts::refusal_text(number as u32, &mut text);
+    let count = questions::refusal_text(number as u32, &mut text);
     if count == 0 {
         say(b"there is no refusal of this number");
         return;

@@ -1,5 +1,5 @@
--- The exports' answers from those of what they call. An answer to an accepted frame fits: three entries are at most 138 bytes, since "Entries
--- lie end to end" and each is at most 46. The search relies on what `laid` tests; it goes by settings, of which it reads the n and f of the call.
+-- The exports' answers from those of what they call. An answer to an accepted frame fits: three entries are at most 138 bytes, since 'Entries
+-- lie end to end' and each is at most 46. The search relies on what `laid` tests; it goes by settings, of which it reads the n and f of the call.
 -- Assumes nothing.
 use Prim.Native.Nat.{ℕ, _≤_, _<_}
 use mathlib.Core.Path.{_≡_}
@@ -7,15 +7,15 @@ use mathlib.Core.Bool.{Bool, true, false, cond, not, and-false}
 use mathlib.Core.Option.{Option}
 use mathlib.Core.List.{List}
 use native.Mathlib.Omega.{arith}
-use lib.Dec.{leb, ltb, eqb}
+use lib.Dec.{leb, eqb}
 use lib.ListN.{length, length-append}
 use borrow.Author.Tests.{leb-true, ltb-true, eqb-true, lt-ltb, le-ltb}
 use Rattle.frame.specs.declared.Frame.{Frame}
 use Rattle.entry.specs.declared.Entry.the-variants.{ForAll, Timer, Decision}
 use Rattle.entry.specs.Layout.{layout}
 use Rattle.entry.proofs.Theorems.{entrySpan}
-use Rattle.quorum.specs.Sets.{equals}
-use Rattle.quorum.proofs.Bools.{bothSplit}
+use Rattle.rules.specs.Sets.{equals}
+use Rattle.rules.proofs.Bools.{bothSplit}
 use Rattle.rules.specs.inside.Counts.{safe, choice}
 use Rattle.claims.specs.Table.{column, tableSize, reportsInTable}
 use Rattle.safe.specs.Choices.{ruleOf}

@@ -43,7 +43,7 @@ pub extern "C" fn frame_echo(s: &[u8], link: u8, n: u8, own: u8, out: &mut [u8])
     if out.len() < 256 {
         return 1;
     }
-    let got = reader::read(s, link, n, own);
+    let got = frame::reader::read(s, link, n, own);
     let Reading::Accepted(f) = got else {
         return frame::refusal_of(got) as u32;
     };

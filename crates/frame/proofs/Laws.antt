@@ -1,4 +1,4 @@
--- Laws on kinds, lengths and the table of refusals, from document 01's table of frames and its "Checked downwards". A kind is one
+-- Laws on kinds, lengths and the table of refusals, from document 01's table of frames and its 'Checked downwards'. A kind is one
 -- of four forms (a plan, nothing, reports, unknown), and each definition over the kind computes to one value on each form. A table
 -- in two parts gives what its first part gives, unless that is 0. So every proof goes over the form, and none over the eight kinds.
 -- Assumes nothing.
@@ -69,17 +69,17 @@ form k a b =
       | no g ↦ elim (decLe k 6) [ yes h ↦ bare (omega arith) | no h ↦ reports (omega arith) b ]
     ]
 
--- the table's column "Length", kinds 1 to 5: 14
+-- the table's column 'Length', kinds 1 to 5: 14
 pub lengthPlan : (k : ℕ) → 1 ≤ k → k ≤ 5 → lengthOf k ≡ 14
 unfolding lengthOf
 lengthPlan k a b = simp (inside 1 5 k a b)
 
--- the table's column "Length", kind 6: 6
+-- the table's column 'Length', kind 6: 6
 pub lengthBare : (k : ℕ) → k ≡ 6 → lengthOf k ≡ 6
 unfolding lengthOf within
 lengthBare k e = rw e
 
--- the table's column "Length", kinds 7 and 8: 45
+-- the table's column 'Length', kinds 7 and 8: 45
 pub lengthReports : (k : ℕ) → 7 ≤ k → k ≤ 8 → lengthOf k ≡ 45
 unfolding lengthOf
 lengthReports k a b = simp (over 1 5 k (omega arith) (omega arith), ne-eqb k 6 (omega arith), inside 7 8 k a b)

@@ -10,7 +10,7 @@ use native.Mathlib.Omega.{arith}
 use borrow.Author.Tests.{eq-eqb, eqb-true}
 use lib.ListN.{length, getD}
 use Rattle.wire.specs.Fields.{Field, field, spell, Sized, Bytes}
-use Rattle.wire.specs.inside.Widths.{widths, total, fieldsAt}
+use Rattle.wire.specs.inside.Widths.{widths, totalWidth, fieldsAt}
 use Rattle.wire.proofs.Laws.{numberOne, readFields, spellRead, sizedFields, lengthSpell}
 use Rattle.frame.specs.declared.Report.{Report}
 use Rattle.frame.specs.declared.Reports.{Reports}
@@ -34,7 +34,7 @@ abbrev whole : {k : ℕ} → Form k → List ℕ
 whole f = 1 ∷ 1 ∷ 4 ∷ rest f
 
 -- the widths of a form add up to the length that the table has for the kind
-lengthWhole : (k : ℕ) (f : Form k) → lengthOf k ≡ total (whole f)
+lengthWhole : (k : ℕ) (f : Form k) → lengthOf k ≡ totalWidth (whole f)
 lengthWhole k (plan a b) = lengthPlan k a b
 lengthWhole k (bare e) = lengthBare k e
 lengthWhole k (reports a b) = lengthReports k a b
@@ -97,7 +97,7 @@ bodySays k Empty s h e = bodyOfBare k s (eqb-true k 6 h)
 bodySays k (Told r) s h e = let (low, high) = bounds 7 8 k h in bodyOfReports k s low ∙ ap (λ (x : Reports). Told x) (reportsSay r s e)
 
 -- the length of a frame's fields is its kind's
-bodyLength : (k : ℕ) (b : Body) → fits k b ≡ true → (total (1 ∷ 1 ∷ 4 ∷ widths (bodyFields b)) ≡ lengthOf k) × (within 1 8 k ≡ true)
+bodyLength : (k : ℕ) (b : Body) → fits k b ≡ true → (totalWidth (1 ∷ 1 ∷ 4 ∷ widths (bodyFields b)) ≡ lengthOf k) × (within 1 8 k ≡ true)
 bodyLength k (Plan p) h = let (low, high) = bounds 1 5 k h in (sym (lengthPlan k low high), inside 1 8 k (omega arith) (omega arith))
 bodyLength k Empty h = let e = eqb-true k 6 h in (sym (lengthBare k e), inside 1 8 k (omega arith) (omega arith))
 bodyLength k (Told r) h = let (low, high) = bounds 7 8 k h in (sym (lengthReports k low high), inside 1 8 k (omega arith) (omega arith))

@@ -1,4 +1,4 @@
--- Reading step by step, as "Checked downwards" has it (01, Refusals): each group of rows gives its number, or the next group decides.
+-- Reading step by step, as 'Checked downwards' has it (01, Refusals): each group of rows gives its number, or the next group decides.
 -- A reader that tests the groups in this order cites one law at each of its answers.
 -- Assumes nothing.
 use Prim.Native.Nat.{ℕ, _<_}

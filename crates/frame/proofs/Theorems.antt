@@ -11,7 +11,7 @@ use borrow.Author.Tests.{eqb-true}
 use lib.Dec.{eqb}
 use lib.ListN.{length, getD}
 use Rattle.wire.specs.Fields.{Bytes}
-use Rattle.wire.specs.inside.Widths.{widths, total}
+use Rattle.wire.specs.inside.Widths.{widths, totalWidth}
 use Rattle.wire.proofs.Laws.{lengthSpell, bytesSpell}
 use Rattle.frame.specs.declared.Body.{Body}
 use Rattle.frame.specs.declared.Body.the-variants.{Plan, Empty, Told}
@@ -83,7 +83,7 @@ acceptedValid s link n own f b e =
     let p = passed s link n own f e in
     subst Valid (p .said) (spelling.decodeValid s b (formed s (p .form)))
 
--- The bytes of a valid frame are as many as the table's column "Length" has for its kind.
+-- The bytes of a valid frame are as many as the table's column 'Length' has for its kind.
 pub encodeLength : (f : Frame) → Valid f → length (encode f) ≡ lengthOf (f .kind)
 encodeLength = spelling.encodeLength
 
@@ -92,7 +92,7 @@ pub encodeShort : (f : Frame) → length (encode f) ≤ 45
 unfolding encode
 encodeShort f = rw (lengthSpell (fieldsOf f)) (byBody (f .body))
   where
-    byBody : (b : Body) → total (1 ∷ 1 ∷ 4 ∷ widths (bodyFields b)) ≤ 45
+    byBody : (b : Body) → totalWidth (1 ∷ 1 ∷ 4 ∷ widths (bodyFields b)) ≤ 45
     byBody (Plan p) = omega arith
     byBody Empty = omega arith
     byBody (Told r) = omega arith

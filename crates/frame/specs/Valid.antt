@@ -10,7 +10,7 @@ use Rattle.frame.specs.declared.Body.the-variants.{Plan, Empty, Told}
 use Rattle.frame.specs.declared.Frame.{Frame}
 use Rattle.frame.specs.Format.{within, fieldsOf}
 
--- The table's column "Rest": a plan in kinds 1 to 5, none in kind 6, three reports in kinds 7 and 8.
+-- The table's column 'Rest': a plan in kinds 1 to 5, none in kind 6, three reports in kinds 7 and 8.
 abbrev pub fits : ℕ → Body → Bool
 fits kind (Plan p) = within 1 5 kind
 fits kind Empty = eqb kind 6

@@ -8,6 +8,8 @@ ghost use Rattle.frame.specs.Refusal.{badForm, tooHigh, badPrevious, vie
 ghost use Rattle.frame.specs.inside.Reading.{presentAt, refusalOf};
 
 pub mod numbers;
+pub mod reader;
+pub mod writer;
 
 // The lengths of frames: with a plan, bare, and with reports.
 const PLAN_LENGTH: usize = 14;

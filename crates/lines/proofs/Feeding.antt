@@ -8,7 +8,7 @@ use native.Mathlib.Omega.{arith}
 use lib.ListN.{length, take, drop, length-append, length-drop, drop-of-length-le}
 use lib.Seq.{drop-drop, length-take-le, take-all, take-at}
 use Rattle.wire.specs.Placed.{placed}
-use Rattle.lines.specs.Lines.{ended, begun, lastLine, Program, after, prints}
+use Rattle.lines.specs.Lines.{ended, begun, Program, after, prints}
 use Rattle.lines.specs.inside.Lines.{firstLine}
 use Rattle.lines.specs.Steps.{Fed, Finished}
 use Rattle.lines.specs.inside.Steps.{OnPage, Enough, Answered}

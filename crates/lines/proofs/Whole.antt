@@ -5,7 +5,7 @@ use Prim.Native.Nat.{ℕ, suc, _≤_}
 use mathlib.Core.Path.{_≡_, refl, sym, ap, _∙_}
 use mathlib.Core.List.{List, [], _++_}
 use native.Mathlib.Omega.{arith}
-use lib.ListN.{length, take}
+use lib.ListN.{take}
 use lib.Seq.{take-all, take-take}
 use Rattle.lines.specs.Lines.{ended, begun, lastLine, Program, after, prints, answers}
 use Rattle.lines.specs.Steps.{Fed, Finished, Reads, first, andThen}

@@ -6,12 +6,12 @@ ghost use Prim.Native.Nat.{_+_, _*_, _≤_, _<_};
 ghost use lib.ListN.{length, take, drop};
 ghost use Rattle.lines.specs.Digits.{valueOf, digitOf, lineOf, refusalLine, bytesOf};
 ghost use Rattle.lines.specs.inside.Lines.{firstLine};
-ghost use Rattle.lines.specs.inside.Steps.{spells, countOf, OnPage, KeptOf};
+ghost use Rattle.lines.specs.inside.Steps.{spells, spellingCount, OnPage, KeptOf};
 
-// "A line ends at byte 0a".
+// 'A line ends at byte 0a'.
 const LINE_END: u8 = 10;
 
-// "fd and the refusal number as one byte": how the line of a refusal begins.
+// 'fd and the refusal number as one byte': how the line of a refusal begins.
 pub const REFUSED: u8 = 253;
 
 // ---- digits
@@ -44,7 +44,7 @@ pub enum Spelling {
 // The bytes that a text of at most limit digits spells go to the start of bytes.
 pub fn bytes_in(text: &[u8], limit: usize, bytes: &mut [u8]) -> Spelling
     requires { ⌜ limit ≤ 2 * length (now bytes) ⌝ }
-    ensures { λ r. ⌜ (spells r (now (bytes .exit)) ≡ bytesOf limit (now (text .entry))) × (countOf r ≤ length (now (bytes .entry))) ⌝ }
+    ensures { λ r. ⌜ (spells r (now (bytes .exit)) ≡ bytesOf limit (now (text .entry))) × (spellingCount r ≤ length (now (bytes .entry))) ⌝ }
 {
     if limit < text.len() {
         return Spelling::Bad;
@@ -89,7 +89,7 @@ pub fn put_line(page: &mut [u8], at: usize, s: &[u8]) -> usize
     to + 1
 }
 
-// "fd and the refusal number as one byte"
+// 'fd and the refusal number as one byte'
 pub fn put_refusal(page: &mut [u8], at: usize, number: u8) -> usize
     requires { ⌜ at + 5 ≤ length (now page) ⌝ }
     ensures { λ r. ⌜ OnPage (refusalLine number) (now (page .entry)) at (now (page .exit)) r ⌝ }

@@ -9,7 +9,7 @@ use native.Mathlib.Omega.{arith}
 use native.Mathlib.Numerals.{add-one}
 use lib.ListN.{length}
 use lib.Seq.{drop-cons}
-use Rattle.layout.specs.Size.{recordSize}
+use Rattle.record.specs.Size.{recordSize}
 use Rattle.protocol.specs.Record.{Record}
 use Rattle.protocol.specs.Pass.{Out, Step, taken, pass, fromA}
 use Rattle.protocol.proofs.Passes.{passNone, passMore}

@@ -12,7 +12,7 @@ use Rattle.wire.proofs.Output.{placedNone, placedMore, lengthPlaced}
 use Rattle.entry.specs.declared.Entry.{Entry}
 use Rattle.entry.specs.Layout.{entryBytes, layout}
 use Rattle.entry.proofs.Theorems.{layoutMore}
-use Rattle.layout.specs.Size.{recordSize}
+use Rattle.record.specs.Size.{recordSize}
 use Rattle.protocol.specs.Record.{Record}
 use Rattle.protocol.specs.Pass.{Out, Step, onward, pass}
 use Rattle.contents.specs.Contents.{contentsIn}

@@ -12,8 +12,8 @@ ghost use mathlib.Core.Option.{some};
 ghost use lib.ListN.{length};
 ghost use Rattle.wire.specs.Placed.{placed};
 ghost use Rattle.entry.specs.Layout.{layout};
-ghost use Rattle.layout.specs.Size.{recordSize};
-ghost use Rattle.layout.specs.Layout.{decodeRecord};
+ghost use Rattle.record.specs.Size.{recordSize};
+ghost use Rattle.record.specs.Layout.{decodeRecord};
 ghost use Rattle.protocol.specs.Pass.{ask, taken, pass};
 ghost use Rattle.contents.specs.Contents.{contentsIn};
 ghost use Rattle.contents.specs.inside.Ready.{Ready};
@@ -30,8 +30,8 @@ fn load(rec: &[u8]) -> Record
     requires { ⌜ length (now rec) ≡ recordSize ⌝ }
     ensures { λ r. ⌜ r .bytes ≡ now (rec .entry) ⌝ }
 {
-    let mut bytes = [0; layout::SIZE];
-    let count = bytes::copy(&rec[0..layout::SIZE], &mut bytes);
+    let mut bytes = [0; record::SIZE];
+    let count = bytes::copy(&rec[0..record::SIZE], &mut bytes);
     let wrote = Wrote {
         entries: Entries::Zero,
     };
@@ -103,7 +103,7 @@ pub fn pass_from(rec: &mut [u8], set: Settings, from: u8, out: &mut [u8], at: us
     let mut count = at;
     let mut k = from;
     while k < 8 {
-        let view = layout::view_of(rec);
+        let view = record::view_of(rec);
         let act = acts::act_at(rec, set, view, k);
         count = take_step(rec, k, act, out, count);
         k += 1;

@@ -8,9 +8,9 @@ use mathlib.Core.Option.{some}
 use native.Mathlib.Omega.{arith}
 use lib.Dec.{eqb}
 use borrow.Author.Tests.{eqb-true}
-use Rattle.quorum.specs.inside.Mostly.{Mostly}
-use Rattle.quorum.specs.Quorums.{Quorum}
-use Rattle.quorum.proofs.Laws.{groupMap, quorumsMeet, quorumBlocks, blockingKeeper, countQuorum, mostlyEquals, totalEquals}
+use Rattle.rules.specs.inside.Mostly.{Mostly}
+use Rattle.rules.specs.Quorums.{Quorum}
+use Rattle.rules.proofs.Quorums.{groupMap, quorumsMeet, quorumBlocks, blockingKeeper, countQuorum, mostlyEquals, totalEquals}
 use Rattle.rules.specs.Options.{holds}
 use Rattle.rules.proofs.Laws.{holdsWhere}
 use Rattle.settings.specs.declared.Settings.{Settings}

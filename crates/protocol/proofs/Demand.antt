@@ -1,7 +1,7 @@
 -- Demand 3: in a run any two decisions are for the same plan, and where all vaults keep the rules it is a plan of a start.
 -- By induction over the list every record is good for the past of the list (`invariant`). Only where a frame is kept is the
 -- run's condition on frames used; loss, repetition and order never appear again. Then the votes written are a lawful history
--- (crate agreement), and a decision has a quorum of vote-4.
+-- (crate rules, Agree), and a decision has a quorum of vote-4.
 -- Assumes nothing.
 use Prim.Native.Nat.{ℕ, zero, suc, _*_, _<_}
 use mathlib.Core.Path.{_≡_, refl, sym, _∙_, ap, subst, fun-ext}
@@ -13,15 +13,15 @@ use native.Mathlib.Omega.{arith}
 use native.Mathlib.Nat.{mod-lt}
 use lib.Dec.{leb, eqb}
 use borrow.Author.Tests.{eqb-true, eqb-false}
-use Rattle.quorum.specs.Sets.{Vaults, weigh, total}
-use Rattle.quorum.specs.inside.Mostly.{Mostly}
-use Rattle.quorum.proofs.Bools.{which}
-use Rattle.quorum.proofs.Laws.{weighNone, weighRest}
+use Rattle.rules.specs.Sets.{Vaults, weigh, total}
+use Rattle.rules.specs.inside.Mostly.{Mostly}
+use Rattle.rules.proofs.Bools.{which}
+use Rattle.rules.proofs.Quorums.{weighNone, weighRest}
 use Rattle.rules.specs.Rules.{rule1}
-use Rattle.agreement.specs.inside.Law.{Exact, Reason, own, found, Lawful, Led, Locked}
-use Rattle.agreement.proofs.Agree.{locksAgree}
-use Rattle.agreement.proofs.Valid.{lockBegan}
-use Rattle.agreement.proofs.Reports.{none≢some}
+use Rattle.rules.specs.inside.Law.{Exact, Reason, own, found, Lawful, Led, Locked}
+use Rattle.rules.proofs.Agree.{locksAgree}
+use Rattle.rules.proofs.Valid.{lockBegan}
+use Rattle.rules.proofs.Reports.{none≢some}
 use Rattle.frame.specs.declared.Frame.{Frame}
 use Rattle.frame.specs.declared.Reading.the-variants.{Accepted, Refused}
 use Rattle.frame.specs.Refusal.{first, linkRows, leaderOf}
@@ -36,14 +36,15 @@ use Rattle.protocol.specs.Calls.{recordRows, timerRows, started, heard, 
 use Rattle.protocol.specs.Calls.{unless, answer}
 use Rattle.protocol.specs.Fed.{Readable}
 use Rattle.settings.specs.Settings.{settingRows}
-use Rattle.protocol.specs.inside.Runs.{Setting, Item, leftBy, wroteBy, recordAt, written, Sent, Fair, Run, nothingYet, andThen, Decides}
-use Rattle.protocol.specs.inside.Runs.{Started, here, earlier}
+use Rattle.protocol.specs.inside.Runs.{ContentsSetting, ContentsItem, recordAfter, wroteBy, recordAt, written, ContentsSent, Fair, ContentsRun}
+use Rattle.protocol.specs.inside.Runs.{nothingYet, andThen, ContentsDecides}
+use Rattle.protocol.specs.inside.Runs.{ContentsStarted, here, earlier}
 use Rattle.protocol.specs.inside.Claim.{Demand3ByContents}
 use Rattle.protocol.proofs.Tables.{putOther, putOwn}
 use Rattle.protocol.proofs.Past.{Past, Voted, ExactNow, Fine, Ground}
 use Rattle.protocol.proofs.Past as Past′
 use Rattle.protocol.proofs.Good.{onto, Good, Seed, chosenSeed, waits, anySeed}
-use Rattle.protocol.proofs.Went.{noneGiven, unlessAccepted, thirdWeight, Went, startWent, heardWent, rungWent}
+use Rattle.protocol.proofs.Went.{noneGiven, unlessAccepted, thirdWeight, Went, startWent, heardWent, timedOutWent}
 
 -- The view of a record, 0 where it is blank.
 abbrev pub viewIn : Option Record → ℕ
@@ -51,27 +52,28 @@ viewIn none = 0
 viewIn (some r) = r .view
 
 -- The past of a list of calls.
-abbrev pub past : List Item → Past
+abbrev pub past : List ContentsItem → Past
 past l = record { wrote = written l; at = λ i. viewIn (recordAt l i) }
 
 -- A refused call leaves the past as it was, an accepted one adds what it answers.
-pub pastRefused : (l : List Item) (x : Item) (k : ℕ) → answer (recordAt l (x .at)) (x .call) ≡ refused k
+pub pastRefused : (l : List ContentsItem) (x : ContentsItem) (k : ℕ) → answer (recordAt l (x .at)) (x .call) ≡ refused k
     → (recordAt (x ∷ l) ≡ recordAt l) × (written (x ∷ l) ≡ written l)
 unfolding recordAt written
 pastRefused l x k e = (
-  ap (λ (a : Answer). put (x .at) (leftBy (recordAt l (x .at)) a) (recordAt l)) e ∙ putOwn (x .at) (recordAt l),
+  ap (λ (a : Answer). put (x .at) (recordAfter (recordAt l (x .at)) a) (recordAt l)) e ∙ putOwn (x .at) (recordAt l),
   ap (λ (a : Answer). put (x .at) (written l (x .at) ++ wroteBy a) (written l)) e
       ∙ ap (λ (es : List Entry). put (x .at) es (written l)) (append-nil (written l (x .at))) ∙ putOwn (x .at) (written l),
 )
 
 -- After an accepted call its vault has the record that it left, and the others have theirs.
-pub recordAccepted : (l : List Item) (x : Item) (o : Out) → answer (recordAt l (x .at)) (x .call) ≡ accepted o
+pub recordAccepted : (l : List ContentsItem) (x : ContentsItem) (o : Out) → answer (recordAt l (x .at)) (x .call) ≡ accepted o
     → recordAt (x ∷ l) ≡ put (x .at) (some (o .left)) (recordAt l)
 unfolding recordAt
-recordAccepted l x o e = ap (λ (a : Answer). put (x .at) (leftBy (recordAt l (x .at)) a) (recordAt l)) e
+recordAccepted l x o e = ap (λ (a : Answer). put (x .at) (recordAfter (recordAt l (x .at)) a) (recordAt l)) e
 
 -- The past after an accepted call is the one before it, with what the call answered.
-pub pastAccepted : (l : List Item) (x : Item) (o : Out) → answer (recordAt l (x .at)) (x .call) ≡ accepted o → past (x ∷ l) ≡ onto (past l) (x .at) o
+pub pastAccepted : (l : List ContentsItem) (x : ContentsItem) (o : Out) → answer (recordAt l (x .at)) (x .call) ≡ accepted o
+    → past (x ∷ l) ≡ onto (past l) (x .at) o
 unfolding written
 pastAccepted l x o e z = record { wrote = wrote z; at = at z }
   where
@@ -93,20 +95,20 @@ someVault vs more = go (vs .n) more
     go zero more = absurd (omega (arith, weighNone (vs .weight) (λ i. true)))
     go (suc n) more = omega arith
 
-module _ (c : Setting) (Began : ℕ → Type 0) where
+module _ (c : ContentsSetting) (Began : ℕ → Type 0) where
   -- Less than a third of the weight may break the rules: so say the settings of every accepted start.
   abbrev Third : Type 0
   Third = 3 * c .vaults .f < total (c .vaults)
 
   -- Every record is its vault's own and good; a blank vault has written nothing; and only rule-keepers are called.
-  pub record Inv (l : List Item) : Type 0 where
+  pub record Inv (l : List ContentsItem) : Type 0 where
     pub good : (i : ℕ) (r : Record) → recordAt l i ≡ some r → (r .set .id ≡ i) × Third × Good c Began (past l) r
     pub blank : (i : ℕ) → recordAt l i ≡ none → written l i ≡ []
     pub kept : (i : ℕ) (e : Entry) → e ∈ written l i → c .keeps i ≡ true
 
   -- ---- what is written
 
-  module _ {l : List Item} (v : Inv l) where
+  module _ {l : List ContentsItem} (v : Inv l) where
     -- A vault that has written something has a record, and it is good.
     author : (i : ℕ) (e : Entry) → e ∈ written l i → (r : Record) × (r .set .id ≡ i) × Third × Good c Began (past l) r
     author i e at = go (recordAt l i) refl
@@ -128,7 +130,7 @@ module _ (c : Setting) (Began : ℕ → Type 0) where
         subst (λ (j : ℕ). Voted (past l) j k w p → Voted (past l) j k w q → p ≡ q) id (g .once k w p q) x y
 
     -- A frame of a rule-keeper, as the run lets it come, was rightly sent.
-    sentFine : (i : ℕ) (x : Frame) → Sent l i x → Fine (past l) (x .sender) x
+    sentFine : (i : ℕ) (x : Frame) → ContentsSent l i x → Fine (past l) (x .sender) x
     sentFine i x (inl at) = toldAt (x .sender) (ForAll x) at .0
     sentFine i x (inr at) = toldAt (x .sender) (ForOne i x) at
 
@@ -145,7 +147,8 @@ module _ (c : Setting) (Began : ℕ → Type 0) where
   never e = let z : _≡_ {A = ℕ} 0 1 = cc in absurd (omega arith)
 
   -- An accepted call, as the run lets it come, leaves a good record and a later past.
-  callWent : Seed c Began → {l : List Item} (v : Inv l) (i : ℕ) (a : Call) → ((s : Settings) (p : ℕ) → a ≡ start s p → Began p) → Fair c l i a → (o : Out)
+  callWent : Seed c Began → {l : List ContentsItem} (v : Inv l) (i : ℕ) (a : Call) → ((s : Settings) (p : ℕ) → a ≡ start s p → Began p) → Fair c l i a
+      → (o : Out)
       → answer (recordAt l i) a ≡ accepted o
       → Third × Went c Began (past l) i o
   unfolding answer
@@ -186,7 +189,7 @@ module _ (c : Setting) (Began : ℕ → Type 0) where
           let room : r .view ≢ 4294967295 = eqb-false (r .view) 4294967295 (noneGiven (timerRows r w) given .1 .0) in (
             third,
             subst (λ (u : Out). Went c Began (past l) i u) same
-                (subst (λ (j : ℕ). Went c Began (past l) j (timedOut r)) id (rungWent c Began seed (past l) r room g)),
+                (subst (λ (j : ℕ). Went c Began (past l) j (timedOut r)) id (timedOutWent c Began seed (past l) r room g)),
           )
 
   -- The invariant holds before any call: all is blank.
@@ -195,7 +198,7 @@ module _ (c : Setting) (Began : ℕ → Type 0) where
   invNone = record { good = λ i r e. absurd (none≢some e); blank = λ i e. refl; kept = λ i e at. elim at [ ] }
 
   -- A refused call keeps the invariant, as it changes nothing.
-  invRefused : {l : List Item} (x : Item) (k : ℕ) → answer (recordAt l (x .at)) (x .call) ≡ refused k → Inv l → Inv (x ∷ l)
+  invRefused : {l : List ContentsItem} (x : ContentsItem) (k : ℕ) → answer (recordAt l (x .at)) (x .call) ≡ refused k → Inv l → Inv (x ∷ l)
   invRefused {l} x k is v =
       let (records, entries) = pastRefused l x k is in
       let same : past l ≡ past (x ∷ l) = λ z. record { wrote = sym entries z; at = λ i. viewIn (sym records z i) } in
@@ -208,7 +211,7 @@ module _ (c : Setting) (Began : ℕ → Type 0) where
       }
 
   -- An accepted call keeps it: its vault's record is good, and the other vaults only see a later past.
-  invAccepted : {l : List Item} (x : Item) (o : Out) → c .keeps (x .at) ≡ true → answer (recordAt l (x .at)) (x .call) ≡ accepted o
+  invAccepted : {l : List ContentsItem} (x : ContentsItem) (o : Out) → c .keeps (x .at) ≡ true → answer (recordAt l (x .at)) (x .call) ≡ accepted o
       → Third → Went c Began (past l) (x .at) o → Inv l → Inv (x ∷ l)
   invAccepted {l} x o keeps is third w v = record {
     good = λ i r e. goodAt i r (which (eqb (x .at) i)) (ap (λ (t : ℕ → Option Record). t i) (sym (recordAccepted l x o is)) ∙ e);
@@ -246,7 +249,7 @@ module _ (c : Setting) (Began : ℕ → Type 0) where
       keptAt i e (inr other) at = v .kept i e (rw other at at)
 
   -- In every run all records are good for the past of the list.
-  pub invariant : Seed c Began → {l : List Item} → Run c l → ((p : ℕ) → Started p l → Began p) → Inv l
+  pub invariant : Seed c Began → {l : List ContentsItem} → ContentsRun c l → ((p : ℕ) → ContentsStarted p l → Began p) → Inv l
   invariant seed nothingYet began = invNone
   invariant seed (andThen {l = l} {x = x} run keeps fair) began =
       go (invariant seed run (λ p s. began p (earlier s))) (answer (recordAt l (x .at)) (x .call)) refl
@@ -259,12 +262,12 @@ module _ (c : Setting) (Began : ℕ → Type 0) where
 
   -- ---- the history is lawful
 
-  module _ {l : List Item} (v : Inv l) where
+  module _ {l : List ContentsItem} (v : Inv l) where
     -- Every vote of the run has its ground.
     groundAt : {i k w p : ℕ} → Voted (past l) i k w p → Ground c Began (past l) k w p
     groundAt {i} {k} {w} {p} at = toldAt v i _ at .1 k p refl refl
 
-    -- The votes of the run are a lawful history: what crate agreement asks of voters.
+    -- The votes of the run are a lawful history: what Agree in crate rules asks of voters.
     lawful : Lawful (c .vaults) (c .keeps) (Voted (past l))
     lawful = record {
       once = λ {i} {v = w} {p} {q} keeps x y. onceAt v i 1 w p q x y;
@@ -272,7 +275,7 @@ module _ (c : Setting) (Began : ℕ → Type 0) where
       chain = λ k keeps x. groundAt x;
     }
 
-    -- And a led one: what crate agreement asks of leaders.
+    -- And a led one: what Agree in crate rules asks of leaders.
     led : Third → Led (c .vaults) (c .keeps) (Voted (past l)) Began
     led third = record {
       leader = λ w. leaderOf w (c .vaults .n);
@@ -286,7 +289,7 @@ module _ (c : Setting) (Began : ℕ → Type 0) where
         exactly (found s rs from unsafe safe) = found s rs (λ j r h e. from j r h e .1) unsafe safe
 
     -- A decision has a quorum of vote-4, as far as rule-keepers go; and f is below a third, as a start was accepted.
-    decided : (i : ℕ) {p : ℕ} → Decides l i p → (w : ℕ) × Third × Locked (c .vaults) (c .keeps) (Voted (past l)) w p
+    decided : (i : ℕ) {p : ℕ} → ContentsDecides l i p → (w : ℕ) × Third × Locked (c .vaults) (c .keeps) (Voted (past l)) w p
     decided i (w, at) = let (r, id, third, g) = author v i _ at in (w, third, toldAt v i _ at)
 
     -- The run's rule-keepers are as the laws on quorums ask.
@@ -296,7 +299,7 @@ module _ (c : Setting) (Began : ℕ → Type 0) where
 -- ---- demand 3
 
 -- Any two decisions are for the same plan: whatever plans leaders propose.
-pub runsAgree : (c : Setting) (l : List Item) → Run c l → (i j p q : ℕ) → Decides l i p → Decides l j q → p ≡ q
+pub runsAgree : (c : ContentsSetting) (l : List ContentsItem) → ContentsRun c l → (i j p q : ℕ) → ContentsDecides l i p → ContentsDecides l j q → p ≡ q
 runsAgree c l run i j p q a b =
     let (u, third, x) = decided c (λ p. Unit {0}) v i a in
     let (w, third′, y) = decided c (λ p. Unit {0}) v j b in
@@ -306,13 +309,14 @@ runsAgree c l run i j p q a b =
     v = invariant c (λ p. Unit {0}) (anySeed c) run (λ p s. tt)
 
 -- If all vaults keep the rules, each decision's plan is that of an accepted start.
-pub runsValid : (c : Setting) (l : List Item) → Run c l → ((i : ℕ) → i < c .vaults .n → c .keeps i ≡ true) → (i p : ℕ) → Decides l i p → Started p l
+pub runsValid : (c : ContentsSetting) (l : List ContentsItem) → ContentsRun c l → ((i : ℕ) → i < c .vaults .n → c .keeps i ≡ true) → (i p : ℕ)
+    → ContentsDecides l i p → ContentsStarted p l
 runsValid c l run all i p a =
-    let (u, third, x) = decided c (λ p. Started p l) v i a in
-    lockBegan (mostly c (λ p. Started p l) v third) all (lawful c (λ p. Started p l) v) (led c (λ p. Started p l) v third) x
+    let (u, third, x) = decided c (λ p. ContentsStarted p l) v i a in
+    lockBegan (mostly c (λ p. ContentsStarted p l) v third) all (lawful c (λ p. ContentsStarted p l) v) (led c (λ p. ContentsStarted p l) v third) x
   where
-    v : Inv c (λ p. Started p l) l
-    v = invariant c (λ p. Started p l) (chosenSeed c (λ p. Started p l)) run (λ p s. s)
+    v : Inv c (λ p. ContentsStarted p l) l
+    v = invariant c (λ p. ContentsStarted p l) (chosenSeed c (λ p. ContentsStarted p l)) run (λ p s. s)
 
 -- Demand 3 by contents: agreement and validity together.
 pub demand3ByContents : Demand3ByContents

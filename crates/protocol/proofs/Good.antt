@@ -13,14 +13,14 @@ use native.Mathlib.Omega.{arith}
 use native.Mathlib.Decide.{ℕ-discrete}
 use lib.Dec.{eqb}
 use borrow.Author.Tests.{eqb-true, eq-eqb}
-use Rattle.quorum.specs.Sets.{Vaults}
-use Rattle.quorum.specs.Quorums.{Quorum}
-use Rattle.quorum.proofs.Bools.{which, clash, either}
-use Rattle.quorum.proofs.Laws.{groupMap}
+use Rattle.rules.specs.Sets.{Vaults}
+use Rattle.rules.specs.Quorums.{Quorum}
+use Rattle.rules.proofs.Bools.{which, clash, either}
+use Rattle.rules.proofs.Quorums.{groupMap}
 use Rattle.rules.specs.Rules.{Vote, Report, Rule, rule1, rule3, claimVote, lockVote, Safe, Chosen}
 use Rattle.rules.specs.Rules as Rules
-use Rattle.agreement.specs.inside.Law.{Other, Exact, From, Reason, own, found}
-use Rattle.agreement.proofs.Reports.{none≢some}
+use Rattle.rules.specs.inside.Law.{Other, Exact, From, Reason, own, found}
+use Rattle.rules.proofs.Reports.{none≢some}
 use Rattle.frame.specs.declared.Body.{Body}
 use Rattle.frame.specs.declared.Body.the-variants.{Plan, Empty, Told}
 use Rattle.frame.specs.declared.Frame.{Frame}
@@ -34,7 +34,7 @@ use Rattle.settings.specs.declared.Settings.{Settings}
 use Rattle.settings.specs.Vaults.{vaultsOf}
 use Rattle.protocol.specs.Pass.{Act, ask, enter, cast, decide, shift, hasPrevious, timerEntry, entered, does, suggestEntry, writes, actC, Out, taken}
 use Rattle.protocol.specs.Calls.{keep}
-use Rattle.protocol.specs.inside.Runs.{Setting}
+use Rattle.protocol.specs.inside.Runs.{ContentsSetting}
 use Rattle.protocol.proofs.Tables.{putSame, putOther, keepSame, keepOtherKind, keepOtherSender, keepWas, eachSome, whenSome}
 use Rattle.protocol.proofs.Past.{Past, Voted, Later, ExactNow, Fine, fineOn, Ground, groundOn, toldOn}
 use Rattle.protocol.proofs.Past as Past′
@@ -183,7 +183,7 @@ previousBelow k h = omega (arith, previousThird k h)
 abbrev pub onto : Past → ℕ → Out → Past
 onto h i o = record { wrote = put i (h .wrote i ++ o .wrote) (h .wrote); at = put i (o .left .view) (h .at) }
 
-module _ (c : Setting) (Began : ℕ → Type 0) where
+module _ (c : ContentsSetting) (Began : ℕ → Type 0) where
   -- The record of a rule-keeper is what it has sent and heard: its own votes, what it keeps of others, and what its entries say.
   pub record Good (h : Past) (r : Record) : Type 0 where
     pub vaults : vaultsOf (r .set) ≡ c .vaults
@@ -570,5 +570,5 @@ module _ (c : Setting) (Began : ℕ → Type 0) where
       ownsRow k = ap (λ (o : Option Frame). each o (λ y. voteBy (y .view) (y .body))) (keepOtherSender x (r .kept) (suc k) (r .set .id) other)
 
 -- Where all plans count as begun, every proposal is reasoned.
-pub anySeed : (c : Setting) → Seed c (λ p. Unit {0})
+pub anySeed : (c : ContentsSetting) → Seed c (λ p. Unit {0})
 anySeed c h r g p e = own tt

@@ -8,9 +8,9 @@ use mathlib.Core.Bool.{true, false}
 use mathlib.Core.List.{List, [], _∷_, _++_}
 use mathlib.Core.Option.{Option, none, some}
 use lib.Dec.{eqb}
-use Rattle.quorum.specs.Sets.{Vaults}
-use Rattle.quorum.proofs.Bools.{which}
-use Rattle.agreement.proofs.Reports.{none≢some}
+use Rattle.rules.specs.Sets.{Vaults}
+use Rattle.rules.proofs.Bools.{which}
+use Rattle.rules.proofs.Reports.{none≢some}
 use Rattle.frame.specs.declared.Reading.the-variants.{Accepted, Refused}
 use Rattle.entry.specs.declared.Entry.{Entry}
 use Rattle.entry.specs.Valid.{AllValid}
@@ -21,7 +21,7 @@ use Rattle.protocol.specs.Calls.{Call, start, frame, timer, short, Answe
 use Rattle.protocol.specs.Fed.{Readable, Fed}
 use Rattle.protocol.specs.inside.Sound.{Ranged, Proper}
 use Rattle.protocol.specs.Sound.{Sound}
-use Rattle.protocol.specs.inside.Runs.{Setting, Item, recordAt, written, Fair, Run, nothingYet, andThen}
+use Rattle.protocol.specs.inside.Runs.{ContentsSetting, ContentsItem, recordAt, written, Fair, ContentsRun, nothingYet, andThen}
 use Rattle.protocol.proofs.Demand.{Inv, invariant, pastRefused, recordAccepted, pastAccepted}
 use Rattle.protocol.proofs.Past.{Past}
 use Rattle.protocol.proofs.Good.{anySeed}
@@ -35,18 +35,18 @@ Brings (timer v) = Unit {0}
 Brings short = Unit {0}
 
 -- All starts of the list bring 64-bit plans.
-abbrev pub Wide : List Item → Type 0
+abbrev pub Wide : List ContentsItem → Type 0
 Wide [] = Unit {0}
 Wide (x ∷ l) = Brings (x .call) × Wide l
 
 -- What holds all along a run: records are sound with numbers of their widths, and entries have bytes.
-pub record Lasting (l : List Item) : Type 0 where
+pub record Lasting (l : List ContentsItem) : Type 0 where
   pub records : (i : ℕ) (r : Record) → recordAt l i ≡ some r → Sound r × Ranged r
   pub entries : (i : ℕ) → AllValid (written l i)
 
-module _ (c : Setting) where
+module _ (c : ContentsSetting) where
   -- What a call of the run brings, to the record that it meets.
-  pub feeds : {l : List Item} → Inv c (λ p. Unit {0}) l → (i : ℕ) (a : Call) → Brings a → Fair c l i a → Fed (recordAt l i) a
+  pub feeds : {l : List ContentsItem} → Inv c (λ p. Unit {0}) l → (i : ℕ) (a : Call) → Brings a → Fair c l i a → Fed (recordAt l i) a
   feeds {l} v i a brings fair = go a (recordAt l i) refl brings fair
     where
       go : (a : Call) (b : Option Record) → recordAt l i ≡ b → Brings a → Fair c l i a → Fed b a
@@ -66,7 +66,7 @@ module _ (c : Setting) where
   lastsNone = record { records = λ i r e. absurd (none≢some e); entries = λ i. tt }
 
   -- It stays so after a refused call, which changes no record and writes nothing.
-  lastsRefused : {l : List Item} (x : Item) (k : ℕ) → answer (recordAt l (x .at)) (x .call) ≡ refused k → Lasting l → Lasting (x ∷ l)
+  lastsRefused : {l : List ContentsItem} (x : ContentsItem) (k : ℕ) → answer (recordAt l (x .at)) (x .call) ≡ refused k → Lasting l → Lasting (x ∷ l)
   lastsRefused {l} x k is v =
       let (records, entries) = pastRefused l x k is in
       record {
@@ -75,7 +75,8 @@ module _ (c : Setting) where
       }
 
   -- It stays so after an accepted call that leaves what is proper.
-  lastsAccepted : {l : List Item} (x : Item) (o : Out) → answer (recordAt l (x .at)) (x .call) ≡ accepted o → Proper o → Lasting l → Lasting (x ∷ l)
+  lastsAccepted : {l : List ContentsItem} (x : ContentsItem) (o : Out) → answer (recordAt l (x .at)) (x .call) ≡ accepted o → Proper o → Lasting l
+      → Lasting (x ∷ l)
   lastsAccepted {l} x o is proper v = record {
     records = λ i r e. recordsAt i r (which (eqb (x .at) i)) (ap (λ (t : ℕ → Option Record). t i) (sym (recordAccepted l x o is)) ∙ e);
     entries = λ i. subst (λ (h : Past). AllValid (h .wrote i)) (sym (pastAccepted l x o is)) (entriesAt i (which (eqb (x .at) i)));
@@ -94,7 +95,7 @@ module _ (c : Setting) where
       entriesAt i (inr other) = rw other (v .entries i)
 
   -- Refusal 3 never meets a record of a run, and every output of a run reads as its entries.
-  pub runLasts : {l : List Item} → Run c l → Wide l → Lasting l
+  pub runLasts : {l : List ContentsItem} → ContentsRun c l → Wide l → Lasting l
   runLasts nothingYet wide = lastsNone
   runLasts (andThen {l = l} {x = x} run keeps fair) (brings, wide) =
       go (runLasts run wide) (invariant c (λ p. Unit {0}) (anySeed c) run (λ p s. tt)) (answer (recordAt l (x .at)) (x .call)) refl

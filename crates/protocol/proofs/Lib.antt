@@ -19,3 +19,4 @@ pub mod Sent
 pub mod Scripts
 pub mod Shown
 pub mod Worked
+pub mod Marked

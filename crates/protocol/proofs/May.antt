@@ -10,14 +10,14 @@ use mathlib.Core.Option.{Option, none, some}
 use native.Mathlib.Omega.{arith}
 use lib.Dec.{ltb, eqb}
 use borrow.Author.Tests.{ltb-true, eqb-true, not-true}
-use Rattle.quorum.specs.Quorums.{isQuorum, isBlocking, Quorum}
-use Rattle.quorum.proofs.Bools.{bothSplit}
-use Rattle.quorum.proofs.Laws.{groupMap, countQuorum}
+use Rattle.rules.specs.Quorums.{isQuorum, isBlocking, Quorum}
+use Rattle.rules.proofs.Bools.{bothSplit}
+use Rattle.rules.proofs.Quorums.{groupMap, countQuorum}
 use Rattle.rules.specs.Options.{isNone, holds}
 use Rattle.rules.specs.inside.Counts.{safe}
 use Rattle.rules.specs.Rules.{rule1, rule3, Safe, Chosen}
 use Rattle.rules.proofs.Laws.{holdsWhere, safeIff, choiceIs}
-use Rattle.agreement.proofs.Reports.{isNoneNone}
+use Rattle.rules.proofs.Reports.{isNoneNone}
 use Rattle.protocol.specs.Record.{Record, highest, vaults, leader, leads, voteOf, changeOf, reportsOf, planNow, sentNow}
 use Rattle.protocol.specs.Pass.{Act, ask, enter, cast, decide, asked, isNews, actA, canEnter, actB, mayPropose, chosen, actC, approves, actD}
 use Rattle.protocol.specs.Pass.{hasQuorum, agreed, actVote, actH, Step, taken, stepA, stepB, stepC, stepD, stepVote, stepH, fromC, fromA}

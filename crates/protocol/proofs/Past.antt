@@ -8,10 +8,10 @@ use mathlib.Core.Bool.{true}
 use mathlib.Core.List.{List}
 use mathlib.Core.Option.{Option, some}
 use native.Mathlib.Omega.{arith}
-use Rattle.quorum.specs.Quorums.{Quorum}
-use Rattle.quorum.proofs.Laws.{groupMap}
+use Rattle.rules.specs.Quorums.{Quorum}
+use Rattle.rules.proofs.Quorums.{groupMap}
 use Rattle.rules.specs.Rules.{Vote, Report, Rule, rule1, rule3, claimVote, lockVote}
-use Rattle.agreement.specs.inside.Law.{History, Highest, Exact, Vouched, Reason, own, found, Locked}
+use Rattle.rules.specs.inside.Law.{History, HighestVote, Exact, Vouched, Reason, own, found, Locked}
 use Rattle.frame.specs.declared.Body.the-variants.{Plan}
 use Rattle.frame.specs.declared.Frame.{Frame}
 use Rattle.frame.specs.Refusal.{leaderOf}
@@ -19,7 +19,7 @@ use Rattle.entry.specs.declared.Entry.{Entry}
 use Rattle.entry.specs.declared.Entry.the-variants.{ForAll, ForOne, Timer, Decision}
 use Rattle.protocol.specs.Record.{reportBy, kindOf}
 use Rattle.protocol.specs.Tables.{_∈_}
-use Rattle.protocol.specs.inside.Runs.{Setting}
+use Rattle.protocol.specs.inside.Runs.{ContentsSetting}
 
 -- What each vault wrote so far, and the view in which it is.
 pub record Past : Type 0 where
@@ -47,8 +47,8 @@ laterTrans x y = record {
 -- ---- reports
 
 -- The highest vote below v stays so, where no vote below v is added.
-pub highestOn : {P Q : ℕ → ℕ → Type 0} {v : ℕ} {o : Option Vote} → ((u p : ℕ) → P u p → Q u p) → ((u p : ℕ) → u < v → Q u p → P u p) → Highest P v o
-    → Highest Q v o
+pub highestOn : {P Q : ℕ → ℕ → Type 0} {v : ℕ} {o : Option Vote} → ((u p : ℕ) → P u p → Q u p) → ((u p : ℕ) → u < v → Q u p → P u p) → HighestVote P v o
+    → HighestVote Q v o
 highestOn to back t = record {
   low = λ {x} e. t .low e;
   sent = λ {x} e. to (x .view) (x .plan) (t .sent e);
@@ -94,7 +94,7 @@ fineOn on {j} {x} t = record {
 
 -- ---- reasons
 
-module _ (c : Setting) (Began : ℕ → Type 0) where
+module _ (c : ContentsSetting) (Began : ℕ → Type 0) where
   -- What stood behind vote-k for p in view v. The proposal (k = 0): Rule 1; vote-1: Rule 3 and the leader's proposal; the others:
   -- a quorum of the vote before.
   abbrev pub Ground : Past → ℕ → ℕ → ℕ → Type 0

@@ -12,7 +12,7 @@ use mathlib.Core.Option.{Option, none, some}
 use native.Mathlib.Omega.{arith}
 use lib.Dec.{eqb}
 use borrow.Author.Tests.{eqb-true, eqb-false, eq-eqb, ne-eqb, lt-leb}
-use Rattle.quorum.proofs.Bools.{which}
+use Rattle.rules.proofs.Bools.{which}
 use Rattle.rules.specs.Rules.{Rule, rule1, rule3}
 use Rattle.frame.specs.declared.Frame.{Frame}
 use Rattle.frame.specs.declared.Reading.the-variants.{Accepted}
@@ -31,7 +31,7 @@ use Rattle.protocol.specs.inside.Sound.{Ranged}
 use Rattle.protocol.specs.Sound.{Sound}
 use Rattle.protocol.specs.Tables.{_∈_}
 use Rattle.protocol.specs.ReadsBack.{IsFor}
-use Rattle.protocol.specs.inside.ReadsBack.{AlwaysReadsBack}
+use Rattle.protocol.specs.inside.ReadsBack.{ContentsReadBack}
 use Rattle.protocol.proofs.May.{May, Sure, done, and, sureC, sureA}
 use Rattle.protocol.proofs.Good.{doesSet}
 use Rattle.protocol.proofs.Went.{noneGiven, acceptedBy, wantedMay}
@@ -198,7 +198,7 @@ callRight b a was fed o e = acceptedBy Passes atStart atFrame atTimer b a o e wa
         ownRight (keepsMore (r .set) (writes r (ask (wanted r))) (doesSet r (ask (wanted r))) (actRight w (ask (wanted r)) may) then)
 
 -- Each frame that an accepted call writes is accepted, as itself, by every vault that it is for.
-pub callReadsBack : AlwaysReadsBack
+pub callReadsBack : ContentsReadBack
 callReadsBack b a was fed o e j x low other for = subst (λ (i : ℕ). readFrame (encode x) i (s .n) j ≡ Accepted x) (g .sender)
     (readableAccepted (s .n) j x (goesReadable (s .n) (s .id) j x g other))
   where

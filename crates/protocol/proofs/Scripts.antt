@@ -11,9 +11,9 @@ use mathlib.Core.List.{List, [], _∷_, List·Memᴰ·head, List·Memᴰ·tail}
 use mathlib.Core.Option.{Option, none, some}
 use lib.Dec.{ltb, eqb}
 use borrow.Author.Tests.{ltb-true, eqb-true, eqb-false, not-true}
-use Rattle.quorum.specs.Sets.{Set, equals, size, total}
-use Rattle.quorum.proofs.Bools.{bothSplit, clash}
-use Rattle.agreement.proofs.Reports.{none≢some}
+use Rattle.rules.specs.Sets.{Set, equals, size, total}
+use Rattle.rules.proofs.Bools.{bothSplit, clash}
+use Rattle.rules.proofs.Reports.{none≢some}
 use Rattle.frame.specs.declared.Frame.{Frame}
 use Rattle.frame.specs.declared.Reading.{Reading}
 use Rattle.frame.specs.declared.Reading.the-variants.{Accepted, Refused}
@@ -25,7 +25,7 @@ use Rattle.entry.specs.declared.Entry.the-variants.{ForAll, ForOne, Timer, Deci
 use Rattle.settings.specs.declared.Settings.{Settings}
 use Rattle.protocol.specs.Calls.{Call, start, frame, timer, short}
 use Rattle.protocol.specs.Tables.{_∈_}
-use Rattle.protocol.specs.inside.Runs.{Setting, Item, written, Fair, Run, nothingYet, andThen}
+use Rattle.protocol.specs.inside.Runs.{ContentsSetting, ContentsItem, written, Fair, ContentsRun, nothingYet, andThen}
 use Rattle.protocol.specs.ReadsBack.{IsFor}
 use Rattle.protocol.proofs.Read.{acceptedReadable}
 use Rattle.protocol.proofs.Lasting.{Brings, Wide}
@@ -36,7 +36,7 @@ use Rattle.protocol.proofs.Sent.{runReadable}
 pub data Move : Type 0 where
   begin : ℕ → ℕ → Move
   hear : ℕ → ℕ → ℕ → Move
-  ring : ℕ → ℕ → Move
+  timeOut : ℕ → ℕ → Move
   lie : ℕ → Frame → Move
 
 -- Entry k of a list, from 0.
@@ -64,14 +64,14 @@ heardOf i (some (Timer v m)) = short
 heardOf i (some (Decision v p)) = short
 
 -- The call that a move makes, after the calls so far. A liar's frame is given as the vault's reader answers its bytes.
-abbrev pub callOf : List Item → Move → Item
+abbrev pub callOf : List ContentsItem → Move → ContentsItem
 callOf l (begin i p) = record { at = i; call = start (four i) p }
 callOf l (hear i j k) = record { at = i; call = heardOf i (pick k (written l j)) }
-callOf l (ring i v) = record { at = i; call = timer v }
+callOf l (timeOut i v) = record { at = i; call = timer v }
 callOf l (lie i x) = record { at = i; call = frame (readFrame (encode x) (x .sender) 4 i) }
 
 -- The calls of a script, the newest first in both.
-unfoldable pub calls : List Move → List Item
+unfoldable pub calls : List Move → List ContentsItem
 calls [] = []
 calls (m ∷ ms) = callOf (calls ms) m ∷ calls ms
 
@@ -80,7 +80,7 @@ module _ (keeps : Set) where
   abbrev pub isFair : Move → Bool
   isFair (begin i p) = keeps i && ltb p (2 ^ 64)
   isFair (hear i j k) = keeps i && not (eqb i j)
-  isFair (ring i v) = keeps i
+  isFair (timeOut i v) = keeps i
   isFair (lie i x) = keeps i && not (keeps (x .sender))
 
   -- Every move of the script is fair.
@@ -90,21 +90,21 @@ module _ (keeps : Set) where
 
 module _ (keeps : Set) (most : total (equals 4 1) - 1 ≤ size (equals 4 1) keeps) where
   -- Four vaults, of which one may break the rules.
-  abbrev pub ofFour : Setting
+  abbrev pub ofFour : ContentsSetting
   ofFour = record { vaults = equals 4 1; keeps = keeps; most = most }
 
   -- What a script gives is a run whose starts bring 64-bit plans.
-  pub record Runs (l : List Item) : Type 0 where
-    pub run : Run ofFour l
+  pub record Runs (l : List ContentsItem) : Type 0 where
+    pub run : ContentsRun ofFour l
     pub wide : Wide l
 
   -- One more call of a run.
-  record Next (l : List Item) (x : Item) : Type 0 where
+  record Next (l : List ContentsItem) (x : ContentsItem) : Type 0 where
     pub called : keeps (x .at) ≡ true
     pub fair : Fair ofFour l (x .at) (x .call)
     pub brings : Brings (x .call)
 
-  module _ {l : List Item} (so : Runs l) where
+  module _ {l : List ContentsItem} (so : Runs l) where
     -- A frame for vault i that vault j wrote may come.
     sentFair : (i j : ℕ) (x : Frame) → i ≢ j → IsFor i x (written l j) → Fair ofFour l i (frame (Accepted x))
     sentFair i j x other for =
@@ -146,7 +146,7 @@ module _ (keeps : Set) (most : total (equals 4 1) - 1 ≤ size (equals 4 1) keep
     moveNext (hear i j k) ok =
         let (rules, other) = bothSplit (keeps i) (not (eqb i j)) ok in
         hearNext i j (pick k (written l j)) rules (eqb-false i j (not-true (eqb i j) other)) (λ e is. pickIn k (written l j) is)
-    moveNext (ring i v) ok = record { called = ok; fair = tt; brings = tt }
+    moveNext (timeOut i v) ok = record { called = ok; fair = tt; brings = tt }
     moveNext (lie i x) ok =
         let (rules, lies) = bothSplit (keeps i) (not (keeps (x .sender))) ok in
         lieNext i x rules (not-true (keeps (x .sender)) lies)

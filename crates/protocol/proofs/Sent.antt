@@ -11,8 +11,8 @@ use mathlib.Core.List.{List, _∷_, _++_}
 use mathlib.Core.Option.{Option, some}
 use lib.Dec.{eqb}
 use borrow.Author.Tests.{eqb-true}
-use Rattle.quorum.specs.Sets.{Vaults}
-use Rattle.quorum.proofs.Bools.{which}
+use Rattle.rules.specs.Sets.{Vaults}
+use Rattle.rules.proofs.Bools.{which}
 use Rattle.frame.specs.declared.Frame.{Frame}
 use Rattle.entry.specs.declared.Entry.{Entry}
 use Rattle.protocol.specs.Record.{Record}
@@ -20,7 +20,7 @@ use Rattle.protocol.specs.Tables.{put}
 use Rattle.protocol.specs.Pass.{Out}
 use Rattle.protocol.specs.Calls.{Answer, refused, accepted, answer}
 use Rattle.protocol.specs.Fed.{Readable}
-use Rattle.protocol.specs.inside.Runs.{Setting, Item, recordAt, written, Run, nothingYet, andThen}
+use Rattle.protocol.specs.inside.Runs.{ContentsSetting, ContentsItem, recordAt, written, ContentsRun, nothingYet, andThen}
 use Rattle.protocol.specs.ReadsBack.{IsFor}
 use Rattle.protocol.proofs.Tables.{putSame}
 use Rattle.protocol.proofs.Past.{Past}
@@ -29,13 +29,13 @@ use Rattle.protocol.proofs.Demand.{Inv, invariant, pastRefused, recordA
 use Rattle.protocol.proofs.ReadsBack.{Goes, AllRight, rightJoin, goesFor, goesReadable, callRight}
 use Rattle.protocol.proofs.Lasting.{Wide, Lasting, feeds, runLasts}
 
-module _ (c : Setting) where
+module _ (c : ContentsSetting) where
   -- The number of vaults in the run.
   abbrev n : ℕ
   n = c .vaults .n
 
   -- After one more accepted call, all that was ever written still passes at whom it is for.
-  rightMore : (l : List Item) (x : Item) (o : Out) → answer (recordAt l (x .at)) (x .call) ≡ accepted o → AllRight n (x .at) (o .wrote)
+  rightMore : (l : List ContentsItem) (x : ContentsItem) (o : Out) → answer (recordAt l (x .at)) (x .call) ≡ accepted o → AllRight n (x .at) (o .wrote)
       → ((j : ℕ) → AllRight n j (written l j)) → (j : ℕ) → AllRight n j (written (x ∷ l) j)
   rightMore l x o is new old j = subst (λ (h : Past). AllRight n j (h .wrote j)) (sym (pastAccepted l x o is)) (go (which (eqb (x .at) j)))
     where
@@ -45,7 +45,7 @@ module _ (c : Setting) where
       go (inr other) = rw other (old j)
 
   -- All that is written in a run passes at whom it is for.
-  pub runRight : {l : List Item} → Run c l → Wide l → (j : ℕ) → AllRight n j (written l j)
+  pub runRight : {l : List ContentsItem} → ContentsRun c l → Wide l → (j : ℕ) → AllRight n j (written l j)
   unfolding written
   runRight nothingYet wide = λ j. tt
   runRight (andThen {l = l} {x = x} run keeps fair) (brings, wide) =
@@ -69,7 +69,8 @@ module _ (c : Setting) where
           (subst (λ (m : ℕ). AllRight m (o .left .set .id) (o .wrote)) (ap (λ (vs : Vaults). vs .n) (good .vaults)) own)) old j
 
   -- What vault j wrote for vault i is from vault j, and vault i's reader accepts it.
-  pub runReadable : {l : List Item} → Run c l → Wide l → (i j : ℕ) (x : Frame) → i ≢ j → IsFor i x (written l j) → (x .sender ≡ j) × Readable n i x
+  pub runReadable : {l : List ContentsItem} → ContentsRun c l → Wide l → (i j : ℕ) (x : Frame) → i ≢ j → IsFor i x (written l j)
+      → (x .sender ≡ j) × Readable n i x
   runReadable {l} run wide i j x other for =
       let g : Goes n j i x = goesFor n j (written l j) (runRight run wide j) i x for in
       (g .sender, goesReadable n j i x g other)

@@ -12,9 +12,9 @@ use native.Mathlib.Omega.{arith}
 use native.Mathlib.Decide.{ℕ-discrete}
 use lib.Dec.{leb, ltb, eqb}
 use borrow.Author.Tests.{eqb-true, eq-eqb, le-leb, lt-ltb, le-ltb, ltb-true, ltb-false}
-use Rattle.quorum.specs.Quorums.{isQuorum, isBlocking}
-use Rattle.quorum.proofs.Bools.{which, bothSplit, bothJoin}
-use Rattle.quorum.proofs.Laws.{enoughMono, blockingByWeight}
+use Rattle.rules.specs.Quorums.{isQuorum, isBlocking}
+use Rattle.rules.proofs.Bools.{which, bothSplit, bothJoin}
+use Rattle.rules.proofs.Quorums.{enoughMono, blockingByWeight}
 use Rattle.rules.specs.Options.{isNone, holds}
 use Rattle.rules.specs.Rules.{rule1, rule3}
 use Rattle.rules.proofs.Laws.{holdsWhere}

@@ -10,9 +10,9 @@ use mathlib.Core.List.{List, [], _∷_, _++_}
 use mathlib.Core.Option.{Option, none, some}
 use lib.Dec.{eqb}
 use Rattle.wire.specs.Digits.{numberAt, digits}
-use Rattle.quorum.specs.Sets.{Set, weigh}
-use Rattle.quorum.specs.Quorums.{isQuorum, isBlocking}
-use Rattle.quorum.specs.inside.Bools.{any}
+use Rattle.rules.specs.Sets.{Set, weigh}
+use Rattle.rules.specs.Quorums.{isQuorum, isBlocking}
+use Rattle.rules.specs.inside.Bools.{anyBelow}
 use Rattle.rules.specs.Rules.{reach, claims, unlocked, allows}
 use Rattle.rules.specs.inside.Counts.{claimed, free, allowed, twoSets, backed, safe, smallest, choice}
 use Rattle.frame.specs.declared.Body.the-variants.{Plan}
@@ -26,7 +26,7 @@ use Rattle.protocol.specs.Record.{Record, highest}
 use Rattle.protocol.specs.Pass.{does, writes, agreed, pass, stepA, stepB, stepC, stepD, stepVote, stepH}
 use Rattle.protocol.specs.Calls.{answer, started, keep, heard, timedOut}
 use Rattle.protocol.specs.inside.Runs.{recordAt, written}
-use Rattle.protocol.proofs.Scripts.{Move, begin, hear, ring, lie, pick, calls, allFair}
+use Rattle.protocol.proofs.Scripts.{Move, begin, hear, timeOut, lie, pick, calls, allFair}
 
 -- ---- moves
 
@@ -75,7 +75,7 @@ pub plainDecides : (wrote plain 0 6 ≡ some (Decision 0 7))
     × (wrote plain 2 5 ≡ some (Decision 0 7))
     × (wrote plain 3 5 ≡ some (Decision 0 7))
 unfolding delayOf answer started keep heard timedOut pass stepA stepB stepC stepD stepVote stepH does writes agreed highest safe free allowed claimed
-    twoSets backed choice smallest any weigh isQuorum isBlocking reach claims unlocked allows recordAt written calls
+    twoSets backed choice smallest anyBelow weigh isQuorum isBlocking reach claims unlocked allows recordAt written calls
 plainDecides = (refl, refl, refl, refl)
 
 -- ---- a vault that lies
@@ -100,14 +100,14 @@ liedFair = refl
 -- Vaults 0 and 2 keep different votes of vault 3.
 pub liedKept : (keptIn (recordAt (calls lied) 0) 2 3 ≡ some (voteOf3 7)) × (keptIn (recordAt (calls lied) 2) 2 3 ≡ some (voteOf3 9))
 unfolding delayOf answer started keep heard timedOut pass stepA stepB stepC stepD stepVote stepH does writes agreed highest safe free allowed claimed
-    twoSets backed choice smallest any weigh isQuorum isBlocking reach claims unlocked allows recordAt written calls within lengthOf encode
+    twoSets backed choice smallest anyBelow weigh isQuorum isBlocking reach claims unlocked allows recordAt written calls within lengthOf encode
     bodyAs decode badForm tooHigh badPrevious viewMissing misled refusal readFrame numberAt digits
 liedKept = (refl, refl)
 
 -- The three others decide 7 all the same.
 pub liedDecides : (wrote lied 0 6 ≡ some (Decision 0 7)) × (wrote lied 1 5 ≡ some (Decision 0 7)) × (wrote lied 2 5 ≡ some (Decision 0 7))
 unfolding delayOf answer started keep heard timedOut pass stepA stepB stepC stepD stepVote stepH does writes agreed highest safe free allowed claimed
-    twoSets backed choice smallest any weigh isQuorum isBlocking reach claims unlocked allows recordAt written calls within lengthOf encode
+    twoSets backed choice smallest anyBelow weigh isQuorum isBlocking reach claims unlocked allows recordAt written calls within lengthOf encode
     bodyAs decode badForm tooHigh badPrevious viewMissing misled refusal readFrame numberAt digits
 liedDecides = (refl, refl, refl)
 
@@ -115,7 +115,7 @@ liedDecides = (refl, refl, refl)
 
 -- Two rounds of votes in view 0, so that all have sent vote-3 for 7; all timers; view-changes; proofs to all, and suggests to vault 1.
 abbrev locked : List Move
-locked = says 1 0 7 ∷ says 1 2 7 ∷ says 1 3 7 ∷ all 6 ++ (all 4 ++ (ring 0 0 ∷ ring 1 0 ∷ ring 2 0 ∷ ring 3 0 ∷ all 2 ++ (all 1 ++ begun)))
+locked = says 1 0 7 ∷ says 1 2 7 ∷ says 1 3 7 ∷ all 6 ++ (all 4 ++ (timeOut 0 0 ∷ timeOut 1 0 ∷ timeOut 2 0 ∷ timeOut 3 0 ∷ all 2 ++ (all 1 ++ begun)))
 
 -- Then the proposal of vault 1, and four rounds of votes in view 1.
 abbrev pub later : List Move
@@ -131,5 +131,5 @@ pub laterDecides : (wrote later 0 13 ≡ some (Decision 1 7))
     × (wrote later 2 12 ≡ some (Decision 1 7))
     × (wrote later 3 12 ≡ some (Decision 1 7))
 unfolding delayOf answer started keep heard timedOut pass stepA stepB stepC stepD stepVote stepH does writes agreed highest safe free allowed claimed
-    twoSets backed choice smallest any weigh isQuorum isBlocking reach claims unlocked allows recordAt written calls
+    twoSets backed choice smallest anyBelow weigh isQuorum isBlocking reach claims unlocked allows recordAt written calls
 laterDecides = (refl, refl, refl, refl)

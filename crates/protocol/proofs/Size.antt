@@ -8,9 +8,9 @@ use mathlib.Core.List.{List, [], _∷_, _++_}
 use mathlib.Core.Option.{Option, none, some}
 use native.Mathlib.Omega.{arith}
 use lib.ListN.{length, length-append}
-use Rattle.quorum.specs.Quorums.{isBlocking}
+use Rattle.rules.specs.Quorums.{isBlocking}
 use Rattle.rules.specs.Options.{isNone}
-use Rattle.wire.specs.inside.Widths.{widths, total}
+use Rattle.wire.specs.inside.Widths.{widths, totalWidth}
 use Rattle.wire.proofs.Laws.{lengthSpell}
 use Rattle.frame.specs.Format.{fieldsOf, encode}
 use Rattle.entry.specs.declared.Entry.{Entry}
@@ -28,8 +28,8 @@ use Rattle.protocol.proofs.Went.{acceptedBy}
 
 -- The bytes of an entry, and of several.
 abbrev size : Entry → ℕ
-size (ForAll x) = 1 + total (widths (fieldsOf x))
-size (ForOne i x) = 1 + total (widths (fieldsOf x))
+size (ForAll x) = 1 + totalWidth (widths (fieldsOf x))
+size (ForOne i x) = 1 + totalWidth (widths (fieldsOf x))
 size (Timer v ms) = 10
 size (Decision v p) = 14
 

@@ -10,9 +10,9 @@ use mathlib.Core.Option.{Option, none, some}
 use native.Mathlib.Omega.{arith}
 use lib.Dec.{leb, eqb}
 use borrow.Author.Tests.{eq-eqb, ne-eqb, eqb-true, eqb-false, lt-leb, le-leb, leb-false}
-use Rattle.quorum.proofs.Bools.{which}
+use Rattle.rules.proofs.Bools.{which}
 use Rattle.rules.specs.Rules.{Vote, Report, Rule, rule1, rule3}
-use Rattle.agreement.proofs.Reports.{none≢some}
+use Rattle.rules.proofs.Reports.{none≢some}
 use Rattle.wire.specs.Fields.{Field, Sized}
 use Rattle.frame.specs.declared.Report as Slot
 use Rattle.frame.specs.declared.Body.{Body}
@@ -24,7 +24,7 @@ use Rattle.frame.specs.Refusal.{first, badForm, tooHigh, badPrevious, viewMissi
 use Rattle.frame.proofs.Laws.{neither}
 use Rattle.protocol.specs.Record.{reported, spelt, voteBy, reportBy, kindOf}
 use Rattle.protocol.specs.Pass.{shift}
-use Rattle.protocol.specs.inside.Sound.{Fits}
+use Rattle.protocol.specs.inside.Sound.{FitsVote}
 
 -- ---- row 14 of spelt votes
 
@@ -135,14 +135,14 @@ module _ (n i : ℕ) (small : i < 256) where
       go (inr other) = rw (other, ne-eqb (suc k) 7 (λ (e : suc k ≡ 7). omega arith))
 
   -- The fields of spelt votes have their widths.
-  sizedSpelt : (o : Option Vote) (fs : List Field) → ((x : Vote) → o ≡ some x → Fits x) → Sized fs → Sized (reportFields (spelt o) ++ fs)
+  sizedSpelt : (o : Option Vote) (fs : List Field) → ((x : Vote) → o ≡ some x → FitsVote x) → Sized fs → Sized (reportFields (spelt o) ++ fs)
   sizedSpelt none fs fit rest = (omega arith, (omega arith, (omega arith, rest)))
   sizedSpelt (some x) fs fit rest = (omega arith, (fit x refl .0, (fit x refl .1, rest)))
 
   -- A suggest or proof is sendable, where its votes are below its view and have their widths.
   pub reportSendable : (rule : Rule) (w : ℕ) (h p l : Option Vote) → 0 < w → w < 2 ^ 32 → Under w h → Under w p → Under w l
       → badPrevious (spelt h) (spelt p) ≡ false
-      → ((x : Vote) → h ≡ some x → Fits x) → ((x : Vote) → p ≡ some x → Fits x) → ((x : Vote) → l ≡ some x → Fits x)
+      → ((x : Vote) → h ≡ some x → FitsVote x) → ((x : Vote) → p ≡ some x → FitsVote x) → ((x : Vote) → l ≡ some x → FitsVote x)
       → Sendable n i (record { kind = kindOf rule; sender = i; view = w; body = Told (record { highest = spelt h; previous = spelt p; lock = spelt l }) })
   unfolding viewMissing within misled
   reportSendable rule w h p l some-view low uh up ul stands fh fp fl = by rule
@@ -150,7 +150,7 @@ module _ (n i : ℕ) (small : i < 256) where
       sized : Sized (reportFields (spelt h) ++ (reportFields (spelt p) ++ reportFields (spelt l)))
       sized = sizedSpelt h (reportFields (spelt p) ++ reportFields (spelt l)) fh (sizedSpelt p (reportFields (spelt l)) fp (last l fl))
         where
-          last : (l : Option Vote) → ((x : Vote) → l ≡ some x → Fits x) → Sized (reportFields (spelt l))
+          last : (l : Option Vote) → ((x : Vote) → l ≡ some x → FitsVote x) → Sized (reportFields (spelt l))
           last none fit = (omega arith, (omega arith, (omega arith, tt)))
           last (some x) fit = (omega arith, (fit x refl .0, (fit x refl .1, tt)))
 
@@ -174,27 +174,27 @@ pub viewFits : (x : Frame) → Valid x → x .view < 2 ^ 32
 viewFits x v = v .sized .1 .1 .0
 
 -- The vote in a frame that has bytes has its widths.
-pub voteFits : (x : Frame) → Valid x → (y : Vote) → voteBy (x .view) (x .body) ≡ some y → Fits y
+pub voteFits : (x : Frame) → Valid x → (y : Vote) → voteBy (x .view) (x .body) ≡ some y → FitsVote y
 voteFits x v y e = go (x .body) (v .sized) e
   where
-    go : (b : Body) → Sized (headFields x ++ bodyFields b) → voteBy (x .view) b ≡ some y → Fits y
+    go : (b : Body) → Sized (headFields x ++ bodyFields b) → voteBy (x .view) b ≡ some y → FitsVote y
     go (Plan p) s e = let is : record { view = x .view; plan = p } ≡ y = cc in rw (← is) (s .1 .1 .0, s .1 .1 .1 .0)
     go Empty s e = absurd (none≢some e)
     go (Told r) s e = absurd (none≢some e)
 
 -- The vote that a report tells has the report's widths.
-slotFits : (z : Slot.Report) (y : Vote) → z .view < 2 ^ 32 → z .plan < 2 ^ 64 → reported z ≡ some y → Fits y
+slotFits : (z : Slot.Report) (y : Vote) → z .view < 2 ^ 32 → z .plan < 2 ^ 64 → reported z ≡ some y → FitsVote y
 slotFits z y lv lp e = go (eqb (z .mark) 1) e
   where
-    go : (b : Bool) → cond b (some (record { view = z .view; plan = z .plan })) none ≡ some y → Fits y
+    go : (b : Bool) → cond b (some (record { view = z .view; plan = z .plan })) none ≡ some y → FitsVote y
     go true e = let is : record { view = z .view; plan = z .plan } ≡ y = cc in rw (← is) (lv, lp)
     go false e = absurd (none≢some e)
 
 -- The votes of a report have their widths.
 pub record ReportFits (r : Report) : Type 0 where
-  pub highest : (y : Vote) → r .highest ≡ some y → Fits y
-  pub previous : (y : Vote) → r .previous ≡ some y → Fits y
-  pub lock : (y : Vote) → r .lock ≡ some y → Fits y
+  pub highest : (y : Vote) → r .highest ≡ some y → FitsVote y
+  pub previous : (y : Vote) → r .previous ≡ some y → FitsVote y
+  pub lock : (y : Vote) → r .lock ≡ some y → FitsVote y
 
 -- The votes in a suggest or proof that has bytes have their widths.
 pub reportFits : (x : Frame) → Valid x → (r : Report) → reportBy (x .body) ≡ some r → ReportFits r

@@ -12,14 +12,14 @@ use native.Mathlib.Omega.{arith}
 use native.Mathlib.Nat.{mod-lt}
 use lib.Dec.{ltb, eqb}
 use borrow.Author.Tests.{eqb-true, eqb-false, leb-false, ltb-false}
-use Rattle.quorum.specs.Quorums.{Quorum}
-use Rattle.quorum.proofs.Bools.{which, clash, either}
+use Rattle.rules.specs.Quorums.{Quorum}
+use Rattle.rules.proofs.Bools.{which, clash, either}
 use Rattle.rules.specs.Options.{holds}
 use Rattle.rules.specs.Rules.{Vote, Report, Rule, rule1, rule3, claimVote, lockVote, Chosen}
 use Rattle.rules.specs.Rules as Rules
 use Rattle.rules.specs.inside.Counts.{names}
 use Rattle.rules.proofs.Laws.{holdsWhere, safeNamed}
-use Rattle.agreement.proofs.Reports.{none≢some}
+use Rattle.rules.proofs.Reports.{none≢some}
 use Rattle.frame.specs.declared.Frame.{Frame}
 use Rattle.frame.specs.Refusal.{first, leaderOf}
 use Rattle.frame.proofs.Laws.{neither}
@@ -30,7 +30,7 @@ use Rattle.protocol.specs.Tables.{put}
 use Rattle.settings.specs.declared.Settings.{Settings}
 use Rattle.protocol.specs.Pass.{Act, ask, enter, cast, decide, shift, hasPrevious, entered, does, suggestEntry, writes}
 use Rattle.protocol.specs.Calls.{start}
-use Rattle.protocol.specs.inside.Sound.{Fits, Ranged}
+use Rattle.protocol.specs.inside.Sound.{FitsVote, Ranged}
 use Rattle.protocol.specs.Sound.{InRow, Sound}
 use Rattle.protocol.proofs.Tables.{keepWas, eachSome, whenSome}
 use Rattle.protocol.proofs.May.{Held, Reached, Wished, May, proposedChosen}
@@ -113,7 +113,7 @@ module _ {r : Record} (w : Whole r) where
   -- ---- the widths of what may be written
 
   -- A kept vote has its widths.
-  voteWidth : (k j : ℕ) (x : Vote) → voteOf r k j ≡ some x → Fits x
+  voteWidth : (k j : ℕ) (x : Vote) → voteOf r k j ≡ some x → FitsVote x
   voteWidth k j x e = let (y, is, v) = eachSome (r .kept (suc k) j) _ e in voteFits y (w .sound .kept (suc k) j y is .valid) x v
 
   -- A view for which a view-change is kept is 32 bits wide.
@@ -143,7 +143,7 @@ module _ {r : Record} (w : Whole r) where
   unfolding names
   namedWidth p x fit h = ⊎-elim (of (x .lock) (fit .lock)) (of (x .highest) (fit .highest)) (either (holds (λ y. eqb (y .plan) p) (x .lock)) _ h)
     where
-      of : (o : Option Vote) → ((y : Vote) → o ≡ some y → Fits y) → holds (λ y. eqb (y .plan) p) o ≡ true → p < 2 ^ 64
+      of : (o : Option Vote) → ((y : Vote) → o ≡ some y → FitsVote y) → holds (λ y. eqb (y .plan) p) o ≡ true → p < 2 ^ 64
       of o fit h = let (y, is, same) = holdsWhere o (λ y. eqb (y .plan) p) h in rw (eqb-true (y .plan) p same) at (fit y is .1)
 
   -- Step C's choice is 64 bits wide: the starting plan is, and another is named by a report.
@@ -284,22 +284,22 @@ module _ {r : Record} (w : Whole r) where
   actSound (decide p) may = record { settings = w .sound .settings; kept = w .sound .kept; own = w .sound .own; previous = w .sound .previous }
 
   -- After an act the previous votes have their widths: each is an old one, or was the highest.
-  previousWidth : (a : Act) (k : ℕ) (x : Vote) → (does r a) .previous k ≡ some x → Fits x
+  previousWidth : (a : Act) (k : ℕ) (x : Vote) → (does r a) .previous k ≡ some x → FitsVote x
   previousWidth a k x e = go (isCast a k)
     where
-      shifts : (p : ℕ) (top : Option Vote) → voteOf r k (r .set .id) ≡ top → shift p top (r .previous k) ≡ some x → Fits x
+      shifts : (p : ℕ) (top : Option Vote) → voteOf r k (r .set .id) ≡ top → shift p top (r .previous k) ≡ some x → FitsVote x
       shifts p none is e = w .ranged .previous k x e
       shifts p (some y) is e = by (eqb (y .plan) p) e
         where
-          by : (b : Bool) → cond b (r .previous k) (some y) ≡ some x → Fits x
+          by : (b : Bool) → cond b (r .previous k) (some y) ≡ some x → FitsVote x
           by true e = w .ranged .previous k x e
           by false e = let same : y ≡ x = cc in rw same at (voteWidth k (r .set .id) y is)
 
-      casts : (p : ℕ) → a ≡ cast k p → (hasPrevious k ≡ true) ⊎ (hasPrevious k ≡ false) → Fits x
+      casts : (p : ℕ) → a ≡ cast k p → (hasPrevious k ≡ true) ⊎ (hasPrevious k ≡ false) → FitsVote x
       casts p is (inl has) = shifts p (voteOf r k (r .set .id)) refl (sym (previousCast r k p has) ∙ ap (λ (b : Act). (does r b) .previous k) (sym is) ∙ e)
       casts p is (inr has) = w .ranged .previous k x (sym (untoldCast r k p has) ∙ ap (λ (b : Act). (does r b) .previous k) (sym is) ∙ e)
 
-      go : ((p : ℕ) × (a ≡ cast k p)) ⊎ ((p : ℕ) → a ≡ cast k p → ⊥) → Fits x
+      go : ((p : ℕ) × (a ≡ cast k p)) ⊎ ((p : ℕ) → a ≡ cast k p → ⊥) → FitsVote x
       go (inl (p, is)) = casts p is (which (hasPrevious k))
       go (inr other) = w .ranged .previous k x (sym (previousKept r a k other) ∙ e)
 

@@ -10,10 +10,10 @@ use native.Mathlib.Omega.{arith}
 use native.Mathlib.Decide.{ℕ-discrete}
 use lib.Dec.{ltb, eqb}
 use borrow.Author.Tests.{eqb-true, eq-eqb, ne-eqb, ltb-true, ltb-false}
-use Rattle.quorum.proofs.Bools.{which, bothSplit}
+use Rattle.rules.proofs.Bools.{which, bothSplit}
 use Rattle.rules.specs.Options.{holds}
 use Rattle.rules.proofs.Laws.{holdsWhere}
-use Rattle.agreement.proofs.Reports.{none≢some}
+use Rattle.rules.proofs.Reports.{none≢some}
 use Rattle.frame.specs.declared.Frame.{Frame}
 use Rattle.protocol.specs.Record.{when, each, higher, highest, keeping}
 use Rattle.protocol.specs.Tables.{put}

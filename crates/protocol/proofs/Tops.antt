@@ -11,8 +11,8 @@ use native.Mathlib.Omega.{arith}
 use lib.Dec.{eqb}
 use borrow.Author.Tests.{eqb-true, eqb-false}
 use Rattle.rules.specs.Rules.{Vote, Report, Rule, rule1, rule3, claimVote, lockVote}
-use Rattle.agreement.specs.inside.Law.{Highest, Other, Exact}
-use Rattle.agreement.proofs.Reports.{none≢some}
+use Rattle.rules.specs.inside.Law.{HighestVote, Other, Exact}
+use Rattle.rules.proofs.Reports.{none≢some}
 use Rattle.protocol.specs.Pass.{shift, hasPrevious}
 
 -- Of the votes that are P, o is the highest, if there is any.
@@ -29,7 +29,7 @@ pub topsNone : {P : ℕ → ℕ → Type 0} → ((u p : ℕ) → ¬ P u p) → T
 topsNone never = record { sent = λ e. absurd (none≢some e); top = λ u p at. absurd (never u p at) }
 
 -- The highest of all is the highest below w, where all are below w.
-topsHighest : {P : ℕ → ℕ → Type 0} {o : Option Vote} (w : ℕ) → ((u p : ℕ) → P u p → u < w) → Tops P o → Highest P w o
+topsHighest : {P : ℕ → ℕ → Type 0} {o : Option Vote} (w : ℕ) → ((u p : ℕ) → P u p → u < w) → Tops P o → HighestVote P w o
 topsHighest w below t = record { low = λ {x} e. below (x .view) (x .plan) (t .sent e); sent = λ {x} e. t .sent e; top = λ u p under at. t .top u p at }
 
 -- One more vote, for p in view v, that is no lower than the others.

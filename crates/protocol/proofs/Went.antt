@@ -10,10 +10,10 @@ use mathlib.Core.Option.{Option, none, some}
 use native.Mathlib.Omega.{arith}
 use lib.Dec.{leb, ltb, eqb}
 use borrow.Author.Tests.{eqb-true, leb-false, ltb-true}
-use Rattle.quorum.specs.Sets.{total}
-use Rattle.quorum.proofs.Bools.{which}
-use Rattle.quorum.proofs.Laws.{totalEquals}
-use Rattle.agreement.proofs.Reports.{none≢some}
+use Rattle.rules.specs.Sets.{total}
+use Rattle.rules.proofs.Bools.{which}
+use Rattle.rules.proofs.Quorums.{totalEquals}
+use Rattle.rules.proofs.Reports.{none≢some}
 use Rattle.frame.specs.declared.Frame.{Frame}
 use Rattle.frame.specs.declared.Reading.the-variants.{Accepted, Refused}
 use Rattle.frame.specs.Refusal.{Row, row, first}
@@ -27,7 +27,7 @@ use Rattle.protocol.specs.Calls.{recordRows, timerRows, fresh, started, 
 use Rattle.protocol.specs.Calls.{Call, start, frame, timer, short, accepted, answer, unless}
 use Rattle.settings.specs.Settings.{settingRows}
 use Rattle.settings.specs.Vaults.{vaultsOf}
-use Rattle.protocol.specs.inside.Runs.{Setting}
+use Rattle.protocol.specs.inside.Runs.{ContentsSetting}
 use Rattle.protocol.proofs.Tables.{putSame, putAgain, putOwn}
 use Rattle.protocol.proofs.Past.{Past, Voted, Later, laterTrans, Fine}
 use Rattle.protocol.proofs.Past as Past′
@@ -124,7 +124,7 @@ ontoTwice h i o u z = record { wrote = wrote z; at = putAgain i (u .left .view) 
 laterSame : {h g : Past} → g ≡ h → Later h g
 laterSame {h} e = subst (Later h) (sym e) (record { more = λ j e at. at; rises = λ j. omega arith; settled = λ j k u p low at. at })
 
-module _ (c : Setting) (Began : ℕ → Type 0) where
+module _ (c : ContentsSetting) (Began : ℕ → Type 0) where
   -- What a vault's answer o, after the past h, comes to.
   pub record Went (h : Past) (i : ℕ) (o : Out) : Type 0 where
     pub id : o .left .set .id ≡ i
@@ -139,7 +139,7 @@ module _ (c : Setting) (Began : ℕ → Type 0) where
     later = subst (Later h) (ontoTwice h i o u) (laterTrans on (w .later));
   }
 
-module _ (c : Setting) (Began : ℕ → Type 0) (seed : Seed c Began) where
+module _ (c : ContentsSetting) (Began : ℕ → Type 0) (seed : Seed c Began) where
   -- A pass of lawful steps leaves the record good and the past later.
   passWent : {steps : List Step} → Sure steps → (h : Past) (r : Record) → Good c Began h r → Went c Began h (r .set .id) (pass steps r)
   unfolding pass
@@ -219,9 +219,9 @@ module _ (c : Setting) (Began : ℕ → Type 0) (seed : Seed c Began) where
   heardWent h r x other fine g = passWent sureA h (keep x r) (heardGood c Began x other fine g)
 
   -- So does an accepted timer: its view-change is an act, and then comes the pass.
-  pub rungWent : (h : Past) (r : Record) → r .view ≢ 4294967295 → Good c Began h r → Went c Began h (r .set .id) (timedOut r)
+  pub timedOutWent : (h : Past) (r : Record) → r .view ≢ 4294967295 → Good c Began h r → Went c Began h (r .set .id) (timedOut r)
   unfolding timedOut does
-  rungWent h r room g =
+  timedOutWent h r room g =
       further c Began (taken r (some (ask (wanted r)))) (pass fromA (does r (ask (wanted r)))) (actLater c Began g (ask (wanted r)) (wantedMay r room))
       (passWent sureA (onto h (r .set .id) (taken r (some (ask (wanted r))))) (does r (ask (wanted r)))
       (actGood c Began g (ask (wanted r)) (wantedMay r room) seed))

@@ -4,9 +4,9 @@ use Prim.Native.Nat.{ℕ, suc}
 use mathlib.Core.Path.{_≡_, refl}
 use mathlib.Core.List.{List, [], _∷_}
 use mathlib.Core.Option.{Option, none, some}
-use Rattle.quorum.specs.Sets.{weigh}
-use Rattle.quorum.specs.Quorums.{isQuorum, isBlocking}
-use Rattle.quorum.specs.inside.Bools.{any}
+use Rattle.rules.specs.Sets.{weigh}
+use Rattle.rules.specs.Quorums.{isQuorum, isBlocking}
+use Rattle.rules.specs.inside.Bools.{anyBelow}
 use Rattle.rules.specs.Rules.{Vote, Rule, rule1, rule3, reach, claims, unlocked, allows}
 use Rattle.rules.specs.inside.Counts.{claimed, free, allowed, twoSets, backed, safe, smallest, choice}
 use Rattle.frame.specs.declared.Body.{Body}
@@ -136,7 +136,7 @@ lockedVote = replies (
     ≡ wrote (timed 0 ∷ []) ∷ wrote [] ∷ wrote (ForAll (change 3 1) ∷ timed 1 ∷ ForAll (silent rule3 3 1) ∷ ForOne 1 (silent rule1 3 1) ∷ [])
     ∷ wrote [] ∷ wrote [] ∷ wrote [] ∷ wrote (ForAll (vote 3 1 1 6) ∷ []) ∷ []
 
--- M7 in a run: vault 0 voted-1 for 4 and voted-4 for 6 in view 1; in view 3 plan 6 is safe by the twoSet clause alone.
+-- M7 in a run: vault 0 voted-1 for 4 and voted-4 for 6 in view 1; in view 3 plan 6 is safe by the two-set clause alone.
 abbrev twoSetVote : Type 0
 twoSetVote = replies (
     starts 0 7 ∷ hears (change 1 1) ∷ hears (change 2 1) ∷ hears (vote 1 0 1 4) ∷ hears (silent rule3 1 1) ∷ hears (silent rule3 2 1)
@@ -192,5 +192,5 @@ refusals = replies (
 worked : document × allVotes × lateVote × viewChanges × timerRepeats × timerBeyond × ownPlan × lockedPlan × lockedVote × twoSetVote × previousStays
     × decidesOnce × laterReplaces × refusals
 unfolding delayOf replies answer started keep heard timedOut pass stepA stepB stepC stepD stepVote stepH does writes agreed highest
-    safe free allowed claimed twoSets backed choice smallest any weigh isQuorum isBlocking reach claims unlocked allows
+    safe free allowed claimed twoSets backed choice smallest anyBelow weigh isQuorum isBlocking reach claims unlocked allows
 worked = (refl, refl, refl, refl, refl, refl, refl, refl, refl, refl, refl, refl, refl, refl)

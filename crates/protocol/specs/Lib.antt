@@ -8,3 +8,4 @@ pub mod Fed
 pub mod Tables
 pub mod Sound
 pub mod inside
+pub mod Edges

@@ -5,8 +5,8 @@ use mathlib.Core.Bool.{Bool, true, false, cond, not, _&&_, _||_}
 use mathlib.Core.List.{List, [], _∷_, _++_}
 use mathlib.Core.Option.{Option, none, some}
 use lib.Dec.{leb, ltb, eqb}
-use Rattle.quorum.specs.Sets.{Vaults, Set}
-use Rattle.quorum.specs.Quorums.{isQuorum, isBlocking}
+use Rattle.rules.specs.Sets.{Vaults, Set}
+use Rattle.rules.specs.Quorums.{isQuorum, isBlocking}
 use Rattle.rules.specs.Options.{isNone, holds}
 use Rattle.rules.specs.Rules.{Vote, rule1, rule3}
 use Rattle.rules.specs.inside.Counts.{safe, choice}

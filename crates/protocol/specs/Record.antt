@@ -4,7 +4,7 @@ use Prim.Native.Nat.{ℕ, zero, suc}
 use mathlib.Core.Bool.{Bool, true, false, cond, not}
 use mathlib.Core.Option.{Option, none, some}
 use lib.Dec.{ltb, eqb}
-use Rattle.quorum.specs.Sets.{Vaults}
+use Rattle.rules.specs.Sets.{Vaults}
 use Rattle.rules.specs.Options.{isNone, holds}
 use Rattle.rules.specs.Rules.{Vote, Report, Reports, Rule, rule1, rule3, claimVote, lockVote}
 use Rattle.frame.specs.declared.Report as Slot

@@ -1,2 +1,5 @@
 -- What inner functions promise each other, and what proofs go by. Nothing in these files has to be believed.
 pub mod Slots
+pub mod Layout
+pub mod Keeping
+pub mod Kept

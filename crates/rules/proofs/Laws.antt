@@ -1,6 +1,6 @@
 -- The rules by sets are the rules by counting (document 01, 'When a plan is safe'; step C).
 -- A set of reporters that pass a test is enough exactly if all that pass are (`counted`), so only the views and the plans are
--- left to search. Views: those below v. Plans of the twoSet clause: a plan that no highest vote is for is claimed only where
+-- left to search. Views: those below v. Plans of the two-set clause: a plan that no highest vote is for is claimed only where
 -- every plan is, so the highest votes' plans and any two others will do. Plans of step C: for the same reason a plan that no
 -- report names is safe only if every plan is, so where the starting plan is not, the smallest safe plan is named by a report.
 -- Assumes nothing.
@@ -13,11 +13,11 @@ use native.Mathlib.Omega.{arith}
 use native.Mathlib.Decide.{ℕ-discrete}
 use lib.Dec.{ltb, eqb}
 use borrow.Author.Tests.{ltb-true, lt-ltb, le-ltb, eqb-true, eqb-false, eq-eqb, ne-eqb, not-true}
-use Rattle.quorum.specs.inside.Bools.{any}
-use Rattle.quorum.specs.Sets.{Vaults, Set}
-use Rattle.quorum.specs.Quorums.{isBlocking, Quorum, Blocking}
-use Rattle.quorum.proofs.Bools.{which, clash, notTrue, bothSplit, bothJoin, orLeft, orRight, either, anyAt, anyWhere}
-use Rattle.quorum.proofs.Laws.{ByWeight, blockingByWeight, enoughMono, groupMap, countQuorum, countBlocking}
+use Rattle.rules.specs.inside.Bools.{anyBelow}
+use Rattle.rules.specs.Sets.{Vaults, Set}
+use Rattle.rules.specs.Quorums.{isBlocking}
+use Rattle.rules.proofs.Bools.{which, clash, notTrue, bothSplit, bothJoin, orLeft, orRight, either, anyAt, anyWhere}
+use Rattle.rules.proofs.Quorums.{ByWeight, blockingByWeight, enoughMono, groupMap, countQuorum, countBlocking}
 use Rattle.rules.specs.Options.{holds}
 use Rattle.rules.specs.Rules.{Vote, Report, Reports, Rule, rule1, rule3, claims, unlocked, allows, reporting, Claimed, TwoSets, Backed, Safe}
 use Rattle.rules.specs.Rules.{atStart, noLock, since, IsSmallest, Chosen, own, other}
@@ -69,21 +69,21 @@ module _ (vs : Vaults) (rs : Reports) where
       rw (is, at) (eqb-true (x .plan) p same)
 
   -- A plan that no highest vote is for is claimed only where every plan is.
-  pub unvotedClaims : (p q u : ℕ) → any (votes rs p) (vs .n) ≡ false → claimed vs rs p u ≡ true → claimed vs rs q u ≡ true
+  pub unvotedClaims : (p q u : ℕ) → anyBelow (votes rs p) (vs .n) ≡ false → claimed vs rs p u ≡ true → claimed vs rs q u ≡ true
   unfolding claimed
   unvotedClaims p q u unvoted h =
       enoughReports vs (isBlocking vs) (blockingByWeight vs) rs (claims p u) (claims q u)
       (λ i low r is. claimsUnnamed r p q u (notTrue _
       (λ (at : holds (λ x. eqb (x .plan) p) (r .highest) ≡ true). clash (anyAt (votes rs p) (vs .n) i low (rw is at)) unvoted))) h
 
-  -- ---- the twoSet clause
+  -- ---- the two-set clause
 
   -- p is one of the plans that the clause tries.
   abbrev Tried : ℕ → Type 0
   Tried p = (i : ℕ) × (i < vs .n + 2) × (votedPlan rs (vs .n) i ≡ p)
 
   -- The plan of a highest vote is tried.
-  triedVoted : (p : ℕ) → any (votes rs p) (vs .n) ≡ true → Tried p
+  triedVoted : (p : ℕ) → anyBelow (votes rs p) (vs .n) ≡ true → Tried p
   triedVoted p h =
       let (i, low, at) = anyWhere (votes rs p) (vs .n) h in
       (i, omega arith, rw (lt-ltb i (vs .n) low) (votesPlan p i 0 at))
@@ -100,7 +100,7 @@ module _ (vs : Vaults) (rs : Reports) where
   unfolding twoSets
   twoTried v u p₁ p₂ low differ (i, li, ei) (j, lj, ej) c₁ c₂ =
       bothJoin (ltb (u + 1) v) _ (lt-ltb (u + 1) v low)
-      (anyAt (λ k. any (λ l. twoClaimed vs rs u (plan k) (plan l)) (vs .n + 2)) (vs .n + 2) i li
+      (anyAt (λ k. anyBelow (λ l. twoClaimed vs rs u (plan k) (plan l)) (vs .n + 2)) (vs .n + 2) i li
       (anyAt (λ l. twoClaimed vs rs u (plan i) (plan l)) (vs .n + 2) j lj both))
     where
       plan : ℕ → ℕ
@@ -114,13 +114,13 @@ module _ (vs : Vaults) (rs : Reports) where
   another zero = (1, omega arith, λ (e : _≡_ {A = ℕ} 0 1). omega arith)
   another (suc p) = (0, omega arith, λ (e : suc p ≡ 0). omega arith)
 
-  -- The twoSet clause by sets is the one by counting: plans that no highest vote is for are replaced by 0 and 1.
+  -- The two-set clause by sets is the one by counting: plans that no highest vote is for are replaced by 0 and 1.
   pub twoIff : (v u : ℕ) → TwoSets vs rs v u ↔ (twoSets vs rs v u ≡ true)
   unfolding twoSets
   twoIff v u = (to, from)
     where
       to : TwoSets vs rs v u → twoSets vs rs v u ≡ true
-      to t = go (which (any (votes rs (t .p₁)) (vs .n))) (which (any (votes rs (t .p₂)) (vs .n)))
+      to t = go (which (anyBelow (votes rs (t .p₁)) (vs .n))) (which (anyBelow (votes rs (t .p₂)) (vs .n)))
         where
           low : u + 1 < v
           low = omega arith
@@ -131,21 +131,22 @@ module _ (vs : Vaults) (rs : Reports) where
           second : claimed vs rs (t .p₂) (u + 1) ≡ true
           second = claimedFalls (t .p₂) (t .b) (u + 1) (omega arith) (claimedIff (t .p₂) (t .b) .0 (t .second))
 
-          go : (any (votes rs (t .p₁)) (vs .n) ≡ true) ⊎ (any (votes rs (t .p₁)) (vs .n) ≡ false)
-              → (any (votes rs (t .p₂)) (vs .n) ≡ true) ⊎ (any (votes rs (t .p₂)) (vs .n) ≡ false) → twoSets vs rs v u ≡ true
+          go : (anyBelow (votes rs (t .p₁)) (vs .n) ≡ true) ⊎ (anyBelow (votes rs (t .p₁)) (vs .n) ≡ false)
+              → (anyBelow (votes rs (t .p₂)) (vs .n) ≡ true) ⊎ (anyBelow (votes rs (t .p₂)) (vs .n) ≡ false) → twoSets vs rs v u ≡ true
           go (inl h₁) (inl h₂) = twoTried v u (t .p₁) (t .p₂) low (t .another) (triedVoted (t .p₁) h₁) (triedVoted (t .p₂) h₂) first second
           go (inr h₁) (inl h₂) =
               let (q, small, differ) = another (t .p₂) in
               twoTried v u q (t .p₂) low differ (triedSmall q small) (triedVoted (t .p₂) h₂) (unvotedClaims (t .p₁) q u h₁ first) second
-          go any₁ (inr h₂) =
+          go anyBelow₁ (inr h₂) =
               twoTried v u 0 1 low (λ (e : _≡_ {A = ℕ} 1 0). omega arith) (triedSmall 0 (omega arith)) (triedSmall 1 (omega arith))
               (claimedFalls 0 (u + 1) u (omega arith) (unvotedClaims (t .p₂) 0 (u + 1) h₂ second)) (unvotedClaims (t .p₂) 1 (u + 1) h₂ second)
 
       from : twoSets vs rs v u ≡ true → TwoSets vs rs v u
       from h =
           let (low, found) = bothSplit (ltb (u + 1) v) _ h in
-          let (i, li, more) = anyWhere (λ k. any (λ l. twoClaimed vs rs u (votedPlan rs (vs .n) k) (votedPlan rs (vs .n) l)) (vs .n + 2)) (vs .n + 2) found in
-          let (j, lj, both) = anyWhere (λ l. twoClaimed vs rs u (votedPlan rs (vs .n) i) (votedPlan rs (vs .n) l)) (vs .n + 2) more in
+          let plan = votedPlan rs (vs .n) in
+          let (i, li, more) = anyWhere (λ k. anyBelow (λ l. twoClaimed vs rs u (plan k) (plan l)) (vs .n + 2)) (vs .n + 2) found in
+          let (j, lj, both) = anyWhere (λ l. twoClaimed vs rs u (plan i) (plan l)) (vs .n + 2) more in
           let (differ, c) = bothSplit (not (eqb (votedPlan rs (vs .n) j) (votedPlan rs (vs .n) i))) _ both in
           let (c₁, c₂) = bothSplit (claimed vs rs (votedPlan rs (vs .n) i) u) _ c in
           record {
@@ -175,7 +176,7 @@ module _ (vs : Vaults) (rs : Reports) where
   -- ---- plans named by no report
 
   -- Plans named by no report behave alike: where one is safe by Rule 1, every plan is.
-  pub unnamedSafe : (v p q : ℕ) → any (reporting rs (names p)) (vs .n) ≡ false → Safe rule1 vs rs v p → Safe rule1 vs rs v q
+  pub unnamedSafe : (v p q : ℕ) → anyBelow (reporting rs (names p)) (vs .n) ≡ false → Safe rule1 vs rs v p → Safe rule1 vs rs v q
   unnamedSafe v p q unnamed = go
     where
       apart : (i : ℕ) → i < vs .n → (r : Report) → rs i ≡ some r → names p r ≡ false
@@ -193,9 +194,9 @@ module _ (vs : Vaults) (rs : Reports) where
 
   -- Where the starting plan is not safe, every safe plan is named by a report.
   pub safeNamed : (v start p : ℕ) → ¬ Safe rule1 vs rs v start → Safe rule1 vs rs v p → (i : ℕ) × (i < vs .n) × (reporting rs (names p) i ≡ true)
-  safeNamed v start p never s = go (which (any (reporting rs (names p)) (vs .n)))
+  safeNamed v start p never s = go (which (anyBelow (reporting rs (names p)) (vs .n)))
     where
-      go : (any (reporting rs (names p)) (vs .n) ≡ true) ⊎ (any (reporting rs (names p)) (vs .n) ≡ false)
+      go : (anyBelow (reporting rs (names p)) (vs .n) ≡ true) ⊎ (anyBelow (reporting rs (names p)) (vs .n) ≡ false)
           → (i : ℕ) × (i < vs .n) × (reporting rs (names p) i ≡ true)
       go (inl h) = anyWhere (reporting rs (names p)) (vs .n) h
       go (inr h) = absurd (never (unnamedSafe v p start h s))
@@ -220,7 +221,7 @@ safeIff vs rs rule v p = (to, λ h. ⊎-elim (λ e. atStart (eqb-true v 0 e)) (�
     free′ : free vs rs ≡ true → Safe rule vs rs v p
     free′ h = noLock (countQuorum vs (reporting rs unlocked) .1 h)
 
-    since′ : any (λ u. allowed vs rs p u && backed rule vs rs v p u) v ≡ true → Safe rule vs rs v p
+    since′ : anyBelow (λ u. allowed vs rs p u && backed rule vs rs v p u) v ≡ true → Safe rule vs rs v p
     since′ h =
         let (u, low, both) = anyWhere (λ u. allowed vs rs p u && backed rule vs rs v p u) v h in
         let (q, b) = bothSplit (allowed vs rs p u) _ both in

@@ -11,7 +11,7 @@ use native.Mathlib.Omega.{arith}
 use lib.Dec.{leb, eqb}
 use native.Mathlib.Decide.{decLe}
 use borrow.Author.Tests.{leb-true, le-leb, eqb-true, eq-eqb, ne-eqb}
-use Rattle.quorum.proofs.Bools.{which, clash, notTrue, bothSplit, bothJoin, orLeft, orRight, either}
+use Rattle.rules.proofs.Bools.{which, clash, notTrue, bothSplit, bothJoin, orLeft, orRight, either}
 use Rattle.rules.specs.Options.{isNone, holds}
 use Rattle.rules.specs.Rules.{Vote, Report, viewOf, viewFor, reach, claims, lockAllows, allows}
 use Rattle.rules.specs.inside.Counts.{names}

@@ -11,11 +11,11 @@ use native.Mathlib.Omega.{arith}
 use native.Mathlib.Decide.{ℕ-discrete, decLt, decLe}
 use lib.Dec.{leb, ltb, eqb}
 use borrow.Author.Tests.{ltb-true, le-leb, lt-leb, lt-ltb, le-ltb, eqb-true, not-true}
-use Rattle.quorum.specs.inside.Bools.{any}
-use Rattle.quorum.specs.Sets.{Vaults, weigh}
-use Rattle.quorum.specs.Quorums.{isQuorum}
-use Rattle.quorum.proofs.Bools.{which, clash, notTrue, sameTest, bothSplit, bothJoin, orLeft, orRight, either, anyAt, anyWhere}
-use Rattle.quorum.proofs.Laws.{quorumByWeight, enoughMono, weighMost}
+use Rattle.rules.specs.inside.Bools.{anyBelow}
+use Rattle.rules.specs.Sets.{Vaults, weigh}
+use Rattle.rules.specs.Quorums.{isQuorum}
+use Rattle.rules.proofs.Bools.{which, clash, notTrue, sameTest, bothSplit, bothJoin, orLeft, orRight, either, anyAt, anyWhere}
+use Rattle.rules.proofs.Quorums.{quorumByWeight, enoughMono, weighMost}
 use Rattle.rules.specs.Rules.{Report, Reports, Rule, rule1, rule3, viewOf, allows, reporting, TwoSets}
 use Rattle.rules.specs.Options.{holds}
 use Rattle.rules.specs.inside.Counts.{claimed, free, allowed, twoSets, backed, safe}
@@ -79,7 +79,7 @@ module _ (test : ℕ → Bool) (falls : Falls test) where
 module _ (vs : Vaults) (rs : Reports) (v : ℕ) where
   -- ---- the views that back a plan
 
-  -- The twoSet clause, if it passes at a view, passes at earlier ones.
+  -- The two-set clause, if it passes at a view, passes at earlier ones.
   twoFalls : Falls (twoSets vs rs v)
   twoFalls u w le h =
       let t : TwoSets vs rs v u = twoIff vs rs v u .1 h in
@@ -104,13 +104,13 @@ module _ (vs : Vaults) (rs : Reports) (v : ℕ) where
       ⊎-elim (λ c. orLeft (claimed vs rs p w) _ (claimedFalls vs rs p u w le c)) (λ t. orRight (claimed vs rs p w) _ (twoFalls u w le t))
       (either (claimed vs rs p u) _ h)
 
-  -- ---- the twoSet clause at view u
+  -- ---- the two-set clause at view u
 
-  -- The twoSet clause needs a view between u and v.
+  -- The two-set clause needs a view between u and v.
   pub twoLate : (u : ℕ) → v ≤ u + 1 → twoSets vs rs v u ≡ false
   twoLate u late = notTrue _ (λ h. let t : TwoSets vs rs v u = twoIff vs rs v u .1 h in omega arith)
 
-  -- Where the twoSet clause passes, one plan is claimed at u and another at the next view.
+  -- Where the two-set clause passes, one plan is claimed at u and another at the next view.
   twoClaims : (u : ℕ) → twoSets vs rs v u ≡ true → (p₁ p₂ : ℕ) × (p₂ ≢ p₁) × (claimed vs rs p₁ u ≡ true) × (claimed vs rs p₂ (u + 1) ≡ true)
   twoClaims u h =
       let t : TwoSets vs rs v u = twoIff vs rs v u .1 h in (
@@ -203,7 +203,7 @@ module _ (vs : Vaults) (rs : Reports) (v : ℕ) where
         (λ g. ⊎-elim (λ at. absurd (clash at locked)) found (either (free vs rs) _ g))
         (either (eqb v 0) _ h)
       where
-        found : any (λ u. allowed vs rs p u && backed rule vs rs v p u) v ≡ true
+        found : anyBelow (λ u. allowed vs rs p u && backed rule vs rs v p u) v ≡ true
             → (u : ℕ) × (u < v) × (lowestView vs rs v ≤ u) × (allowed vs rs p u ≡ true) × (backed rule vs rs v p u ≡ true)
         found h =
             let (u, low, both) = anyWhere (λ w. allowed vs rs p w && backed rule vs rs v p w) v h in

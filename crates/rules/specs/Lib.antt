@@ -1,3 +1,5 @@
+pub mod Sets
+pub mod Quorums
 pub mod Options
 pub mod Rules
 pub mod Sentences

@@ -6,8 +6,8 @@ use mathlib.Core.Logic.{_≢_, _⊎_}
 use mathlib.Core.Bool.{Bool, true, cond, not, _&&_, _||_}
 use mathlib.Core.Option.{Option, none, some}
 use lib.Dec.{leb, eqb}
-use Rattle.quorum.specs.Sets.{Vaults, Set}
-use Rattle.quorum.specs.Quorums.{Quorum, Blocking}
+use Rattle.rules.specs.Sets.{Vaults, Set}
+use Rattle.rules.specs.Quorums.{Quorum, Blocking}
 use Rattle.rules.specs.Options.{isNone, holds}
 
 -- A vote for a plan in a view.

@@ -6,7 +6,7 @@ use mathlib.Core.Path.{_≡_}
 use mathlib.Core.Logic.{_↔_}
 use mathlib.Core.Bool.{true}
 use mathlib.Core.Option.{Option, some}
-use Rattle.quorum.specs.Sets.{Vaults}
+use Rattle.rules.specs.Sets.{Vaults}
 use Rattle.rules.specs.Rules.{Vote, Report, Reports, Rule, claims, Safe, Chosen}
 use Rattle.rules.specs.inside.Counts.{safe, choice}
 

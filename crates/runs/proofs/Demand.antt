@@ -11,8 +11,8 @@ use mathlib.Core.Option.{Option, none, some}
 use native.Mathlib.Omega.{arith}
 use lib.Dec.{eqb}
 use borrow.Author.Tests.{eqb-true}
-use Rattle.quorum.specs.Sets.{Vaults}
-use Rattle.agreement.proofs.Reports.{none≢some}
+use Rattle.rules.specs.Sets.{Vaults}
+use Rattle.rules.proofs.Reports.{none≢some}
 use Rattle.frame.specs.declared.Frame.{Frame}
 use Rattle.frame.specs.declared.Reading.{Reading}
 use Rattle.frame.specs.declared.Reading.the-variants.{Accepted, Refused}
@@ -23,7 +23,7 @@ use Rattle.frame.proofs.Theorems.{passed, decodeEncoded}
 use Rattle.entry.specs.declared.Entry.{Entry}
 use Rattle.entry.specs.declared.Entry.the-variants.{ForAll, ForOne, Decision}
 use Rattle.entry.specs.Valid.{ValidEntry, AllValid}
-use Rattle.layout.specs.Layout.{decodeRecord}
+use Rattle.record.specs.Layout.{decodeRecord}
 use Rattle.sound.specs.declared.Lent.the-variants.{Unsound}
 use Rattle.sound.specs.inside.Sound.{lentIs}
 use Rattle.protocol.specs.Record.{Record}
@@ -38,12 +38,12 @@ use Rattle.protocol.specs.inside.Runs as model
 use Rattle.protocol.specs.inside.Claim as whole
 use Rattle.protocol.proofs.Read.{acceptedReadable}
 use Rattle.protocol.proofs.Demand as protocol
-use Rattle.contents.specs.Calls.{after}
+use Rattle.contents.specs.Calls.{leftAfter}
 use Rattle.contents.specs.Left.{Left, gave}
 use Rattle.contents.specs.Spelling.{Spells}
 use Rattle.contents.proofs.Stays.{From, callSet}
 use Rattle.contents.proofs.Spelling.{Fine}
-use Rattle.runs.specs.Runs.{Call, start, frame, timer, InWidth, Rules, Item, recordIn, entriesIn, isAccepted, Setting, recordAt, written, Sent}
+use Rattle.runs.specs.Runs.{ByteCall, start, frame, timer, InWidth, Rules, Item, recordIn, entriesIn, isAccepted, Setting, recordAt, written, Sent}
 use Rattle.runs.specs.Runs.{Fair, Run, nothingYet, andThen, Decides, Started, here, earlier}
 use Rattle.runs.specs.Fixed.{leaves, Fixed}
 use Rattle.runs.specs.Claim.{Demand3}
@@ -82,8 +82,8 @@ shortRefused none = refl
 shortRefused (some r) = refl
 
 -- A plan of a start is that of the newest call, or of an earlier one.
-startedCases : {p : ℕ} {y : model.Item} {l : List model.Item} → model.Started p (y ∷ l)
-    → ((s : Settings) × (o : Out) × (y .call ≡ by.start s p) × (answer (model.recordAt l (y .at)) (y .call) ≡ accepted o)) ⊎ model.Started p l
+startedCases : {p : ℕ} {y : model.ContentsItem} {l : List model.ContentsItem} → model.ContentsStarted p (y ∷ l)
+    → ((s : Settings) × (o : Out) × (y .call ≡ by.start s p) × (answer (model.recordAt l (y .at)) (y .call) ≡ accepted o)) ⊎ model.ContentsStarted p l
 startedCases (model.here {s = s} {o = o} call is) = inl (s, o, call, is)
 startedCases (model.earlier s) = inr s
 
@@ -91,7 +91,7 @@ startedCases (model.earlier s) = inr s
 
 module _ (c : Setting) where
   -- The same vaults and rule-keepers, for the run by contents.
-  abbrev plain : model.Setting
+  abbrev plain : model.ContentsSetting
   plain = record { vaults = c .vaults; keeps = c .keeps; most = c .most }
 
   -- The record of vault i.
@@ -109,15 +109,15 @@ module _ (c : Setting) where
 
   -- A run by contents: its records are what the bytes spell, its entries the same, and its starts are those of the byte run.
   record Carried (l : List Item) : Type 0 where
-    items : List model.Item
-    run : model.Run plain items
+    items : List model.ContentsItem
+    run : model.ContentsRun plain items
     same : (i : ℕ) → Same i (recordAt c l i) (model.recordAt items i) (written l i) (model.written items i)
-    starts : (p : ℕ) → model.Started p items → Started p l
+    starts : (p : ℕ) → model.ContentsStarted p items → Started p l
 
   -- ---- what a run lets a call bring
 
   -- What a run lets the call at vault i bring; the record that it begins with has the run's n and f, and the own number.
-  record Allowed (items : List model.Item) (i : ℕ) (b : Option Record) (a : by.Call) : Type 0 where
+  record Allowed (items : List model.ContentsItem) (i : ℕ) (b : Option Record) (a : by.Call) : Type 0 where
     fair : model.Fair plain items i a
     set : Settings
     goes : From (λ r. r .set ≡ set) b a
@@ -126,7 +126,7 @@ module _ (c : Setting) where
 
   module _ {l : List Item} (v : Carried l) (i : ℕ) where
     -- Bytes that were sent say a frame that was sent.
-    sentSaid : (link : ℕ) (bytes : List ℕ) (x : Frame) → decode bytes ≡ x → x .sender ≡ link → Sent l i link bytes → model.Sent (v .items) i x
+    sentSaid : (link : ℕ) (bytes : List ℕ) (x : Frame) → decode bytes ≡ x → x .sender ≡ link → Sent l i link bytes → model.ContentsSent (v .items) i x
     sentSaid link bytes x is sender (y, spelt, at) =
         subst (λ (j : ℕ). (ForAll x ∈ model.written (v .items) j) ⊎ (ForOne i x ∈ model.written (v .items) j)) (sym sender)
         (⊎-elim (λ a. inl (toAll a)) (λ a. inr (toOne a)) at)
@@ -148,7 +148,8 @@ module _ (c : Setting) where
             (frameIs (validIn (model.written (v .items) link) (v .same link .valid) at .1)) at
 
     -- An accepted call brings what a run by contents lets it bring.
-    allowed : (a : Call) (b : Option Record) (left : Left) → Spells (recordAt c l i) b → ((r : Record) → b ≡ some r → Own i r) → InWidth a → Fair c l i a left
+    allowed : (a : ByteCall) (b : Option Record) (left : Left) → Spells (recordAt c l i) b → ((r : Record) → b ≡ some r → Own i r) → InWidth a
+        → Fair c l i a left
         → isAccepted left ≡ true
         → (o : Out) → answer b (said (recordAt c l i) a) ≡ accepted o → Allowed (v .items) i b (said (recordAt c l i) a)
     unfolding answer
@@ -201,7 +202,7 @@ module _ (c : Setting) where
 
   -- The tables after one more call, from what it did at its vault.
   sameNext : {l : List Item} (v : Carried l) (x : Item) (a : by.Call)
-      → Same (x .at) (recordIn (x .left)) (model.leftBy (model.recordAt (v .items) (x .at)) (answer (model.recordAt (v .items) (x .at)) a))
+      → Same (x .at) (recordIn (x .left)) (model.recordAfter (model.recordAt (v .items) (x .at)) (answer (model.recordAt (v .items) (x .at)) a))
       (written l (x .at) ++ entriesIn (x .left)) (model.written (v .items) (x .at) ++ model.wroteBy (answer (model.recordAt (v .items) (x .at)) a))
       → (i : ℕ)
       → Same i (recordAt c (x ∷ l) i) (model.recordAt (record { at = x .at; call = a } ∷ v .items) i) (written (x ∷ l) i)
@@ -216,9 +217,9 @@ module _ (c : Setting) where
     items = record { at = x .at; call = by.short } ∷ v .items;
     run = model.andThen (v .run) keeps tt;
     same = sameNext v x by.short
-        (subst (λ (left : Left). Same i (recordIn left) (model.leftBy b (answer b by.short)) (written l i ++ entriesIn left)
+        (subst (λ (left : Left). Same i (recordIn left) (model.recordAfter b (answer b by.short)) (written l i ++ entriesIn left)
         (model.written (v .items) i ++ model.wroteBy (answer b by.short))) (sym is)
-        (subst (λ (u : Answer). Same i (recordAt c l i) (model.leftBy b u) (written l i ++ []) (model.written (v .items) i ++ model.wroteBy u))
+        (subst (λ (u : Answer). Same i (recordAt c l i) (model.recordAfter b u) (written l i ++ []) (model.written (v .items) i ++ model.wroteBy u))
         (sym (shortRefused b)) unchanged));
     starts = λ p s. ⊎-elim (λ (t, o, call, e). never (sym (shortRefused b) ∙ e)) (λ old. earlier (v .starts p old)) (startedCases s);
   }
@@ -240,14 +241,14 @@ module _ (c : Setting) where
   -- An accepted call is carried to the call that its bytes say.
   carryAccepted : {l : List Item} (v : Carried l) (x : Item) (o : Out) → c .keeps (x .at) ≡ true → InWidth (x .call) → Fair c l (x .at) (x .call) (x .left)
       → answer (model.recordAt (v .items) (x .at)) (said (recordAt c l (x .at)) (x .call)) ≡ accepted o
-      → x .left ≡ after (recordAt c l (x .at)) (x .out) (accepted o) → Carried (x ∷ l)
+      → x .left ≡ leftAfter (recordAt c l (x .at)) (x .out) (accepted o) → Carried (x ∷ l)
   carryAccepted {l} v x o keeps low fair answered is = record {
     items = record { at = i; call = a } ∷ v .items;
     run = model.andThen (v .run) keeps (ok .fair);
     same = sameNext v x a
-        (subst (λ (left : Left). Same i (recordIn left) (model.leftBy b (answer b a)) (written l i ++ entriesIn left)
+        (subst (λ (left : Left). Same i (recordIn left) (model.recordAfter b (answer b a)) (written l i ++ entriesIn left)
         (model.written (v .items) i ++ model.wroteBy (answer b a))) (sym is)
-        (subst (λ (u : Answer). Same i (recordIn left) (model.leftBy b u) (written l i ++ entriesIn left) (model.written (v .items) i ++ model.wroteBy u))
+        (subst (λ (u : Answer). Same i (recordIn left) (model.recordAfter b u) (written l i ++ entriesIn left) (model.written (v .items) i ++ model.wroteBy u))
         (sym answered) changed));
     starts = λ p s. ⊎-elim (λ (t, o, call, e). begun p t (x .call) refl call) (λ old. earlier (v .starts p old)) (startedCases s);
   }
@@ -262,7 +263,7 @@ module _ (c : Setting) where
       a = said (recordAt c l i) (x .call)
 
       left : Left
-      left = after (recordAt c l i) (x .out) (accepted o)
+      left = leftAfter (recordAt c l i) (x .out) (accepted o)
 
       went : isAccepted (x .left) ≡ true
       went = ap isAccepted is
@@ -290,12 +291,12 @@ module _ (c : Setting) where
         valid = allJoin (model.written (v .items) i) (o .wrote) (v .same i .valid) (well .valid);
       }
 
-      begun : (p : ℕ) (s : Settings) (k : Call) → x .call ≡ k → said (recordAt c l i) k ≡ by.start s p → Started p (x ∷ l)
+      begun : (p : ℕ) (s : Settings) (k : ByteCall) → x .call ≡ k → said (recordAt c l i) k ≡ by.start s p → Started p (x ∷ l)
       begun p s (start set plan) call e = let its : plan ≡ p = cc in here {x = x} (call ∙ ap (start set) its) went
       begun p s (frame link bytes) call e = let z : _≡_ {A = ℕ} 0 1 = cc in absurd (omega arith)
       begun p s (timer view) call e = let z : _≡_ {A = ℕ} 0 1 = cc in absurd (omega arith)
 
-  module _ {keepsRules : Rules} (law : (rec : List ℕ) (a : Call) (out : List ℕ) (left : Left) → keepsRules rec a out left → left ≡ leaves rec a out) where
+  module _ {keepsRules : Rules} (law : (rec : List ℕ) (a : ByteCall) (out : List ℕ) (left : Left) → keepsRules rec a out left → left ≡ leaves rec a out) where
     -- So each run is carried to a run by contents.
     carry : {l : List Item} → Run c keepsRules l → Carried l
     carry nothingYet = carryNone
@@ -321,7 +322,7 @@ module _ (c : Setting) where
 
 -- In every run any two decisions are for the same plan; and if all vaults keep the rules, for the plan of an accepted start.
 -- So it is of all calls that leave no more than the paper lets them.
-pub demand3By : {keepsRules : Rules} → ((rec : List ℕ) (a : Call) (out : List ℕ) (left : Left) → keepsRules rec a out left → left ≡ leaves rec a out)
+pub demand3By : {keepsRules : Rules} → ((rec : List ℕ) (a : ByteCall) (out : List ℕ) (left : Left) → keepsRules rec a out left → left ≡ leaves rec a out)
     → Demand3 keepsRules
 demand3By law c l run = record {
   agreement = λ i j p q a b. claim .agreement i j p q (decided i p a) (decided j q b);
@@ -331,10 +332,10 @@ demand3By law c l run = record {
     v : Carried c l
     v = carry c law run
 
-    claim : whole.Claim (plain c) (v .items)
+    claim : whole.ContentsClaim (plain c) (v .items)
     claim = protocol.demand3ByContents (plain c) (v .items) (v .run)
 
-    decided : (i p : ℕ) → Decides l i p → model.Decides (v .items) i p
+    decided : (i p : ℕ) → Decides l i p → model.ContentsDecides (v .items) i p
     decided i p (w, at) = (w, subst (λ (es : List Entry). Decision w p ∈ es) (v .same i .agree) at)
 
 -- Demand 3 of the calls that the paper fixes.

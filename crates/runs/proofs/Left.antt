@@ -21,7 +21,7 @@ use Rattle.entry.specs.Layout.{layout}
 use Rattle.entry.specs.Valid.{AllValid}
 use Rattle.entry.specs.Reading.{entriesOf}
 use Rattle.settings.specs.declared.Settings.{Settings}
-use Rattle.layout.specs.Layout.{decodeRecord}
+use Rattle.record.specs.Layout.{decodeRecord}
 use Rattle.sound.specs.declared.Lent.{Lent}
 use Rattle.sound.specs.declared.Lent.the-variants.{Blank, Unsound, Sound}
 use Rattle.sound.specs.inside.Sound.{lentIs}
@@ -33,11 +33,11 @@ use Rattle.protocol.specs.Fed.{Fed}
 use Rattle.protocol.specs.ReadsBack.{ReadBy}
 use Rattle.protocol.proofs.ReadsBack as protocol
 use Rattle.contents.specs.Contents.{contents}
-use Rattle.contents.specs.Calls.{after, onLent, called, startLeft, frameLeft, timerLeft}
+use Rattle.contents.specs.Calls.{leftAfter, onLent, called, startLeft, frameLeft, timerLeft}
 use Rattle.contents.specs.Left.{gave}
 use Rattle.contents.specs.Spelling.{Spells}
 use Rattle.contents.proofs.Spelling.{Fine, spelledFine}
-use Rattle.runs.specs.Runs.{Call, start, frame, timer, InWidth, recordIn, entriesIn}
+use Rattle.runs.specs.Runs.{ByteCall, start, frame, timer, InWidth, recordIn, entriesIn}
 use Rattle.runs.specs.Fixed.{leaves}
 use Rattle.runs.specs.Left.{Kept, LeavesWell, AlwaysLeavesWell, ReadsBack, AlwaysReadsBack}
 use Rattle.runs.proofs.Carry.{said, carried, fedSaid, LeftWell, leftWell}
@@ -70,21 +70,21 @@ keptBy out es rec′ room few valid read sound = record {
 -- ---- what a call comes to
 
 -- An accepted call on bytes: the accepted call that they say, on contents that a vault may have.
-record Accepts (rec out : List ℕ) (a : Call) : Type 0 where
+record Accepts (rec out : List ℕ) (a : ByteCall) : Type 0 where
   before : Option Record
   fine : (r : Record) → before ≡ some r → Fine r
   fed : Fed before (said rec a)
   o : Out
   room : 256 ≤ length out
   answered : answer before (said rec a) ≡ accepted o
-  is : leaves rec a out ≡ after rec out (accepted o)
+  is : leaves rec a out ≡ leftAfter rec out (accepted o)
 
 -- The call is refused, with record and output unchanged, or accepted.
-abbrev Goes : List ℕ → List ℕ → Call → Type 0
+abbrev Goes : List ℕ → List ℕ → ByteCall → Type 0
 Goes rec out a = ((k : ℕ) × (leaves rec a out ≡ gave k rec out)) ⊎ Accepts rec out a
 
 -- On bytes that spell something.
-spelledGoes : (rec out : List ℕ) (a : Call) → Bytes rec → InWidth a → (b : Option Record) → Spells rec b → Goes rec out a
+spelledGoes : (rec out : List ℕ) (a : ByteCall) → Bytes rec → InWidth a → (b : Option Record) → Spells rec b → Goes rec out a
 spelledGoes rec out a bytes low b spells = ⊎-elim inl (λ (o, room, answered, is). inr (record {
   before = b;
   fine = spelledFine rec b bytes spells;
@@ -100,19 +100,20 @@ unsoundCalled : (k : ℕ) (rec out : List ℕ) (a : by.Call) → lentIs rec ≡ 
 unfolding called
 unsoundCalled k rec out a bad = go (ltb (length out) 256) (lentIs rec) bad
   where
-    go : (t : Bool) (u : Lent) → u ≡ Unsound → (j : ℕ) × (cond t (gave 1 rec out) (after rec out (onLent u k (contents (decodeRecord rec)) a)) ≡ gave j rec out)
+    go : (t : Bool) (u : Lent) → u ≡ Unsound
+        → (j : ℕ) × (cond t (gave 1 rec out) (leftAfter rec out (onLent u k (contents (decodeRecord rec)) a)) ≡ gave j rec out)
     go true u e = (1, refl)
-    go false u e = (k, ap (λ (u : Lent). after rec out (onLent u k (contents (decodeRecord rec)) a)) e)
+    go false u e = (k, ap (λ (u : Lent). leftAfter rec out (onLent u k (contents (decodeRecord rec)) a)) e)
 
 -- So each call on an unsound record is refused, whichever it is.
-unsoundGoes : (rec out : List ℕ) (a : Call) → lentIs rec ≡ Unsound → Goes rec out a
+unsoundGoes : (rec out : List ℕ) (a : ByteCall) → lentIs rec ≡ Unsound → Goes rec out a
 unfolding startLeft frameLeft timerLeft
 unsoundGoes rec out (start set plan) bad = inl (unsoundCalled 4 rec out (said rec (start set plan)) bad)
 unsoundGoes rec out (frame link bytes) bad = inl (unsoundCalled 3 rec out (said rec (frame link bytes)) bad)
 unsoundGoes rec out (timer view) bad = inl (unsoundCalled 3 rec out (said rec (timer view)) bad)
 
 -- Whatever record is lent.
-goes : (rec out : List ℕ) (a : Call) → Bytes rec → InWidth a → Goes rec out a
+goes : (rec out : List ℕ) (a : ByteCall) → Bytes rec → InWidth a → Goes rec out a
 goes rec out a bytes low = go (lentIs rec) refl
   where
     go : (u : Lent) → lentIs rec ≡ u → Goes rec out a
@@ -122,22 +123,22 @@ goes rec out a bytes low = go (lentIs rec) refl
 
 -- ---- what it leaves
 
-module _ {rec out : List ℕ} {a : Call} (w : Accepts rec out a) where
+module _ {rec out : List ℕ} {a : ByteCall} (w : Accepts rec out a) where
   -- What an accepted call leaves, by contents and by bytes.
   well : LeftWell rec out (w .o)
   well = leftWell rec out (w .before) (said rec a) (w .fine) (w .fed) (w .o) (w .answered)
 
   -- An accepted call leaves a sound record and an output of entries.
-  acceptedLeavesWell : LeavesWell rec out (after rec out (accepted (w .o)))
+  acceptedLeavesWell : LeavesWell rec out (leftAfter rec out (accepted (w .o)))
   acceptedLeavesWell =
-      keptBy out (w .o .wrote) (recordIn (after rec out (accepted (w .o)))) (w .room) (well .short) (well .valid) (well .entries) (well .held .sound)
+      keptBy out (w .o .wrote) (recordIn (leftAfter rec out (accepted (w .o)))) (w .room) (well .short) (well .valid) (well .entries) (well .held .sound)
 
   -- The settings that are read are those of the contents left, and the entries that are read are those written.
-  acceptedReadsBack : ReadsBack (after rec out (accepted (w .o)))
+  acceptedReadsBack : ReadsBack (leftAfter rec out (accepted (w .o)))
   unfolding contents
   acceptedReadsBack =
       let settings = ap (λ (r : Record). r .set) (well .held .holds) in
-      subst (λ (s : Settings). ReadBy s (entriesIn (after rec out (accepted (w .o))))) (sym settings)
+      subst (λ (s : Settings). ReadBy s (entriesIn (leftAfter rec out (accepted (w .o))))) (sym settings)
       (subst (ReadBy (w .o .left .set)) (sym (well .entries))
       (protocol.callReadsBack (w .before) (said rec a) (λ r e. (w .fine r e .sound, w .fine r e .ranged)) (w .fed) (w .o) (w .answered)))
 

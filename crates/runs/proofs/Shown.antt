@@ -8,8 +8,8 @@ use mathlib.Core.Bool.{true}
 use mathlib.Core.List.{List}
 use mathlib.Core.Option.{Option, none, some}
 use native.Mathlib.Omega.{arith}
-use Rattle.quorum.specs.Sets.{Set, equals, weigh, size, total}
-use Rattle.agreement.proofs.Reports.{none≢some}
+use Rattle.rules.specs.Sets.{Set, equals, weigh, size, total}
+use Rattle.rules.proofs.Reports.{none≢some}
 use Rattle.frame.specs.declared.Frame.{Frame}
 use Rattle.entry.specs.declared.Entry.{Entry}
 use Rattle.entry.specs.declared.Entry.the-variants.{Decision}

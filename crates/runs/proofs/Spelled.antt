@@ -10,8 +10,8 @@ use mathlib.Core.List.{List, [], _∷_, _++_}
 use mathlib.Core.Option.{Option, none, some}
 use native.Mathlib.Omega.{arith}
 use lib.ListN.{length, replicate, length-replicate}
-use Rattle.agreement.proofs.Reports.{none≢some}
-use Rattle.quorum.specs.Sets.{Vaults}
+use Rattle.rules.proofs.Reports.{none≢some}
+use Rattle.rules.specs.Sets.{Vaults}
 use Rattle.frame.specs.declared.Reading.the-variants.{Accepted, Refused}
 use Rattle.frame.specs.Format.{encode}
 use Rattle.frame.specs.Refusal.{readFrame}
@@ -27,11 +27,11 @@ use Rattle.protocol.proofs.Read.{readableAccepted}
 use Rattle.protocol.proofs.Good.{anySeed}
 use Rattle.protocol.proofs.Demand.{Inv, invariant, pastRefused}
 use Rattle.protocol.proofs.Lasting.{Brings, Wide, feeds}
-use Rattle.contents.specs.Calls.{after}
+use Rattle.contents.specs.Calls.{leftAfter}
 use Rattle.contents.specs.Left.{Left}
 use Rattle.contents.specs.Spelling.{Spells}
 use Rattle.contents.proofs.Spelling.{Fine, losesNothing}
-use Rattle.runs.specs.Runs.{Call, start, frame, timer, InWidth, Item, recordIn, entriesIn, Setting, recordAt, written, Fair, Run, nothingYet, andThen}
+use Rattle.runs.specs.Runs.{ByteCall, start, frame, timer, InWidth, Item, recordIn, entriesIn, Setting, recordAt, written, Fair, Run, nothingYet, andThen}
 use Rattle.runs.specs.Fixed.{leaves, Fixed}
 use Rattle.contents.proofs.Lent.{blankIsLent}
 use Rattle.runs.proofs.Carry.{said, leavesRoom, saidFrame, LeftWell, leftWell}
@@ -40,7 +40,7 @@ use Rattle.runs.proofs.Demand.{putFour, never}
 -- ---- calls
 
 -- The call on bytes; one that is refused by contents whatever the record stands for no call.
-abbrev spell : by.Call → Call
+abbrev spell : by.Call → ByteCall
 spell (by.start s p) = start s p
 spell (by.frame (Accepted x)) = frame (x .sender) (encode x)
 spell (by.frame (Refused k)) = timer 0
@@ -55,7 +55,7 @@ space = replicate 256 0
 room : 256 ≤ length space
 room = omega (arith, length-replicate {A = ℕ} 256 0)
 
-module _ (c : model.Setting) where
+module _ (c : model.ContentsSetting) where
   -- The same vaults, with blank bytes at first.
   abbrev pub spelled : Setting
   spelled = record {
@@ -73,7 +73,7 @@ module _ (c : model.Setting) where
     pub agree : es ≡ fs
 
   -- A run over bytes in which each vault writes the same, and its bytes spell its record.
-  pub record Spelled (l : List model.Item) : Type 0 where
+  pub record Spelled (l : List model.ContentsItem) : Type 0 where
     pub items : List Item
     pub run : Run spelled Fixed items
     pub same : (i : ℕ) → Same (recordAt spelled items i) (model.recordAt l i) (written items i) (model.written l i)
@@ -88,7 +88,8 @@ module _ (c : model.Setting) where
   }
 
   -- A refused call is left out: it changes nothing.
-  spelledRefused : (l : List model.Item) (x : model.Item) (k : ℕ) → answer (model.recordAt l (x .at)) (x .call) ≡ refused k → Spelled l → Spelled (x ∷ l)
+  spelledRefused : (l : List model.ContentsItem) (x : model.ContentsItem) (k : ℕ) → answer (model.recordAt l (x .at)) (x .call) ≡ refused k → Spelled l
+      → Spelled (x ∷ l)
   spelledRefused l x k is v =
       let (records, entries) = pastRefused l x k is in
       record {
@@ -102,7 +103,7 @@ module _ (c : model.Setting) where
 
   -- ---- an accepted call
 
-  module _ {l : List model.Item} (v : Spelled l) (inv : Inv c (λ p. Unit {0}) l) (i : ℕ) where
+  module _ {l : List model.ContentsItem} (v : Spelled l) (inv : Inv c (λ p. Unit {0}) l) (i : ℕ) where
     -- The bytes of vault i.
     abbrev rec : List ℕ
     rec = recordAt spelled (v .items) i
@@ -145,7 +146,8 @@ module _ (c : model.Setting) where
     spellFair by.short left fair o is = tt
 
   -- An accepted call is made on the bytes.
-  spelledAccepted : (l : List model.Item) (x : model.Item) (o : Out) → answer (model.recordAt l (x .at)) (x .call) ≡ accepted o → c .keeps (x .at) ≡ true
+  spelledAccepted : (l : List model.ContentsItem) (x : model.ContentsItem) (o : Out) → answer (model.recordAt l (x .at)) (x .call) ≡ accepted o
+      → c .keeps (x .at) ≡ true
       → Brings (x .call) → model.Fair c l (x .at) (x .call) → Inv c (λ p. Unit {0}) l → Spelled l → Spelled (x ∷ l)
   unfolding recordAt written model.recordAt model.written
   spelledAccepted l x o is keeps brings fair inv v = record {
@@ -166,30 +168,30 @@ module _ (c : model.Setting) where
       says : said bytes (spell (x .call)) ≡ x .call
       says = saysIt v inv i (x .call) (model.recordAt l i) refl (v .same i .spells) fair o is
 
-      comes : leaves bytes (spell (x .call)) space ≡ after bytes space (accepted o)
+      comes : leaves bytes (spell (x .call)) space ≡ leftAfter bytes space (accepted o)
       comes = leavesRoom bytes space (model.recordAt l i) (spell (x .call)) (v .same i .spells) room
-          ∙ ap (λ (a : by.Call). after bytes space (answer (model.recordAt l i) a)) says ∙ ap (after bytes space) is
+          ∙ ap (λ (a : by.Call). leftAfter bytes space (answer (model.recordAt l i) a)) says ∙ ap (leftAfter bytes space) is
 
       well : LeftWell bytes space o
       well = leftWell bytes space (model.recordAt l i) (x .call) (v .same i .fine) (feeds c inv i (x .call) brings fair) o is
 
-      left : Same (recordIn (after bytes space (accepted o))) (some (o .left))
-          (written (v .items) i ++ entriesIn (after bytes space (accepted o))) (model.written l i ++ o .wrote)
+      left : Same (recordIn (leftAfter bytes space (accepted o))) (some (o .left))
+          (written (v .items) i ++ entriesIn (leftAfter bytes space (accepted o))) (model.written l i ++ o .wrote)
       left = record {
         spells = well .held;
         fine = λ r e. let same : o .left ≡ r = cc in subst Fine same (well .fine);
         agree = λ z. v .same i .agree z ++ well .entries z;
       }
 
-      new : Same (recordIn (item .left)) (model.leftBy (model.recordAt l i) (answer (model.recordAt l i) (x .call)))
+      new : Same (recordIn (item .left)) (model.recordAfter (model.recordAt l i) (answer (model.recordAt l i) (x .call)))
           (written (v .items) i ++ entriesIn (item .left)) (model.written l i ++ model.wroteBy (answer (model.recordAt l i) (x .call)))
-      new = subst (λ (u : Left). Same (recordIn u) (model.leftBy (model.recordAt l i) (answer (model.recordAt l i) (x .call)))
+      new = subst (λ (u : Left). Same (recordIn u) (model.recordAfter (model.recordAt l i) (answer (model.recordAt l i) (x .call)))
           (written (v .items) i ++ entriesIn u) (model.written l i ++ model.wroteBy (answer (model.recordAt l i) (x .call)))) (sym comes)
-          (subst (λ (u : Answer). Same (recordIn (after bytes space (accepted o))) (model.leftBy (model.recordAt l i) u)
-          (written (v .items) i ++ entriesIn (after bytes space (accepted o))) (model.written l i ++ model.wroteBy u)) (sym is) left)
+          (subst (λ (u : Answer). Same (recordIn (leftAfter bytes space (accepted o))) (model.recordAfter (model.recordAt l i) u)
+          (written (v .items) i ++ entriesIn (leftAfter bytes space (accepted o))) (model.written l i ++ model.wroteBy u)) (sym is) left)
 
   -- So every run by contents whose starts bring 64-bit plans is a run over bytes.
-  pub runSpelled : {l : List model.Item} → model.Run c l → Wide l → Spelled l
+  pub runSpelled : {l : List model.ContentsItem} → model.ContentsRun c l → Wide l → Spelled l
   runSpelled model.nothingYet wide = spelledNone
   runSpelled (model.andThen {l = l} {x = x} run keeps fair) (brings, wide) = go (runSpelled run wide) (answer (model.recordAt l (x .at)) (x .call)) refl
     where

@@ -8,12 +8,12 @@ use Rattle.wire.specs.Fields.{Bytes}
 use Rattle.entry.specs.Layout.{layout}
 use Rattle.entry.specs.Valid.{AllValid}
 use Rattle.entry.specs.Reading.{entriesOf}
-use Rattle.layout.specs.Layout.{decodeRecord}
+use Rattle.record.specs.Layout.{decodeRecord}
 use Rattle.sound.specs.declared.Lent.the-variants.{Sound}
 use Rattle.sound.specs.inside.Sound.{lentIs}
 use Rattle.protocol.specs.ReadsBack.{ReadBy}
 use Rattle.contents.specs.Left.{Left, wrote, gave}
-use Rattle.runs.specs.Runs.{Call, InWidth}
+use Rattle.runs.specs.Runs.{ByteCall, InWidth}
 use Rattle.runs.specs.Fixed.{leaves}
 
 -- After an accepted call: a sound record, that refusal 3 never meets; written bytes that are entries end to end and nothing besides; and the rest of the
@@ -33,7 +33,7 @@ LeavesWell rec out (gave number rec′ out′) = (rec′ ≡ rec) × (out′ ≡
 
 -- Proved as `callLeavesWell` in proofs/Left.
 abbrev pub AlwaysLeavesWell : Type 0
-AlwaysLeavesWell = (rec out : List ℕ) (a : Call) → Bytes rec → InWidth a → LeavesWell rec out (leaves rec a out)
+AlwaysLeavesWell = (rec out : List ℕ) (a : ByteCall) → Bytes rec → InWidth a → LeavesWell rec out (leaves rec a out)
 
 -- 'wrote in an entry for all or for this vault': each other vault that a written frame is for reads it as that frame. n and the own number, which is
 -- the link, are those of the record left.
@@ -43,4 +43,4 @@ ReadsBack (gave number rec′ out′) = Unit {0}
 
 -- Proved as `callReadsBack` in proofs/Left.
 abbrev pub AlwaysReadsBack : Type 0
-AlwaysReadsBack = (rec out : List ℕ) (a : Call) → Bytes rec → InWidth a → ReadsBack (leaves rec a out)
+AlwaysReadsBack = (rec out : List ℕ) (a : ByteCall) → Bytes rec → InWidth a → ReadsBack (leaves rec a out)

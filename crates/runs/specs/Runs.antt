@@ -7,7 +7,7 @@ use mathlib.Core.Logic.{_⊎_}
 use mathlib.Core.Bool.{Bool, true, false}
 use mathlib.Core.List.{List, [], _∷_, _++_}
 use lib.ListN.{length, getD, take}
-use Rattle.quorum.specs.Sets.{Vaults, Set, size, total}
+use Rattle.rules.specs.Sets.{Vaults, Set, size, total}
 use Rattle.wire.specs.Fields.{Bytes}
 use Rattle.frame.specs.declared.Frame.{Frame}
 use Rattle.frame.specs.Format.{encode}
@@ -16,31 +16,31 @@ use Rattle.entry.specs.declared.Entry.the-variants.{ForAll, ForOne, Decision}
 use Rattle.entry.specs.Reading.{entriesOf}
 use Rattle.settings.specs.declared.Settings.{Settings}
 use Rattle.settings.specs.Vaults.{vaultsOf}
-use Rattle.layout.specs.Size.{recordSize}
+use Rattle.record.specs.Size.{recordSize}
 use Rattle.protocol.specs.Tables.{put, _∈_}
 use Rattle.contents.specs.Left.{Left, wrote, gave}
 
 -- A start brings settings and a plan; a frame call a link's sender and bytes; a timer a view.
-pub data Call : Type 0 where
-  start : Settings → ℕ → Call
-  frame : ℕ → List ℕ → Call
-  timer : ℕ → Call
+pub data ByteCall : Type 0 where
+  start : Settings → ℕ → ByteCall
+  frame : ℕ → List ℕ → ByteCall
+  timer : ℕ → ByteCall
 
 -- 'A plan is any 64-bit number', and bytes are below 256. What else a call brings may be any number at all.
-abbrev pub InWidth : Call → Type 0
+abbrev pub InWidth : ByteCall → Type 0
 InWidth (start set plan) = plan < 2 ^ 64
 InWidth (frame link bytes) = Bytes bytes
 InWidth (timer view) = Unit {0}
 
 -- Which calls keep the rules: record before, call, output space before, and what is left. By the paper it is just this one.
 abbrev pub Rules : Type 1
-Rules = List ℕ → Call → List ℕ → Left → Type 0
+Rules = List ℕ → ByteCall → List ℕ → Left → Type 0
 
 -- 'Each item is one start, frame or timer call at one of them, accepted or refused, with output space of any size and contents',
 -- and what it leaves.
 pub record Item : Type 0 where
   pub at : ℕ
-  pub call : Call
+  pub call : ByteCall
   pub out : List ℕ
   pub left : Left
 
@@ -89,7 +89,7 @@ module _ (c : Setting) where
   -- 'Start: any settings, but an accepted one brings this n, this f and the vault's own number. Class and plan are free.'
   -- 'Timer: any view, at any place in the list.' 'Frame: a link's sender and bytes. Where the sender keeps the rules, the bytes are a
   -- frame that .. Where the sender is any other number, the bytes are anything.'
-  abbrev pub Fair : List Item → ℕ → Call → Left → Type 0
+  abbrev pub Fair : List Item → ℕ → ByteCall → Left → Type 0
   Fair l i (start set plan) left = isAccepted left ≡ true → (vaultsOf set ≡ c .vaults) × (set .id ≡ i)
   Fair l i (frame link bytes) left = c .keeps link ≡ true → Sent l i link bytes
   Fair l i (timer view) left = Unit {0}

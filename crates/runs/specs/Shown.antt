@@ -6,7 +6,7 @@ use mathlib.Core.Bool.{true, not}
 use mathlib.Core.List.{List}
 use mathlib.Core.Option.{some}
 use lib.Dec.{eqb}
-use Rattle.quorum.specs.Sets.{Set, equals}
+use Rattle.rules.specs.Sets.{Set, equals}
 use Rattle.frame.specs.declared.Body.the-variants.{Plan}
 use Rattle.frame.specs.declared.Frame.{Frame}
 use Rattle.entry.specs.declared.Entry.the-variants.{Decision}

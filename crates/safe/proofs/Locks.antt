@@ -13,10 +13,10 @@ use native.Mathlib.Decide.{ℕ-discrete}
 use lib.Dec.{leb, ltb, eqb}
 use lib.ListN.{getD}
 use borrow.Author.Tests.{le-leb, lt-leb, leb-true, eqb-true, eqb-false, eq-eqb, ne-eqb, not-true}
-use Rattle.quorum.specs.Sets.{Vaults, equals}
-use Rattle.quorum.specs.Quorums.{isQuorum}
-use Rattle.quorum.proofs.Bools.{clash, notTrue, bothSplit, either}
-use Rattle.quorum.proofs.Laws.{blockingRest, quorumByWeight}
+use Rattle.rules.specs.Sets.{Vaults, equals}
+use Rattle.rules.specs.Quorums.{isQuorum}
+use Rattle.rules.proofs.Bools.{clash, notTrue, bothSplit, either}
+use Rattle.rules.proofs.Quorums.{blockingRest, quorumByWeight}
 use Rattle.rules.specs.Options.{isNone, holds}
 use Rattle.rules.specs.Rules.{Vote, Report, Reports, viewOf, lockAllows, allows, unlocked, reporting}
 use Rattle.rules.specs.inside.Counts.{free, allowed, planOr, planBy}

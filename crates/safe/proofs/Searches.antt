@@ -1,5 +1,5 @@
 -- What the search finds by its rows is what the rules say (document 01, 'When a plan is safe'; step C).
--- One plan: the views that serve it are u, where the locks there allow it, or the next. The twoSet clause: one plan that is claimed at
+-- One plan: the views that serve it are u, where the locks there allow it, or the next. The two-set clause: one plan that is claimed at
 -- the next view will do, and a plan in no row is claimed only where every plan is. Step C: a safe plan is a lock's that view u serves or a
 -- vote's that the next view serves, so each stands in its row; and trying a plan twice changes nothing.
 -- Assumes nothing.
@@ -15,11 +15,11 @@ use native.Mathlib.Decide.{ℕ-discrete, decLt}
 use lib.Dec.{leb, ltb, eqb}
 use lib.ListN.{length, getD}
 use borrow.Author.Tests.{leb-true, leb-false, lt-ltb, le-ltb, ltb-true, ltb-false, eqb-true, eqb-false, eq-eqb, ne-eqb, not-true, not-false}
-use Rattle.quorum.specs.inside.Bools.{any}
-use Rattle.quorum.specs.Sets.{Vaults, equals}
-use Rattle.quorum.specs.Quorums.{isBlocking}
-use Rattle.quorum.proofs.Bools.{which, clash, notTrue, bothSplit, bothJoin, orLeft, orRight}
-use Rattle.quorum.proofs.Laws.{quorumCount}
+use Rattle.rules.specs.inside.Bools.{anyBelow}
+use Rattle.rules.specs.Sets.{Vaults, equals}
+use Rattle.rules.specs.Quorums.{isBlocking}
+use Rattle.rules.proofs.Bools.{which, clash, notTrue, bothSplit, bothJoin, orLeft, orRight}
+use Rattle.rules.proofs.Quorums.{quorumCount}
 use Rattle.rules.specs.Options.{isNone}
 use Rattle.rules.specs.Rules.{Reports, Rule, rule1, rule3, claims, allows, reporting, Safe, atStart, noLock, since, IsSmallest, other}
 use Rattle.rules.specs.inside.Counts.{claimed, free, allowed, twoSets, backed, safe, smaller, choice}
@@ -28,7 +28,7 @@ use Rattle.rules.proofs.Laws.{claimedFalls, safeIff, choiceIs, chosenOne}
 use Rattle.rules.proofs.Views.{twoLate, twoNone, twoLone, twoBoth, firstServes, nextServes, neverSafe}
 use Rattle.claims.specs.declared.Search.{Search}
 use Rattle.claims.specs.declared.Tally.{Tally}
-use Rattle.claims.specs.inside.Rows.{rowsSize, forPlan, Fits, Tells, SameBelow, tallyAt, placeAt, claimedIn, endOf, servingView}
+use Rattle.claims.specs.inside.Rows.{rowsSize, forPlan, FitsRow, RowTells, SameBelow, tallyAt, placeAt, claimedIn, endOf, servingView}
 use Rattle.claims.specs.Table.{column}
 use Rattle.claims.proofs.Rows.{countWhere, rowKept, servingNone, servingNext}
 use Rattle.safe.specs.Choices.{ruleOf}
@@ -194,9 +194,9 @@ module _ (next here : ℕ → Bool) (m : Option ℕ) (found : Found next m) wher
 
 -- The three rows are written one behind the other, and each leaves those before it.
 pub prepares : (rs : Reports) (c : Search) (first second third : List ℕ) → c .n ≤ column → c .f < c .n → c .u < c .v → length third ≡ rowsSize
-    → Tells rs (c .n) (λ p. claims p (c .u)) first 0 (c .here)
-    → SameBelow first second column → Tells rs (c .n) (λ p. claims p (c .u + 1)) second column (c .next)
-    → SameBelow second third lockRow → Tells rs (c .n) (λ p. allows p (c .u)) third lockRow (c .locks) → Prepared rs c third
+    → RowTells rs (c .n) (λ p. claims p (c .u)) first 0 (c .here)
+    → SameBelow first second column → RowTells rs (c .n) (λ p. claims p (c .u + 1)) second column (c .next)
+    → SameBelow second third lockRow → RowTells rs (c .n) (λ p. allows p (c .u)) third lockRow (c .locks) → Prepared rs c third
 prepares rs c first second third most few below size here same next again locks = record {
   laid = record { size = size; below = below; few = few; here = fits (here .most); next = fits (next .most); locks = fits (locks .most) };
   here = rowKept rs (c .n) (λ p. claims p (c .u)) second third 0 lockRow (c .here) again (omega (arith, here .most))
@@ -205,7 +205,7 @@ prepares rs c first second third most few below size here same next again locks 
   locks = locks;
 }
   where
-    fits : {t : Tally} → t .every + t .some ≤ c .n → Fits t
+    fits : {t : Tally} → t .every + t .some ≤ c .n → FitsRow t
     fits low = (omega arith, omega arith)
 
 module _ (rs : Reports) (c : Search) (plans : List ℕ) (ready : Prepared rs c plans) where
@@ -259,13 +259,13 @@ module _ (rs : Reports) (c : Search) (plans : List ℕ) (ready : Prepared rs c p
             rw (allowedSame p ∙ off) (servedNext plans c p (l .below) ∙ ap (λ (b : Bool). ltb (c .u + 1) (c .v) && b) (claimedNext p)
             ∙ sym (nextServes vs rs (c .v) rule1 p (c .u) l off))
 
-    -- By Rule 3 the twoSet clause backs a plan where the claims do not.
+    -- By Rule 3 the two-set clause backs a plan where the claims do not.
     module _ (p : ℕ) (never : safeIn plans c p ≡ false) where
       -- The plan is not safe by Rule 1, so neither view's claims back it.
       unsafe : safe rule1 vs rs (c .v) p ≡ false
       unsafe = sym (safeSame p) ∙ never
 
-      -- Where the locks at u allow the plan, the twoSet clause at u decides.
+      -- Where the locks at u allow the plan, the two-set clause at u decides.
       pub threeFirst : (b : Bool) → allowedIn plans c p ≡ true → b ≡ twoSets vs rs (c .v) (c .u) → b ≡ safe rule3 vs rs (c .v) p
       unfolding backed
       threeFirst b allow is =
@@ -273,7 +273,7 @@ module _ (rs : Reports) (c : Search) (plans : List ℕ) (ready : Prepared rs c p
           is ∙ sym (ap (λ (t : Bool). t || twoSets vs rs (c .v) (c .u)) (sym (firstServes vs rs (c .v) rule1 p (c .u) l at) ∙ unsafe))
           ∙ sym (firstServes vs rs (c .v) rule3 p (c .u) l at)
 
-      -- Where they do not, the twoSet clause at the next view decides.
+      -- Where they do not, the two-set clause at the next view decides.
       pub threeNext : (b : Bool) → allowedIn plans c p ≡ false → c .u + 1 < c .v → b ≡ twoSets vs rs (c .v) (c .u + 1) → b ≡ safe rule3 vs rs (c .v) p
       unfolding backed
       threeNext b block low is =
@@ -537,7 +537,7 @@ module _ (vs : Vaults) (rs : Reports) (v : ℕ) where
   unfolding everySafe safe
   safeEvery rule p h = go (eqb v 0) (free vs rs) h
     where
-      go : (a b : Bool) → (a || b) ≡ true → true ≡ (a || (b || any (λ u. allowed vs rs p u && backed rule vs rs v p u) v))
+      go : (a b : Bool) → (a || b) ≡ true → true ≡ (a || (b || anyBelow (λ u. allowed vs rs p u && backed rule vs rs v p u) v))
       go true b h = refl
       go false true h = refl
       go false false h = absurd (false≢true h)

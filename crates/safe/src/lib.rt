@@ -8,13 +8,13 @@ ghost use mathlib.Core.Path.{_≡_};
 ghost use mathlib.Core.Bool.{cond, not, true, false, _&&_};
 ghost use mathlib.Core.Option.{none};
 ghost use lib.ListN.{length, getD};
-ghost use Rattle.quorum.specs.Sets.{equals};
+ghost use Rattle.rules.specs.Sets.{equals};
 ghost use Rattle.settings.specs.Vaults.{vaultsOf};
 ghost use Rattle.rules.specs.Options.{isNone};
 ghost use Rattle.rules.specs.Rules.{reporting, unlocked, allows, rule1, rule3};
 ghost use Rattle.rules.specs.inside.Counts.{free, twoSets, safe, smaller, choice};
 ghost use Rattle.rules.specs.inside.Views.{lockSpan, lowestView, Lowest};
-ghost use Rattle.claims.specs.inside.Rows.{rowsSize, Stance, Tells, SameBelow, claimedIn, endOf};
+ghost use Rattle.claims.specs.inside.Rows.{rowsSize, Stance, RowTells, SameBelow, claimedIn, endOf};
 ghost use Rattle.claims.specs.inside.Spans.{AreSpans};
 ghost use Rattle.claims.specs.Table.{column, tableSize, reportsInTable};
 ghost use Rattle.safe.specs.Choices.{ruleOf, chosen};
@@ -127,7 +127,7 @@ fn allow_share<'a>(table: &'a [u64], r: usize, u: u64) -> Tally
 // Whose lock allows which plan at view u: the row of locks is written.
 fn locks_at<'a>(table: &'a [u64], n: usize, u: u32, plans: &mut [u64]) -> Tally
     requires { ⌜ (length (now table) ≡ tableSize) × (n ≤ column) × (length (now plans) ≡ rowsSize) ⌝ }
-    ensures { λ t. ⌜ (length (now (plans .exit)) ≡ rowsSize) × SameBelow (now (plans .entry)) (now (plans .exit)) lockRow × Tells (reportsInTable (now (table .entry))) n (λ p. allows p u) (now (plans .exit)) lockRow t ⌝ }
+    ensures { λ t. ⌜ (length (now (plans .exit)) ≡ rowsSize) × SameBelow (now (plans .entry)) (now (plans .exit)) lockRow × RowTells (reportsInTable (now (table .entry))) n (λ p. allows p u) (now (plans .exit)) lockRow t ⌝ }
 {
     let view = u as u64;
     let mut tally = Tally { every: 0, some: 0 };
@@ -199,7 +199,7 @@ fn safe_one<'a>(plans: &'a [u64], c: Search, p: u64) -> bool
     served(plans, c, c.u + 1, p)
 }
 
-// ---- the twoSet clause
+// ---- the two-set clause
 
 // A plan, or none.
 pub enum Choice {
@@ -271,7 +271,7 @@ fn find_claimed<'a>(plans: &'a [u64], c: Search, w: u32, except: Choice) -> Choi
     Choice::Nothing
 }
 
-// The twoSet clause at view u: a plan that is claimed at the next view, and another plan that is claimed at u.
+// The two-set clause at view u: a plan that is claimed at the next view, and another plan that is claimed at u.
 fn two_sets<'a>(plans: &'a [u64], c: Search) -> bool
     requires { ⌜ Laid c (now plans) × Falling (now plans) c × (c .u + 1 < c .v) ⌝ }
     ensures { λ b. ⌜ Pair (λ x. claimedIn (now (plans .entry)) c x (c .u + 1)) (λ x. claimedIn (now (plans .entry)) c x (c .u)) b ⌝ }
@@ -298,7 +298,7 @@ fn two_sets_after<'a>(table: &'a [u64], c: Search) -> bool
 
 // ---- Rules 1 and 3
 
-// Whether p is safe by Rule 3, which also accepts the twoSet clause at the view that Rule 1 goes by.
+// Whether p is safe by Rule 3, which also accepts the two-set clause at the view that Rule 1 goes by.
 fn safe_three<'a>(table: &'a [u64], plans: &'a [u64], c: Search, p: u64) -> bool
     requires { ⌜ (length (now table) ≡ tableSize) × (c .n ≤ column) × Prepared (reportsInTable (now table)) c (now plans) × Lowest (equals (c .n) (c .f)) (reportsInTable (now table)) (c .v) (c .u) ⌝ }
     ensures { λ b. ⌜ b ≡ safe rule3 (equals (c .n) (c .f)) (reportsInTable (now (table .entry))) (c .v) p ⌝ }

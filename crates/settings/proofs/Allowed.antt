@@ -1,4 +1,4 @@
--- Settings that are not refused are those of "Words and ranges" (01): a table that gives nothing has no row that is given, and each
+-- Settings that are not refused are those of 'Words and ranges' (01): a table that gives nothing has no row that is given, and each
 -- row's test is false just where its number is in range.
 -- Assumes nothing.
 use Prim.Native.Nat.{ℕ, _*_, _≤_}

@@ -1,4 +1,4 @@
--- No delay is above 5000 milliseconds ("20, 50, 100, 200, 500, 1000, 2000, 5000"), so that 9 of them fit 32 bits: one look at
+-- No delay is above 5000 milliseconds ('20, 50, 100, 200, 500, 1000, 2000, 5000'), so that 9 of them fit 32 bits: one look at
 -- each class, and at no class the delay is 0.
 -- Assumes nothing.
 use Prim.Native.Nat.{ℕ, zero, suc, _≤_}

@@ -8,7 +8,7 @@ use lib.Dec.{leb, ltb, eqb}
 use Rattle.frame.specs.Refusal.{Row, row}
 use Rattle.settings.specs.declared.Settings.{Settings}
 
--- "n below 4 or above 64"; "f is 0 or 3f ≥ n"; "id ≥ n"; "class above 7"
+-- 'n below 4 or above 64'; 'f is 0 or 3f ≥ n'; 'id ≥ n'; 'class above 7'
 abbrev pub settingRows : Settings → List Row
 settingRows s =
     row 5 (ltb (s .n) 4 || ltb 64 (s .n))
@@ -17,7 +17,7 @@ settingRows s =
     ∷ row 8 (ltb 7 (s .class))
     ∷ []
 
--- "The link class, 0 to 7, gives the delay Δ in milliseconds: 20, 50, 100, 200, 500, 1000, 2000, 5000."
+-- 'The link class, 0 to 7, gives the delay Δ in milliseconds: 20, 50, 100, 200, 500, 1000, 2000, 5000.'
 abbrev pub delays : List ℕ
 delays = 20 ∷ 50 ∷ 100 ∷ 200 ∷ 500 ∷ 1000 ∷ 2000 ∷ 5000 ∷ []
 

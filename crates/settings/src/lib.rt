@@ -1,11 +1,11 @@
-// A vault's settings: the refusals 5 to 8 of the place "start", and the delay that the link class gives.
+// A vault's settings: the refusals 5 to 8 of the place 'start', and the delay that the link class gives.
 use frame::numbers;
 ghost use mathlib.Core.Path.{_≡_};
 ghost use Prim.Native.Nat.{_*_};
 ghost use Rattle.frame.specs.Refusal.{first};
 ghost use Rattle.settings.specs.Settings.{settingRows, delayOf};
 
-// "n, f, id, class": how many vaults there are, how many of them may break the rules, the vault's own number, its link class.
+// 'n, f, id, class': how many vaults there are, how many of them may break the rules, the vault's own number, its link class.
 pub struct Settings {
     pub n: u8,
     pub f: u8,

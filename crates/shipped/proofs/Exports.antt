@@ -11,7 +11,7 @@ use borrow.Author.Tests.{lt-ltb, le-ltb}
 use Rattle.vault_c.specs.Numbers.{Seen, seen, numbered}
 use Rattle.vault_c.proofs.Small.{Small, smallStart, smallFrame, smallTimer}
 use Rattle.contents.specs.Left.{Left, wrote, gave}
-use Rattle.runs.specs.Runs.{Call, start, frame, timer}
+use Rattle.runs.specs.Runs.{ByteCall, start, frame, timer}
 use Rattle.runs.specs.Fixed.{leaves, Fixed}
 use Rattle.runs.specs.Claim.{Demand3}
 use Rattle.runs.proofs.Demand.{demand3By}
@@ -23,7 +23,7 @@ use Rattle.shipped.proofs.Demand.{lent}
 -- ---- a number tells what the call gave
 
 -- Every call leaves little: a refusal of the table, or a count of at most 205.
-smallLeft : (rec : List ℕ) (a : Call) (out : List ℕ) → Small (leaves rec a out)
+smallLeft : (rec : List ℕ) (a : ByteCall) (out : List ℕ) → Small (leaves rec a out)
 smallLeft rec (start set plan) out = smallStart rec set plan out
 smallLeft rec (frame link bytes) out = smallFrame rec link bytes out
 smallLeft rec (timer view) out = smallTimer rec view out
@@ -55,7 +55,7 @@ numbersTell rec a out = tellsLeft (leaves rec a out) (refusalNumbers rec a out)
 -- ---- the exports' runs are those that the paper fixes
 
 -- A run by the exports is a run by what the paper fixes.
-exportFixed : (rec : List ℕ) (a : Call) (out : List ℕ) (left : Left) → ExportContract rec a out left → Fixed rec a out left
+exportFixed : (rec : List ℕ) (a : ByteCall) (out : List ℕ) (left : Left) → ExportContract rec a out left → Fixed rec a out left
 exportFixed rec a out left (byStart κs r o n f id class plan number rec′ out′ learnt) = ap leftOf learnt ∙ numbersTell rec a out
 exportFixed rec a out left (byFrame κs r s o link number rec′ out′ learnt) = ap leftOf learnt ∙ numbersTell rec a out
 exportFixed rec a out left (byTimer κs r o view number rec′ out′ learnt) = ap leftOf learnt ∙ numbersTell rec a out
@@ -67,12 +67,12 @@ demand3OfExports = demand3By exportFixed
 -- ---- and back: what the paper fixes is what the contracts let be
 
 -- Each answer of a call is one of the exports' numbers.
-fixedExport : (rec : List ℕ) (a : Call) (out : List ℕ) (left : Left) → Fixed rec a out left → ExportContract rec a out left
+fixedExport : (rec : List ℕ) (a : ByteCall) (out : List ℕ) (left : Left) → Fixed rec a out left → ExportContract rec a out left
 unfolding lent
 fixedExport rec a out left e =
     subst (ExportContract rec a out) (ap (λ (l : Left). leftOf (numbered l)) e ∙ numbersTell rec a out ∙ sym e) (by a (numbered left) (ap numbered e))
   where
-    by : (b : Call) (s : Seen) → s ≡ numbered (leaves rec b out) → ExportContract rec b out (leftOf s)
+    by : (b : ByteCall) (s : Seen) → s ≡ numbered (leaves rec b out) → ExportContract rec b out (leftOf s)
     by (start set plan) (seen number rec′ out′) is =
         byStart ([], ([], tt)) (lent rec) (lent out) (set .n) (set .f) (set .id) (set .class) plan number rec′ out′ is
     by (frame link bytes) (seen number rec′ out′) is = byFrame ([], ([], ([], tt))) (lent rec) (lent bytes) (lent out) link number rec′ out′ is

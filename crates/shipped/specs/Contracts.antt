@@ -11,10 +11,10 @@ use Rattle.vault.proofs.start.Reads as ofStart
 use Rattle.vault.proofs.frame.Reads as ofFrame
 use Rattle.vault.proofs.timer.Reads as ofTimer
 use Rattle.contents.specs.Left.{Left}
-use Rattle.runs.specs.Runs.{Call, start, frame, timer}
+use Rattle.runs.specs.Runs.{ByteCall, start, frame, timer}
 
 -- Record r and output space o are lent, and have the bytes rec′ and out′ when the call is back.
-pub data Contract : List ℕ → Call → List ℕ → Left → Type 0 where
+pub data Contract : List ℕ → ByteCall → List ℕ → Left → Type 0 where
   byStart : (κs : Lfts 2) (r o : RefT (List ℕ)) (set : Settings) (plan : ℕ) (a : Answer) (rec′ out′ : List ℕ)
       → ofStart.Learnt κs (r, (set, (plan, (o, tt)))) a (at-last r rec′, (set, (plan, (at-last o out′, tt))))
       → Contract (now r) (start set plan) (now o) (leftBy a rec′ out′)

@@ -11,14 +11,14 @@ use Rattle.vault_c.proofs.vault_start.Reads as ofStart
 use Rattle.vault_c.proofs.vault_frame.Reads as ofFrame
 use Rattle.vault_c.proofs.vault_timer.Reads as ofTimer
 use Rattle.contents.specs.Left.{Left, wrote, gave}
-use Rattle.runs.specs.Runs.{Call, start, frame, timer}
+use Rattle.runs.specs.Runs.{ByteCall, start, frame, timer}
 
 -- What a host's number says. 'Each gives its number', which is below 256; 'Accepted calls return the byte count written', here above 256.
 unfoldable pub leftOf : Seen → Left
 leftOf (seen number rec out) = cond (ltb number 256) (gave number rec out) (wrote (number - 256) rec out)
 
 -- Record r and output space o are lent, and have the bytes rec′ and out′ when the call is back with its number.
-pub data ExportContract : List ℕ → Call → List ℕ → Left → Type 0 where
+pub data ExportContract : List ℕ → ByteCall → List ℕ → Left → Type 0 where
   byStart : (κs : Lfts 2) (r o : RefT (List ℕ)) (n f id class plan number : ℕ) (rec′ out′ : List ℕ)
       → ofStart.Learnt κs (r, (n, (f, (id, (class, (plan, (o, tt))))))) number (at-last r rec′, (n, (f, (id, (class, (plan, (at-last o out′, tt)))))))
       → ExportContract (now r) (start (record { n = n; f = f; id = id; class = class }) plan) (now o) (leftOf (seen number rec′ out′))

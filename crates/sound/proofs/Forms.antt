@@ -15,8 +15,8 @@ use Rattle.frame.specs.Refusal.{row, first, absent, badForm, tooHigh, badPrevio
 use Rattle.frame.proofs.Laws.{both, bounds, under, inside, firstSome, firstNone}
 use Rattle.settings.specs.declared.Settings.{Settings}
 use Rattle.record.specs.Slots.{frameSlot}
-use Rattle.keeping.specs.Kept.{reportsIn, frameIn}
-use Rattle.keeping.proofs.Forms.{bodyPlan, bodyBare, bodyReports}
+use Rattle.record.specs.Kept.{reportsIn, frameHeld}
+use Rattle.record.proofs.Forms.{bodyPlan, bodyBare, bodyReports}
 use Rattle.sound.specs.declared.Head.{Head}
 use Rattle.sound.specs.inside.Sound.{noPlan, ahead, frameSound, placeSound}
 use Rattle.sound.specs.inside.Bulk.{Marked, planFrame, bareFrame, toldFrame, reportFits}
@@ -213,7 +213,7 @@ module _ (slots : ℕ → Report) (set : Settings) (view : ℕ) (head : Head) (m
   -- a marked place of kinds 1 to 5 is sound where the proposal or vote with its plan is
   pub keptPlan : 1 ≤ head .kind → head .kind ≤ 5
       → placeSound slots set view (head .kind) (head .sender) ≡ frameSound set view (planFrame head (slots (frameSlot (head .kind) (head .sender)) .plan))
-  unfolding noPlan frameIn
+  unfolding noPlan frameHeld
   keptPlan low high =
       let d = sym (m .view) in
       let body = bodyPlan slots (head .kind) (head .sender) low high in
@@ -237,7 +237,7 @@ module _ (slots : ℕ → Report) (set : Settings) (view : ℕ) (head : Head) (m
   -- a marked place of kind 6 without a plan is sound where the view-change is
   pub keptBare : head .kind ≡ 6 → slots (frameSlot (head .kind) (head .sender)) .plan ≡ 0
       → placeSound slots set view (head .kind) (head .sender) ≡ frameSound set view (bareFrame head)
-  unfolding frameIn
+  unfolding frameHeld
   keptBare k p =
       let d = sym (m .view) in
       let body = bodyBare slots (head .kind) (head .sender) k in
@@ -248,7 +248,7 @@ module _ (slots : ℕ → Report) (set : Settings) (view : ℕ) (head : Head) (m
   pub keptTold : 7 ≤ head .kind → slots (frameSlot (head .kind) (head .sender)) .plan ≡ 0
       → placeSound slots set view (head .kind) (head .sender)
       ≡ frameSound set view (toldFrame head (reportsIn slots (head .kind) (head .sender)))
-  unfolding frameIn
+  unfolding frameHeld
   keptTold low p =
       let d = sym (m .view) in
       let body = bodyReports slots (head .kind) (head .sender) low in

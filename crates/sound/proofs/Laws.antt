@@ -1,4 +1,4 @@
--- Laws of the tests of soundness (01, "What a vault keeps"): what each conjunction gives at the first part that fails and at its
+-- Laws of the tests of soundness (01, 'What a vault keeps'): what each conjunction gives at the first part that fails and at its
 -- last part, and a loop that stops at the first fault. The code returns in just these cases.
 -- Assumes nothing.
 use Prim.Native.Nat.{ℕ, zero, suc, _+_, _<_, _≤_}
@@ -9,18 +9,17 @@ use mathlib.Core.List.{List, _++_}
 use native.Mathlib.Nat.{le-of-suc-le-suc, not-suc-le-zero, eq-or-lt-of-le}
 use native.Mathlib.Numerals.{add-one}
 use borrow.Author.Tests.{eq-eqb, ne-eqb, lt-ltb, le-ltb, not-true, not-false}
-use lib.Dec.{eqb}
 use lib.ListN.{length}
 use Rattle.frame.specs.declared.Report.{Report}
 use Rattle.frame.specs.declared.Frame.{Frame}
-use Rattle.frame.specs.Refusal.{first, absent, badForm, badPrevious, contentRows, leaderRows}
+use Rattle.frame.specs.Refusal.{first, absent, badForm}
 use Rattle.settings.specs.declared.Settings.{Settings}
 use Rattle.settings.specs.Settings.{settingRows}
 use Rattle.record.specs.Slots.{frameSlot, reportSlot, decisionSlot}
-use Rattle.layout.specs.Layout.{decodeRecord}
-use Rattle.layout.specs.Size.{recordSize}
-use Rattle.keeping.specs.Kept.{frameIn}
-use Rattle.sound.specs.inside.Sound.{all, reportsAbsent, emptyAt, noPlan, ahead, frameSound, placeSound, stands, previousSound, votesSound}
+use Rattle.record.specs.Layout.{decodeRecord}
+use Rattle.record.specs.Size.{recordSize}
+use Rattle.record.specs.Kept.{frameHeld}
+use Rattle.sound.specs.inside.Sound.{all, reportsAbsent, emptyAt, noPlan, frameSound, placeSound, previousSound, votesSound}
 use Rattle.sound.specs.inside.Sound.{rowsSound, soundIn, sound, lentIs}
 use Rattle.sound.specs.declared.Lent.the-variants.{Blank, Unsound, Sound}
 
@@ -45,11 +44,6 @@ notNot false = refl
 pub formedOther : (slot : Report) → (slot .mark ≡ 1 → ⊥) → not (badForm slot) ≡ absent slot
 unfolding badForm
 formedOther slot h = rw (ne-eqb (slot .mark) 1 h) (notNot (absent slot))
-
--- a test that holds may be left out
-andTrueRight : (b : Bool) → (b && true) ≡ b
-andTrueRight true = refl
-andTrueRight false = refl
 
 -- ---- conjunctions
 
@@ -106,7 +100,7 @@ module _ (slots : ℕ → Report) (set : Settings) (view kind sender : ℕ) wher
 
   -- a mark, and no such plan: the frame decides
   pub placeOfFrame : slots (frameSlot kind sender) .mark ≡ 1 → noPlan kind (slots (frameSlot kind sender) .plan) ≡ true
-      → placeSound slots set view kind sender ≡ frameSound set view (frameIn slots kind sender)
+      → placeSound slots set view kind sender ≡ frameSound set view (frameHeld slots kind sender)
   unfolding placeSound
   placeOfFrame h a = rw (eq-eqb (slots (frameSlot kind sender) .mark) 1 h, a)
 

@@ -11,11 +11,11 @@ use lib.ListN.{length, getD, take, drop, length-drop}
 use lib.Seq.{length-take-le}
 use Rattle.frame.specs.Refusal.{absent}
 use Rattle.record.specs.Slots.{rows, slotCount, frameSlot, reportSlot, slotOf}
-use Rattle.record.specs.inside.Slots.{Place}
-use Rattle.layout.specs.Layout.{slotSize, place, slotIn, decodeRecord}
-use Rattle.layout.specs.Size.{recordSize}
-use Rattle.layout.proofs.Bytes.{bytePart}
-use Rattle.layout.proofs.Laws.{placeShared, placeBlock, slotThere}
+use Rattle.record.specs.inside.Slots.{RowPlace}
+use Rattle.record.specs.Layout.{slotSize, place, slotIn, decodeRecord}
+use Rattle.record.specs.Size.{recordSize}
+use Rattle.record.proofs.Bytes.{bytePart}
+use Rattle.record.proofs.Laws.{placeShared, placeBlock, slotThere}
 use Rattle.sound.specs.inside.Sound.{all}
 use Rattle.sound.specs.inside.Bulk.{groupSize, zeroIn, zeroFrom, absentFrom, Run}
 use Rattle.sound.proofs.All.{allSame, allSplit, allPieces, numberZero}
@@ -47,14 +47,14 @@ placeReport kind which sender =
     sym (placeOn (reportSlot kind 0 0) (which * rows + sender) (λ (g : reportSlot kind 0 0 < rows). omega arith)) ∙ ap place e
 
 -- what stands at the place of a kept frame, and of its reports
-pub frameThere : (s : List ℕ) (kind sender : ℕ) {at : ℕ} → Place kind sender → at ≡ place (frameSlot kind sender)
+pub frameThere : (s : List ℕ) (kind sender : ℕ) {at : ℕ} → RowPlace kind sender → at ≡ place (frameSlot kind sender)
     → slotIn s at ≡ slotOf (decodeRecord s) (frameSlot kind sender)
 frameThere s kind sender h e =
     let row = h .row in
     ap (slotIn s) e ∙ sym (slotThere s (frameSlot kind sender) (omega arith))
 
 -- the same of report `which`, as `reports_absent` and `reports_fit` compute its place
-pub reportThere : (s : List ℕ) (kind which sender : ℕ) {at : ℕ} → Place kind sender → which < 3
+pub reportThere : (s : List ℕ) (kind which sender : ℕ) {at : ℕ} → RowPlace kind sender → which < 3
     → at ≡ place (reportSlot kind 0 sender) + which * groupSize → slotIn s at ≡ slotOf (decodeRecord s) (reportSlot kind which sender)
 reportThere s kind which sender h w e =
     let row = h .row in

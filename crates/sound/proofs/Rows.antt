@@ -11,7 +11,7 @@ use Rattle.frame.specs.Refusal.{absent}
 use Rattle.frame.proofs.Laws.{both}
 use Rattle.settings.specs.declared.Settings.{Settings}
 use Rattle.record.specs.Slots.{rows, frameSlot, reportSlot}
-use Rattle.keeping.specs.Kept.{frameIn}
+use Rattle.record.specs.Kept.{frameHeld}
 use Rattle.sound.specs.inside.Sound.{all, reportsAbsent, emptyAt, noPlan, placeSound, kindSound}
 use Rattle.sound.specs.inside.Bulk.{absentFrom, toldAbsent, emptyFrom}
 use Rattle.sound.proofs.Laws.{placeEmpty, placePlan, placeOfFrame, emptyFrame, frameRow}
@@ -21,11 +21,11 @@ use Rattle.sound.proofs.All.{allSame, allBoth, allSplit, allAt, andTrue
 
 module _ (slots : ℕ → Report) (set : Settings) (view kind sender : ℕ) where
   -- the frame of a place has the place's sender, so it too is at n or above
-  own : set .n ≤ sender → set .n ≤ frameIn slots kind sender .sender
-  unfolding frameIn
+  own : set .n ≤ sender → set .n ≤ frameHeld slots kind sender .sender
+  unfolding frameHeld
   own h = h
 
-  -- "every kept frame passes .. 11 ..": a row at n or above keeps nothing
+  -- 'every kept frame passes .. 11 ..': a row at n or above keeps nothing
   placeBeyond : set .n ≤ sender → placeSound slots set view kind sender ≡ emptyAt slots kind sender
   placeBeyond h = go (eqb (slots (frameSlot kind sender) .mark) 1) refl
     where
@@ -34,7 +34,7 @@ module _ (slots : ℕ → Report) (set : Settings) (view kind sender : ℕ) wher
 
       at : slots (frameSlot kind sender) .mark ≡ 1 → (b : Bool) → noPlan kind (slots (frameSlot kind sender) .plan) ≡ b
           → placeSound slots set view kind sender ≡ false
-      at m true e = placeOfFrame slots set view kind sender m e ∙ frameRow set view (frameIn slots kind sender) (own h)
+      at m true e = placeOfFrame slots set view kind sender m e ∙ frameRow set view (frameHeld slots kind sender) (own h)
       at m false e = placePlan slots set view kind sender m e
 
       go : (b : Bool) → eqb (slots (frameSlot kind sender) .mark) 1 ≡ b → placeSound slots set view kind sender ≡ emptyAt slots kind sender

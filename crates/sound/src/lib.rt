@@ -11,10 +11,10 @@ ghost use lib.Dec.{eqb, ltb};
 ghost use Rattle.frame.specs.Format.{within, threeReports};
 ghost use Rattle.frame.specs.Refusal.{first, absent, badForm, badPrevious, reportRows};
 ghost use Rattle.record.specs.Slots.{rows, slotCount, frameSlot, reportSlot, slotOf};
-ghost use Rattle.record.specs.inside.Slots.{Place};
-ghost use Rattle.layout.specs.Layout.{slotSize, place, slotIn, decodeRecord};
-ghost use Rattle.layout.specs.Size.{recordSize};
-ghost use Rattle.keeping.specs.Kept.{reportsIn};
+ghost use Rattle.record.specs.inside.Slots.{RowPlace};
+ghost use Rattle.record.specs.Layout.{slotSize, place, slotIn, decodeRecord};
+ghost use Rattle.record.specs.Size.{recordSize};
+ghost use Rattle.record.specs.Kept.{reportsIn};
 ghost use Rattle.sound.specs.inside.Sound.{all, reportsAbsent, emptyAt, frameSound, placeSound, kindSound, rowsSound, stands, previousSound, votesSound, soundIn, lentIs};
 ghost use Rattle.sound.specs.inside.Bulk.{groupSize, zeroIn, absentFrom, toldAbsent, emptyFrom, Run, Marked, PlanSound, toldFrame, reportFits};
 
@@ -33,7 +33,7 @@ pub struct Head {
 }
 
 // The bytes of one kind's slots, and of one group of its reports.
-const GROUP: usize = 832;
+const GROUP: usize = record::SLOT * record::ROWS;
 
 // ---- one slot
 
@@ -98,8 +98,8 @@ fn slots_absent(rec: &[u8], from: usize, count: usize) -> bool
     requires { ⌜ Run from count × (length (now rec) ≡ recordSize) ⌝ }
     ensures { λ b. ⌜ b ≡ all (absentFrom (slotOf (decodeRecord (now (rec .entry)))) from) count ⌝ }
 {
-    let at = layout::place_of(from);
-    let end = at + layout::SLOT * count;
+    let at = record::place_of(from);
+    let end = at + record::SLOT * count;
     zero(&rec[at..end])
 }
 
@@ -110,47 +110,47 @@ fn place_behind(slot: usize, count: u8) -> usize
     requires { ⌜ (slot < slotCount) × (count < rows) ⌝ }
     ensures { λ r. ⌜ r ≡ place slot + slotSize * count ⌝ }
 {
-    let first = layout::place_of(slot);
-    first + layout::SLOT * (count as usize)
+    let first = record::place_of(slot);
+    first + record::SLOT * (count as usize)
 }
 
 // Where the bytes of a kept frame's slot stand. A kind's slots lie end to end, so that only the first has to be looked up.
 fn frame_place(kind: u8, sender: u8) -> usize
-    requires { ⌜ Place kind sender ⌝ }
+    requires { ⌜ RowPlace kind sender ⌝ }
     ensures { λ r. ⌜ (r ≡ place (frameSlot kind sender)) × (r + slotSize ≤ recordSize) ⌝ }
 {
-    place_behind(layout::frame_slot(kind, 0), sender)
+    place_behind(record::frame_slot(kind, 0), sender)
 }
 
 // Where the bytes of a kept suggest's or proof's first report stand; the others' stand one and two groups on.
 fn report_place(kind: u8, sender: u8) -> usize
-    requires { ⌜ (7 ≤ kind) × Place kind sender ⌝ }
+    requires { ⌜ (7 ≤ kind) × RowPlace kind sender ⌝ }
     ensures { λ r. ⌜ (r ≡ place (reportSlot kind 0 sender)) × (r + (2 * groupSize + slotSize) ≤ recordSize) ⌝ }
 {
-    place_behind(layout::report_slot(kind, 0, 0), sender)
+    place_behind(record::report_slot(kind, 0, 0), sender)
 }
 
 fn reports_absent(rec: &[u8], kind: u8, sender: u8) -> bool
-    requires { ⌜ (7 ≤ kind) × Place kind sender × (length (now rec) ≡ recordSize) ⌝ }
+    requires { ⌜ (7 ≤ kind) × RowPlace kind sender × (length (now rec) ≡ recordSize) ⌝ }
     ensures { λ b. ⌜ b ≡ reportsAbsent (slotOf (decodeRecord (now (rec .entry)))) kind sender ⌝ }
 {
     let at = report_place(kind, sender);
-    if !empty(layout::slot_at(rec, at)) {
+    if !empty(record::slot_at(rec, at)) {
         return false;
     }
-    if !empty(layout::slot_at(rec, at + GROUP)) {
+    if !empty(record::slot_at(rec, at + GROUP)) {
         return false;
     }
-    empty(layout::slot_at(rec, at + 2 * GROUP))
+    empty(record::slot_at(rec, at + 2 * GROUP))
 }
 
 // Nothing is kept for a kind and a sender: neither a frame nor a report.
 fn empty_at(rec: &[u8], kind: u8, sender: u8) -> bool
-    requires { ⌜ Place kind sender × (length (now rec) ≡ recordSize) ⌝ }
+    requires { ⌜ RowPlace kind sender × (length (now rec) ≡ recordSize) ⌝ }
     ensures { λ b. ⌜ b ≡ emptyAt (slotOf (decodeRecord (now (rec .entry)))) kind sender ⌝ }
 {
     let at = frame_place(kind, sender);
-    if !empty(layout::slot_at(rec, at)) {
+    if !empty(record::slot_at(rec, at)) {
         return false;
     }
     if kind < numbers::SUGGEST {
@@ -165,14 +165,14 @@ fn report_fits(rec: &[u8], at: usize, view: u32) -> bool
     ensures { λ b. ⌜ b ≡ reportFits view (slotIn (now (rec .entry)) at) ⌝ }
 {
     if rec[at] != numbers::PRESENT {
-        return empty(layout::slot_at(rec, at));
+        return empty(record::slot_at(rec, at));
     }
-    layout::view_at(rec, at) < view
+    record::view_at(rec, at) < view
 }
 
 // The reports kept for a kind and a sender pass 14 for a view.
 fn reports_fit(rec: &[u8], kind: u8, sender: u8, view: u32) -> bool
-    requires { ⌜ (7 ≤ kind) × Place kind sender × (length (now rec) ≡ recordSize) ⌝ }
+    requires { ⌜ (7 ≤ kind) × RowPlace kind sender × (length (now rec) ≡ recordSize) ⌝ }
     ensures { λ b. ⌜ b ≡ eqb (first (reportRows view (threeReports (reportsIn (slotOf (decodeRecord (now (rec .entry)))) kind sender)))) 0 ⌝ }
 {
     let at = report_place(kind, sender);
@@ -185,7 +185,7 @@ fn reports_fit(rec: &[u8], kind: u8, sender: u8, view: u32) -> bool
     if !report_fits(rec, at + 2 * GROUP, view) {
         return false;
     }
-    follows(layout::slot_at(rec, at), layout::slot_at(rec, at + GROUP))
+    follows(record::slot_at(rec, at), record::slot_at(rec, at + GROUP))
 }
 
 // A frame in the own row above the current view.
@@ -214,7 +214,7 @@ fn plan_sound(set: Settings, view: u32, head: Head) -> bool
 
 // A kept suggest or proof, in a row below n.
 fn told_sound(rec: &[u8], set: Settings, view: u32, head: Head) -> bool
-    requires { ⌜ (7 ≤ head .kind) × Place (head .kind) (head .sender) × (head .sender < set .n) × (length (now rec) ≡ recordSize) ⌝ }
+    requires { ⌜ (7 ≤ head .kind) × RowPlace (head .kind) (head .sender) × (head .sender < set .n) × (length (now rec) ≡ recordSize) ⌝ }
     ensures { λ b. ⌜ b ≡ frameSound set view (toldFrame head (reportsIn (slotOf (decodeRecord (now (rec .entry)))) (head .kind) (head .sender))) ⌝ }
 {
     if above(set, view, head) {
@@ -247,14 +247,14 @@ fn is_free(id: u8, kind: u8, sender: u8) -> bool
 
 // What is kept for a kind and a sender below n is a sound frame. Its form is told apart here, so that no frame is made of a vote.
 fn marked_sound(rec: &[u8], set: Settings, view: u32, head: Head) -> bool
-    requires { ⌜ Place (head .kind) (head .sender) × (head .sender < set .n) × (length (now rec) ≡ recordSize) × Marked (slotOf (decodeRecord (now rec))) head ⌝ }
+    requires { ⌜ RowPlace (head .kind) (head .sender) × (head .sender < set .n) × (length (now rec) ≡ recordSize) × Marked (slotOf (decodeRecord (now rec))) head ⌝ }
     ensures { λ b. ⌜ b ≡ placeSound (slotOf (decodeRecord (now (rec .entry)))) set view (head .kind) (head .sender) ⌝ }
 {
     if head.kind <= numbers::VOTE_4 {
         return plan_sound(set, view, head);
     }
     let at = frame_place(head.kind, head.sender);
-    if layout::plan_at(rec, at) != 0 {
+    if record::plan_at(rec, at) != 0 {
         return false;
     }
     if head.kind == numbers::VIEW_CHANGE {
@@ -265,7 +265,7 @@ fn marked_sound(rec: &[u8], set: Settings, view: u32, head: Head) -> bool
 
 // What stands for a kind and a sender below n is a sound frame, or nothing at all.
 fn place_sound(rec: &[u8], set: Settings, view: u32, kind: u8, sender: u8) -> bool
-    requires { ⌜ Place kind sender × (sender < set .n) × (length (now rec) ≡ recordSize) ⌝ }
+    requires { ⌜ RowPlace kind sender × (sender < set .n) × (length (now rec) ≡ recordSize) ⌝ }
     ensures { λ b. ⌜ b ≡ placeSound (slotOf (decodeRecord (now (rec .entry)))) set view kind sender ⌝ }
 {
     let at = frame_place(kind, sender);
@@ -278,7 +278,7 @@ fn place_sound(rec: &[u8], set: Settings, view: u32, kind: u8, sender: u8) -> bo
     let head = Head {
         kind,
         sender,
-        view: layout::view_at(rec, at),
+        view: record::view_at(rec, at),
     };
     marked_sound(rec, set, view, head)
 }
@@ -293,7 +293,7 @@ fn no_reports(rec: &[u8], kind: u8) -> bool
     if kind < numbers::SUGGEST {
         return true;
     }
-    slots_absent(rec, layout::report_slot(kind, 0, 0), 3 * layout::ROWS)
+    slots_absent(rec, record::report_slot(kind, 0, 0), 3 * record::ROWS)
 }
 
 // The reports of the rows from n on, in their three groups.
@@ -304,10 +304,10 @@ fn told_absent(rec: &[u8], from: usize, count: usize) -> bool
     if !slots_absent(rec, from, count) {
         return false;
     }
-    if !slots_absent(rec, from + layout::ROWS, count) {
+    if !slots_absent(rec, from + record::ROWS, count) {
         return false;
     }
-    slots_absent(rec, from + 2 * layout::ROWS, count)
+    slots_absent(rec, from + 2 * record::ROWS, count)
 }
 
 // Nothing is kept in the rows of a kind from n on.
@@ -316,15 +316,15 @@ fn rest_empty(rec: &[u8], kind: u8, n: u8) -> bool
     ensures { λ b. ⌜ b ≡ all (emptyFrom (slotOf (decodeRecord (now (rec .entry)))) kind n) (rows - n) ⌝ }
 {
     let row = n as usize;
-    let from = layout::frame_slot(kind, 0) + row;
-    if !slots_absent(rec, from, layout::ROWS - row) {
+    let from = record::frame_slot(kind, 0) + row;
+    if !slots_absent(rec, from, record::ROWS - row) {
         return false;
     }
     if kind < numbers::SUGGEST {
         return true;
     }
-    let told = layout::report_slot(kind, 0, 0) + row;
-    told_absent(rec, told, layout::ROWS - row)
+    let told = record::report_slot(kind, 0, 0) + row;
+    told_absent(rec, told, record::ROWS - row)
 }
 
 // The places of the rows below n of a kind, one by one.
@@ -347,8 +347,8 @@ fn kind_sound(rec: &[u8], set: Settings, view: u32, kind: u8) -> bool
     requires { ⌜ (set .n ≤ rows) × (1 ≤ kind) × (kind ≤ 8) × (length (now rec) ≡ recordSize) ⌝ }
     ensures { λ b. ⌜ b ≡ kindSound (slotOf (decodeRecord (now (rec .entry)))) set view kind ⌝ }
 {
-    let from = layout::frame_slot(kind, 0);
-    if slots_absent(rec, from, layout::ROWS) {
+    let from = record::frame_slot(kind, 0);
+    if slots_absent(rec, from, record::ROWS) {
         return no_reports(rec, kind);
     }
     if !rest_empty(rec, kind, set.n) {
@@ -379,9 +379,9 @@ fn previous_sound(rec: &[u8], id: u8, kind: u8) -> bool
     requires { ⌜ (id < rows) × (2 ≤ kind) × (kind ≤ 3) × (length (now rec) ≡ recordSize) ⌝ }
     ensures { λ b. ⌜ b ≡ previousSound (slotOf (decodeRecord (now (rec .entry)))) id kind ⌝ }
 {
-    let at = layout::frame_slot(kind, id);
-    let before = layout::previous_slot(kind);
-    previous_stands(layout::slot_of(rec, at), layout::slot_of(rec, before))
+    let at = record::frame_slot(kind, id);
+    let before = record::previous_slot(kind);
+    previous_stands(record::slot_of(rec, at), record::slot_of(rec, before))
 }
 
 // The own previous votes and the decision.
@@ -395,7 +395,7 @@ fn votes_sound(rec: &[u8], id: u8) -> bool
     if !previous_sound(rec, id, numbers::VOTE_2) {
         return false;
     }
-    well_formed(layout::slot_of(rec, layout::DECISION))
+    well_formed(record::slot_of(rec, record::DECISION))
 }
 
 // Whether the slots are sound with these settings and this view.
@@ -416,14 +416,14 @@ pub fn sound_in(rec: &[u8], set: Settings, view: u32) -> bool
 pub fn classify(rec: &[u8]) -> Lent
     ensures { λ r. ⌜ r ≡ lentIs (now (rec .entry)) ⌝ }
 {
-    if rec.len() != layout::SIZE {
+    if rec.len() != record::SIZE {
         return Lent::Unsound;
     }
     if rec[0] == 0 {
         return Lent::Blank;
     }
-    let set = layout::settings_of(rec);
-    if sound_in(rec, set, layout::view_of(rec)) {
+    let set = record::settings_of(rec);
+    if sound_in(rec, set, record::view_of(rec)) {
         return Lent::Sound;
     }
     Lent::Unsound

@@ -13,7 +13,7 @@ use lib.ListN.{length, getD}
 use borrow.Author.Tests.{eq-eqb, ne-eqb}
 use Rattle.rules.specs.Rules.{Rule, rule1, rule3, claimVote, lockVote}
 use Rattle.rules.specs.Options.{isNone}
-use Rattle.quorum.specs.Quorums.{isBlocking}
+use Rattle.rules.specs.Quorums.{isBlocking}
 use Rattle.settings.specs.declared.Settings.{Settings}
 use Rattle.settings.specs.Settings.{delayOf}
 use Rattle.frame.specs.declared.Report.{Report}
@@ -29,17 +29,17 @@ use Rattle.entry.specs.declared.Entry.the-variants.{ForAll, ForOne, Timer, Deci
 use Rattle.record.specs.Slots as slots
 use Rattle.record.specs.Slots.{rows, slotOf, decisionSlot}
 use Rattle.record.specs.inside.Slots.{withView, withSlot}
-use Rattle.layout.specs.Layout.{decodeRecord}
-use Rattle.layout.specs.inside.Layout.{Holds}
-use Rattle.keeping.specs.inside.Kept.{told, keepFrame}
-use Rattle.keeping.specs.inside.Keeping.{ownBroadcast}
+use Rattle.record.specs.Layout.{decodeRecord}
+use Rattle.record.specs.inside.Layout.{HoldsRecord}
+use Rattle.record.specs.inside.Kept.{told, keepFrame}
+use Rattle.record.specs.inside.Keeping.{ownBroadcast}
 use Rattle.rules.specs.Rules.{Vote}
 use Rattle.frame.specs.Refusal.{badPrevious}
 use Rattle.protocol.specs.Sound.{InRow}
 use Rattle.protocol.specs.Record.{Record, spelt, kindOf, highest, leads, leader, changeOf, planNow, sentNow, reportFrame}
 use Rattle.protocol.specs.Pass.{Act, ask, enter, cast, decide, does, writes, suggestEntry, taken, Out, Step}
 use Rattle.protocol.specs.Pass.{asked, isNews, canEnter, mayPropose, chosen, approves, agreed, actVote, stepA, stepB, stepC, stepD, stepVote, stepH}
-use Rattle.agreement.proofs.Reports.{none≢some}
+use Rattle.rules.proofs.Reports.{none≢some}
 use Rattle.protocol.proofs.May.{Lawful, Sure, done, and, sureA}
 use Rattle.protocol.proofs.Tables.{whenSome, keepWas}
 use Rattle.protocol.proofs.Size.{actIs}
@@ -64,7 +64,7 @@ use Rattle.steps.specs.inside.Order.{stepAt}
 -- ---- what an act does
 
 -- Bytes that hold the record that an act leaves.
-didHeld : {o : Out} {rec : List ℕ} {r : slots.Record} {e : Entries} → Holds rec r → contents r ≡ o .left → Clean r → listOf e ≡ o .wrote → Did o rec e
+didHeld : {o : Out} {rec : List ℕ} {r : slots.Record} {e : Entries} → HoldsRecord rec r → contents r ≡ o .left → Clean r → listOf e ≡ o .wrote → Did o rec e
 didHeld held left clean wrote = record {
   size = held .size;
   left = contentsHeld held ∙ left;
@@ -110,27 +110,27 @@ module _ (rec : List ℕ) (h : Ready rec) where
   votes kind id view p = record { kind = kind; sender = id; view = view; body = Plan p }
 
   -- To ask for a view: the view-change in the own row, and sent to all.
-  pub didAsk : {id w : ℕ} {left : List ℕ} → id ≡ r .set .id → Holds left (keepFrame r id (changes id w))
+  pub didAsk : {id w : ℕ} {left : List ℕ} → id ≡ r .set .id → HoldsRecord left (keepFrame r id (changes id w))
       → Did (taken c (some (ask w))) left (Sent (changes id w))
   unfolding contents writes
   didAsk {id} {w} {left} own held =
-      didHeld (subst (Holds left) (λ i. keepFrame r (own i) (changes (own i) w)) held)
+      didHeld (subst (HoldsRecord left) (λ i. keepFrame r (own i) (changes (own i) w)) held)
       (contentsAsk r w row) (cleanAsk r w row (h .clean)) (λ i. ForAll (changes (own i) w) ∷ [])
 
   -- To vote or propose: the frame in the own row, and sent to all.
   pub didCast : {k p kind id view : ℕ} {left : List ℕ} → k ≤ 4 → kind ≡ suc k → id ≡ r .set .id → view ≡ r .view
-      → Holds left (ownBroadcast r (votes kind id view p)) → Did (taken c (some (cast k p))) left (Sent (votes kind id view p))
+      → HoldsRecord left (ownBroadcast r (votes kind id view p)) → Did (taken c (some (cast k p))) left (Sent (votes kind id view p))
   unfolding contents writes
   didCast {k} {p} {left = left} low is own now held =
-      didHeld (subst (Holds left) (λ i. ownBroadcast r (votes (is i) (own i) (now i) p)) held)
+      didHeld (subst (HoldsRecord left) (λ i. ownBroadcast r (votes (is i) (own i) (now i) p)) held)
       (contentsCast r k p low row) (cleanCast r k p low row (h .clean)) (λ i. ForAll (votes (is i) (own i) (now i) p) ∷ [])
 
   -- To decide: the decision in its slot, and told to the host.
-  pub didDecide : {p view : ℕ} {slot : Report} {left : List ℕ} → view ≡ r .view → slot ≡ presentAt view p → Holds left (withSlot r decisionSlot slot)
+  pub didDecide : {p view : ℕ} {slot : Report} {left : List ℕ} → view ≡ r .view → slot ≡ presentAt view p → HoldsRecord left (withSlot r decisionSlot slot)
       → Did (taken c (some (decide p))) left (Decided view p)
   unfolding contents writes
   didDecide {p} {left = left} now is held =
-      didHeld (subst (Holds left) (λ i. decided r (now i) p) (subst (λ (x : Report). Holds left (withSlot r decisionSlot x)) is held))
+      didHeld (subst (HoldsRecord left) (λ i. decided r (now i) p) (subst (λ (x : Report). HoldsRecord left (withSlot r decisionSlot x)) is held))
       (contentsDecided r p) (cleanDecide r (r .view) p (h .clean)) (λ i. Decision (now i) p ∷ [])
 
   -- Nothing to do: the record as it is, and no entries.
@@ -162,13 +162,13 @@ module _ (rec : List ℕ) (h : Ready rec) where
     suggestTold = tells rule1 (tellsOwn .suggests)
 
     module _ (millis to : ℕ) (em : millis ≡ 9 * delayOf (set .class)) (et : to ≡ leaderOf w (set .n)) {proved : List ℕ}
-        (hp : Holds proved (keepFrame (withView r w) (set .id) proof)) where
+        (hp : HoldsRecord proved (keepFrame (withView r w) (set .id) proof)) where
       abbrev heads : List Entry → List Entry
       heads l = Timer w (9 * delayOf (r .set .class)) ∷ ForAll (reportFrame c rule3 w) ∷ l
 
       -- The view and the proof are kept, as 01's frame has it.
-      there : Holds proved (enteredBy r w false)
-      there = subst (Holds proved) (λ i. keepFrame (withView r w) (own i .id) (proofTold i)) hp
+      there : HoldsRecord proved (enteredBy r w false)
+      there = subst (HoldsRecord proved) (λ i. keepFrame (withView r w) (own i .id) (proofTold i)) hp
 
       -- The timer and the leader that the settings' equation gives.
       timed : millis ≡ 9 * delayOf (r .set .class)
@@ -178,7 +178,7 @@ module _ (rec : List ℕ) (h : Ready rec) where
       led = et ∙ ap (λ (s : Settings). leaderOf w (s .n)) own
 
       -- Whether or not the vault leads: a record that holds what 01's act leaves, with its entries.
-      entered : (b : Bool) → leads c w ≡ b → {left : List ℕ} → Holds left (enteredBy r w b) → (l : Entries)
+      entered : (b : Bool) → leads c w ≡ b → {left : List ℕ} → HoldsRecord left (enteredBy r w b) → (l : Entries)
           → listOf l ≡ heads (suggestEntry c w b) → Did (taken c (some (enter w))) left l
       unfolding contents writes
       entered b lead held l same =
@@ -186,12 +186,12 @@ module _ (rec : List ℕ) (h : Ready rec) where
           (cleanEnter r w (h .clean) row b) (same ∙ ap (λ (x : Bool). heads (suggestEntry c w x)) (sym lead))
 
       -- It leads, and keeps its suggest.
-      pub didLead : to ≡ set .id → {left : List ℕ} → Holds left (keepFrame (decodeRecord proved) (set .id) suggest)
+      pub didLead : to ≡ set .id → {left : List ℕ} → HoldsRecord left (keepFrame (decodeRecord proved) (set .id) suggest)
           → Did (taken c (some (enter w))) left (Led w millis proof)
       unfolding contents
       didLead mine {left} held =
           entered true (eq-eqb (leaderOf w (r .set .n)) (r .set .id) (sym led ∙ mine ∙ ap (λ (s : Settings). s .id) own))
-          (subst (Holds left) (λ i. keepFrame (there .is i) (own i .id) (suggestTold i)) held)
+          (subst (HoldsRecord left) (λ i. keepFrame (there .is i) (own i .id) (suggestTold i)) held)
           (Led w millis proof) (λ i. Timer w (timed i) ∷ ForAll (proofTold i) ∷ [])
 
       -- Another leads, and is sent the suggest.
@@ -203,9 +203,9 @@ module _ (rec : List ℕ) (h : Ready rec) where
           (λ i. Timer w (timed i) ∷ ForAll (proofTold i) ∷ ForOne (led i) (suggestTold i) ∷ [])
 
 -- The view kept, and then the proof: what the two writes leave is told of the record before them.
-pub keptEntered : (rec : List ℕ) (w : ℕ) (f : Frame) {viewed left : List ℕ} → Holds viewed (withView (decodeRecord rec) w)
-    → Holds left (keepFrame (decodeRecord viewed) (f .sender) f) → Holds left (keepFrame (withView (decodeRecord rec) w) (f .sender) f)
-keptEntered rec w f {left = left} hv = subst (λ (x : slots.Record). Holds left (keepFrame x (f .sender) f)) (hv .is)
+pub keptEntered : (rec : List ℕ) (w : ℕ) (f : Frame) {viewed left : List ℕ} → HoldsRecord viewed (withView (decodeRecord rec) w)
+    → HoldsRecord left (keepFrame (decodeRecord viewed) (f .sender) f) → HoldsRecord left (keepFrame (withView (decodeRecord rec) w) (f .sender) f)
+keptEntered rec w f {left = left} hv = subst (λ (x : slots.Record). HoldsRecord left (keepFrame x (f .sender) f)) (hv .is)
 
 -- The act, as the code's match has it.
 pub didAct : (c : Record) (act was : acts.Act) → act ≡ was → {left : List ℕ} {e : Entries} → Did (taken c (asAct was)) left e

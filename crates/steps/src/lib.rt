@@ -13,10 +13,10 @@ ghost use lib.ListN.{length};
 ghost use Rattle.frame.specs.Refusal.{leaderOf};
 ghost use Rattle.record.specs.Slots.{slotOf};
 ghost use Rattle.record.specs.inside.Slots.{withView};
-ghost use Rattle.layout.specs.Size.{recordSize};
-ghost use Rattle.layout.specs.Layout.{decodeRecord};
-ghost use Rattle.layout.specs.inside.Layout.{Holds};
-ghost use Rattle.keeping.specs.inside.Kept.{told, keepFrame};
+ghost use Rattle.record.specs.Size.{recordSize};
+ghost use Rattle.record.specs.Layout.{decodeRecord};
+ghost use Rattle.record.specs.inside.Layout.{HoldsRecord};
+ghost use Rattle.record.specs.inside.Kept.{told, keepFrame};
 ghost use Rattle.protocol.specs.Pass.{ask, enter, cast, decide, taken};
 ghost use Rattle.protocol.specs.Pass.{actA, actB, actC, actD, actVote, actH, stepA, stepB, stepC, stepD, stepVote, stepH};
 ghost use Rattle.contents.specs.Contents.{contentsIn};
@@ -43,7 +43,7 @@ pub struct Wrote {
 // A record by value: its bytes, with the entries of the step that left it. A step takes one and hands one back, so the compiler has both
 // at one place, and does not copy it.
 pub struct Record {
-    pub bytes: [u8; layout::SIZE],
+    pub bytes: [u8; record::SIZE],
     pub wrote: Wrote,
 }
 
@@ -60,7 +60,7 @@ pub fn ask_in(rec: &mut [u8], id: u8, w: u32) -> Entries
         view: w,
         body: Body::Empty,
     };
-    keeping::keep_head(rec, id, f);
+    record::keeping::keep_head(rec, id, f);
     Entries::Sent(f)
 }
 
@@ -75,7 +75,7 @@ fn cast_in(rec: &mut [u8], id: u8, view: u32, k: u8, p: u64) -> Entries
         view,
         body: Body::Plan(p),
     };
-    keeping::own_broadcast(rec, id, f);
+    record::keeping::own_broadcast(rec, id, f);
     Entries::Sent(f)
 }
 
@@ -85,7 +85,7 @@ fn decide_in(rec: &mut [u8], view: u32, p: u64) -> Entries
     ensures { λ e. ⌜ Did (taken (contentsIn (now (rec .entry))) (some (decide p))) (now (rec .exit)) e ⌝ }
 {
     let decision = frame::present(view, p);
-    layout::put_slot(rec, layout::DECISION, decision);
+    record::put_slot(rec, record::DECISION, decision);
     Entries::Decided(view, p)
 }
 
@@ -94,9 +94,9 @@ fn reports_of(rec: &[u8], id: u8, claim: u8, lock: u8) -> Reports
     requires { ⌜ (length (now rec) ≡ recordSize) × (id < 64) × (2 ≤ claim) × (claim ≤ 3) × (1 ≤ lock) × (lock ≤ 8) ⌝ }
     ensures { λ t. ⌜ t ≡ ownReports (slotOf (decodeRecord (now (rec .entry)))) id claim lock ⌝ }
 {
-    let highest = layout::slot_of(rec, layout::frame_slot(claim, id));
-    let previous = layout::slot_of(rec, layout::previous_slot(claim));
-    let locked = layout::slot_of(rec, layout::frame_slot(lock, id));
+    let highest = record::slot_of(rec, record::frame_slot(claim, id));
+    let previous = record::slot_of(rec, record::previous_slot(claim));
+    let locked = record::slot_of(rec, record::frame_slot(lock, id));
     Reports {
         highest,
         previous,
@@ -115,10 +115,10 @@ fn leader_in(w: u32, n: u8) -> u8
 // Keeps a view, and the own proof of it.
 fn keep_entered(rec: &mut [u8], id: u8, w: u32, proof: Reports)
     requires { ⌜ (length (now rec) ≡ recordSize) × (id < 64) ⌝ }
-    ensures { λ _. ⌜ Holds (now (rec .exit)) (keepFrame (withView (decodeRecord (now (rec .entry))) w) id (told 8 id w proof)) ⌝ }
+    ensures { λ _. ⌜ HoldsRecord (now (rec .exit)) (keepFrame (withView (decodeRecord (now (rec .entry))) w) id (told 8 id w proof)) ⌝ }
 {
-    layout::put_view(rec, w);
-    keeping::keep_told(rec, id, numbers::PROOF, w, proof);
+    record::put_view(rec, w);
+    record::keeping::keep_told(rec, id, numbers::PROOF, w, proof);
 }
 
 // To enter a view, with the own reports as they are before it: the suggest is kept where the vault leads the view, and sent elsewhere.
@@ -136,7 +136,7 @@ fn tell_in(rec: &mut [u8], set: Settings, w: u32, proof: Reports, suggest: Repor
         body: Body::Told(proof),
     };
     if to == set.id {
-        keeping::keep_told(rec, set.id, numbers::SUGGEST, w, suggest);
+        record::keeping::keep_told(rec, set.id, numbers::SUGGEST, w, suggest);
         return Entries::Led(w, millis, all);
     }
     let one = Frame {
@@ -163,7 +163,7 @@ fn view_in(rec: &mut [u8], act: Act) -> Entries
     requires { ⌜ Ready (now rec) × OfView (asAct act) ⌝ }
     ensures { λ e. ⌜ Did (taken (contentsIn (now (rec .entry))) (asAct act)) (now (rec .exit)) e ⌝ }
 {
-    let set = layout::settings_of(rec);
+    let set = record::settings_of(rec);
     match act {
         Act::Ask(w) => ask_in(rec, set.id, w),
         Act::Enter(w) => enter_in(rec, set, w),
@@ -178,8 +178,8 @@ fn plan_in(rec: &mut [u8], act: Act) -> Entries
     requires { ⌜ Ready (now rec) × OfPlan (asAct act) ⌝ }
     ensures { λ e. ⌜ Did (taken (contentsIn (now (rec .entry))) (asAct act)) (now (rec .exit)) e ⌝ }
 {
-    let set = layout::settings_of(rec);
-    let view = layout::view_of(rec);
+    let set = record::settings_of(rec);
+    let view = record::view_of(rec);
     match act {
         Act::Ask(_) => Entries::Zero,
         Act::Enter(_) => Entries::Zero,
@@ -192,7 +192,7 @@ fn plan_in(rec: &mut [u8], act: Act) -> Entries
 // ---- steps
 
 // The same on an array: a step's own bytes are lent as one, and so they are not copied.
-fn view_act(bytes: &mut [u8; layout::SIZE], act: Act) -> Wrote
+fn view_act(bytes: &mut [u8; record::SIZE], act: Act) -> Wrote
     requires { ⌜ Ready (now bytes) × OfView (asAct act) ⌝ }
     ensures { λ w. ⌜ Did (taken (contentsIn (now (bytes .entry))) (asAct act)) (now (bytes .exit)) (w .entries) ⌝ }
 {
@@ -200,7 +200,7 @@ fn view_act(bytes: &mut [u8; layout::SIZE], act: Act) -> Wrote
     Wrote { entries }
 }
 
-fn plan_act(bytes: &mut [u8; layout::SIZE], act: Act) -> Wrote
+fn plan_act(bytes: &mut [u8; record::SIZE], act: Act) -> Wrote
     requires { ⌜ Ready (now bytes) × OfPlan (asAct act) ⌝ }
     ensures { λ w. ⌜ Did (taken (contentsIn (now (bytes .entry))) (asAct act)) (now (bytes .exit)) (w .entries) ⌝ }
 {

@@ -14,8 +14,8 @@ use lib.Dec.{leb, ltb, eqb}
 use lib.ListN.{length, getD, take, set, length-take}
 use lib.Seq.{getD-set-same, getD-set-other, getD-take}
 use borrow.Author.Tests.{eq-eqb, ne-eqb, lt-ltb, le-ltb, le-leb, lt-leb, leb-true}
-use Rattle.quorum.specs.Sets.{Set, weigh}
-use Rattle.quorum.proofs.Laws.{weighNone, weighMore, weighStep, weighSame, weighMost, shareMost}
+use Rattle.rules.specs.Sets.{Set, weigh}
+use Rattle.rules.proofs.Quorums.{weighNone, weighMore, weighStep, weighSame, weighMost, shareMost}
 use Rattle.rules.specs.Options.{holds}
 use Rattle.frame.specs.declared.Report.{Report}
 use Rattle.tally.specs.inside.Changes.{asks, newsFrom, askers, enough, times, Gathered, raisedAt, Highest}

@@ -19,10 +19,10 @@ use Rattle.claims.specs.Table.{column, tableSize, voteAbove, voteIn, reporter, 
 use Rattle.frame.specs.declared.Report as Slot
 use Rattle.frame.specs.Refusal.{present}
 use Rattle.record.specs.Slots.{rows, frameSlot, reportSlot}
-use Rattle.layout.specs.Layout.{slotSize, slotIn}
+use Rattle.record.specs.Layout.{slotSize, slotIn}
 use Rattle.tally.specs.inside.Parts.{blockPlace}
 use Rattle.tally.specs.inside.Votes.{voted}
-use Rattle.tally.specs.inside.Reports.{voteBy, reportsBy, aboveOf, withVote, withReport, Filled}
+use Rattle.tally.specs.inside.Reports.{slotVote, reportsBy, aboveOf, withVote, withReport, Filled}
 
 -- ---- one vote
 
@@ -105,7 +105,7 @@ module _ (t : List ℕ) (i : ℕ) (h p l : Slot.Report) (row : i < column) (size
   module _ (s : List ℕ) (c : ℕ) (x : Slot.Report) (room : column * c + i + column < length s) where
     -- Then the two columns are read as that vote.
     ownVote : (u : List ℕ) → getD u (column * c + i) 0 ≡ getD (withVote s (column * c + i) x) (column * c + i) 0
-        → getD u (column * c + i + column) 0 ≡ getD (withVote s (column * c + i) x) (column * c + i + column) 0 → voteIn u c i ≡ voteBy x
+        → getD u (column * c + i + column) 0 ≡ getD (withVote s (column * c + i) x) (column * c + i + column) 0 → voteIn u c i ≡ slotVote x
     ownVote u above plan =
         let next : column * (c + 1) + i ≡ column * c + i + column = omega arith in
         let a : getD u (column * c + i) 0 ≡ aboveOf x = above ∙ aboveThere s (column * c + i) x room in
@@ -113,7 +113,7 @@ module _ (t : List ℕ) (i : ℕ) (h p l : Slot.Report) (row : i < column) (size
         λ k. voteAbove (a k) (b k)
 
   -- The own row has the lock that was put last.
-  ownLock : voteIn with₃ 5 i ≡ voteBy l
+  ownLock : voteIn with₃ 5 i ≡ slotVote l
   ownLock = ownVote with₂ 5 l (omega (arith, size₂)) with₃ refl refl
 
   -- A place before the lock's columns, and one before the previous vote's.
@@ -125,11 +125,11 @@ module _ (t : List ℕ) (i : ℕ) (h p l : Slot.Report) (row : i < column) (size
   earlier q less = early q (omega arith) ∙ voteOther with₁ (3 * column + i) p q (λ d (e : q ≡ 3 * column + i + column * d). omega arith)
 
   -- The own row has the previous vote.
-  ownPrevious : voteIn with₃ 3 i ≡ voteBy p
+  ownPrevious : voteIn with₃ 3 i ≡ slotVote p
   ownPrevious = ownVote with₁ 3 p (omega (arith, size₁)) with₃ (early (column * 3 + i) (omega arith)) (early (column * 3 + i + column) (omega arith))
 
   -- And the highest vote.
-  ownHighest : voteIn with₃ 1 i ≡ voteBy h
+  ownHighest : voteIn with₃ 1 i ≡ slotVote h
   ownHighest = ownVote with₀ 1 h (omega (arith, size₀)) with₃ (earlier (column * 1 + i) (omega arith)) (earlier (column * 1 + i + column) (omega arith))
 
   -- And the mark of a reporter.
@@ -141,7 +141,7 @@ module _ (t : List ℕ) (i : ℕ) (h p l : Slot.Report) (row : i < column) (size
 
   -- The three votes that a sender reports.
   abbrev pub told : Report
-  told = record { highest = voteBy h; previous = voteBy p; lock = voteBy l }
+  told = record { highest = slotVote h; previous = slotVote p; lock = slotVote l }
 
   -- So the sender's row is read as what it reports.
   pub reportOwn : reportsInTable (withReport t i h p l) i ≡ some told
@@ -250,16 +250,16 @@ module _ (block : List ℕ) (kind v i at from : ℕ) (told : Bool)
 
   -- It is: the sender reports the three votes that stand 64 slots apart.
   pub toldThere : told ≡ true → reportsBy block kind v i ≡ some (record {
-    highest = voteBy (slotIn block from);
-    previous = voteBy (slotIn block (from + slotSize * rows));
-    lock = voteBy (slotIn block (from + slotSize * (2 * rows)));
+    highest = slotVote (slotIn block from);
+    previous = slotVote (slotIn block (from + slotSize * rows));
+    lock = slotVote (slotIn block (from + slotSize * (2 * rows)));
   })
   unfolding reportsBy
   toldThere on =
       let second : blockPlace (reportSlot kind 1 i) ≡ from + slotSize * rows = omega arith in
       let third : blockPlace (reportSlot kind 2 i) ≡ from + slotSize * (2 * rows) = omega arith in
       rw (testIs, on) (λ k. some (record {
-        highest = voteBy (slotIn block (sym first k));
-        previous = voteBy (slotIn block (second k));
-        lock = voteBy (slotIn block (third k));
+        highest = slotVote (slotIn block (sym first k));
+        previous = slotVote (slotIn block (second k));
+        lock = slotVote (slotIn block (third k));
       }))

@@ -12,9 +12,9 @@ use native.Mathlib.Decide.{ℕ-discrete}
 use native.Mathlib.Numerals.{add-one}
 use lib.Dec.{leb, eqb}
 use borrow.Author.Tests.{eq-eqb, ne-eqb}
-use Rattle.quorum.specs.Sets.{equals, weigh}
-use Rattle.quorum.proofs.Bools.{notTrue}
-use Rattle.quorum.proofs.Laws.{quorumWeighs, totalEquals, quorumCount}
+use Rattle.rules.specs.Sets.{equals, weigh}
+use Rattle.rules.proofs.Bools.{notTrue}
+use Rattle.rules.proofs.Quorums.{quorumWeighs, totalEquals, quorumCount}
 use Rattle.rules.specs.Options.{isNone, holds}
 use Rattle.frame.specs.declared.Report.{Report}
 use Rattle.frame.specs.Refusal.{present}

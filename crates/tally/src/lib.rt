@@ -9,17 +9,17 @@ ghost use mathlib.Core.Path.{_≡_};
 ghost use mathlib.Core.Bool.{not, cond};
 ghost use lib.Dec.{leb, ltb, eqb};
 ghost use lib.ListN.{length};
-ghost use Rattle.quorum.specs.Sets.{weigh};
+ghost use Rattle.rules.specs.Sets.{weigh};
 ghost use Rattle.rules.specs.Options.{isNone, holds};
 ghost use Rattle.frame.specs.Refusal.{leaderOf};
 ghost use Rattle.record.specs.Slots.{rows, slotCount, frameSlot};
 ghost use Rattle.claims.specs.Table.{column, tableSize};
-ghost use Rattle.layout.specs.Layout.{slotSize, sharedSize, slotIn};
-ghost use Rattle.layout.specs.inside.Layout.{blockSize};
+ghost use Rattle.record.specs.Layout.{slotSize, sharedSize, slotIn};
+ghost use Rattle.record.specs.inside.Layout.{blockSize};
 ghost use Rattle.safe.specs.Choices.{chosen};
 ghost use Rattle.tally.specs.inside.Parts.{blockPlace};
 ghost use Rattle.tally.specs.inside.Changes.{asks, changeIn, newsFrom, enough, times, raisedAt, Gathered, Highest};
-ghost use Rattle.tally.specs.inside.Votes.{voted, voteIn, votes, leadWith, leadAfter, agreedIn, Leads};
+ghost use Rattle.tally.specs.inside.Votes.{voted, voteInBlock, rowVotes, leadWith, leadAfter, agreedIn, Leads};
 ghost use Rattle.tally.specs.inside.Reports.{reportsBy, aboveOf, withVote, withReport, Filled};
 
 // 'its leader is vault (view mod n)'.
@@ -40,7 +40,7 @@ pub fn change_above(shared: &[u8], at: usize, low: u32) -> u32
     if shared[at] != numbers::PRESENT {
         return low;
     }
-    claims::larger(low, layout::view_at(shared, at))
+    claims::larger(low, record::view_at(shared, at))
 }
 
 // What a view adds to those above low.
@@ -62,7 +62,7 @@ fn views_above(shared: &[u8], n: usize, need: usize, low: u32, views: &mut [u32]
         if count + (n - j) < need {
             return count;
         }
-        let w = change_above(shared, layout::HEAD + layout::SLOT * j, low);
+        let w = change_above(shared, record::HEAD + record::SLOT * j, low);
         views[count] = w;
         count += share_above(low, w);
         j += 1;
@@ -126,7 +126,7 @@ pub fn highest_change(shared: &[u8], n: usize, need: usize, low: u32) -> u32
     requires { ⌜ (length (now shared) ≡ sharedSize) × (n ≤ rows) × (0 < need) × (need ≤ rows) ⌝ }
     ensures { λ r. ⌜ Highest (enough (changeIn (now (shared .entry))) n need) low r ⌝ }
 {
-    let mut views = [0u32; layout::ROWS];
+    let mut views = [0u32; record::ROWS];
     let count = views_above(shared, n, need, low, &mut views);
     highest_of(&views[0..count], need, low)
 }
@@ -138,7 +138,7 @@ fn block_place(i: usize) -> usize
     requires { ⌜ (rows ≤ i) × (i < slotCount) ⌝ }
     ensures { λ r. ⌜ (r ≡ blockPlace i) × (r + slotSize ≤ blockSize) ⌝ }
 {
-    layout::HEAD + layout::SLOT * (i - layout::ROWS)
+    record::HEAD + record::SLOT * (i - record::ROWS)
 }
 
 // Where a sender's vote-k, for k = 0 its proposal, stands.
@@ -146,7 +146,7 @@ pub fn vote_place(k: u8, sender: u8) -> usize
     requires { ⌜ (k ≤ 4) × (sender < rows) ⌝ }
     ensures { λ r. ⌜ (r ≡ blockPlace (frameSlot (k + 1) sender)) × (r + slotSize * (rows - sender) ≤ blockSize) ⌝ }
 {
-    block_place(layout::frame_slot(k + 1, sender))
+    block_place(record::frame_slot(k + 1, sender))
 }
 
 // Whether the vote at a place is of view v.
@@ -157,13 +157,13 @@ pub fn is_of_view(block: &[u8], at: usize, v: u32) -> bool
     if block[at] != numbers::PRESENT {
         return false;
     }
-    layout::view_at(block, at) == v
+    record::view_at(block, at) == v
 }
 
 // Whether a sender's vote-k, for k = 0 its proposal, is of view v: 'once a view'.
 pub fn sent(block: &[u8], k: u8, sender: u8, v: u32) -> bool
     requires { ⌜ (length (now block) ≡ blockSize) × (k ≤ 4) × (sender < rows) ⌝ }
-    ensures { λ b. ⌜ b ≡ not (isNone (voteIn (now (block .entry)) v k sender)) ⌝ }
+    ensures { λ b. ⌜ b ≡ not (isNone (voteInBlock (now (block .entry)) v k sender)) ⌝ }
 {
     is_of_view(block, vote_place(k, sender), v)
 }
@@ -186,13 +186,13 @@ fn put_vote(table: &mut [u64], at: usize, block: &[u8], from: usize)
     requires { ⌜ (at + column < length (now table)) × (from + slotSize ≤ length (now block)) ⌝ }
     ensures { λ _. ⌜ now (table .exit) ≡ withVote (now (table .entry)) at (slotIn (now (block .entry)) from) ⌝ }
 {
-    let x = layout::slot_at(block, from);
+    let x = record::slot_at(block, from);
     table[at] = above(x);
     table[at + claims::COLUMN] = x.plan;
 }
 
 // How far the second and the third vote of a report stand from the first.
-const SECOND: usize = layout::SLOT * layout::ROWS;
+const SECOND: usize = record::SLOT * record::ROWS;
 
 const THIRD: usize = 2 * SECOND;
 
@@ -212,9 +212,9 @@ fn gather_from(table: &mut [u64], i: u8, block: &[u8], kind: u8, v: u32)
     requires { ⌜ (length (now block) ≡ blockSize) × (i < rows) × (7 ≤ kind) × (kind ≤ 8) × Filled (reportsBy (now block) kind v) i (now table) ⌝ }
     ensures { λ _. ⌜ Filled (reportsBy (now (block .entry)) kind v) (i + 1) (now (table .exit)) ⌝ }
 {
-    let at = block_place(layout::frame_slot(kind, i));
+    let at = block_place(record::frame_slot(kind, i));
     if is_of_view(block, at, v) {
-        let from = block_place(layout::report_slot(kind, 0, i));
+        let from = block_place(record::report_slot(kind, 0, i));
         put_report(table, i as usize, block, from);
     }
 }
@@ -277,16 +277,16 @@ fn lead_after(b: Lead, block: &[u8], at: usize, v: u32) -> Lead
     if block[at] != numbers::PRESENT {
         return b;
     }
-    if layout::view_at(block, at) != v {
+    if record::view_at(block, at) != v {
         return b;
     }
-    lead_with(b, layout::plan_at(block, at))
+    lead_with(b, record::plan_at(block, at))
 }
 
 // The plan that leads among the votes of view v in the n slots from a place on. Where more than f are missing, the rest is not read.
 fn lead_of(block: &[u8], from: usize, n: usize, f: usize, v: u32) -> Lead
     requires { ⌜ (from + slotSize * n ≤ length (now block)) × (n ≤ rows) × (f < n) ⌝ }
-    ensures { λ r. ⌜ Leads (votes (now (block .entry)) v from) n f r ⌝ }
+    ensures { λ r. ⌜ Leads (rowVotes (now (block .entry)) v from) n f r ⌝ }
 {
     let mut b = Lead {
         plan: 0,
@@ -298,7 +298,7 @@ fn lead_of(block: &[u8], from: usize, n: usize, f: usize, v: u32) -> Lead
         if b.votes + f < j {
             return b;
         }
-        b = lead_after(b, block, from + layout::SLOT * j, v);
+        b = lead_after(b, block, from + record::SLOT * j, v);
         j += 1;
     }
     b
@@ -310,7 +310,7 @@ fn vote_share(block: &[u8], at: usize, v: u32, p: u64) -> usize
     ensures { λ c. ⌜ c ≡ cond (holds (eqb p) (voted v (slotIn (now (block .entry)) at))) 1 0 ⌝ }
 {
     if is_of_view(block, at, v) {
-        if layout::plan_at(block, at) == p {
+        if record::plan_at(block, at) == p {
             return 1;
         }
         return 0;
@@ -321,12 +321,12 @@ fn vote_share(block: &[u8], at: usize, v: u32, p: u64) -> usize
 // How many of the n votes from a place on are of view v and for p.
 fn votes_for(block: &[u8], from: usize, n: usize, v: u32, p: u64) -> usize
     requires { ⌜ (from + slotSize * n ≤ length (now block)) × (n ≤ rows) ⌝ }
-    ensures { λ c. ⌜ c ≡ weigh (λ i. 1) (λ j. holds (eqb p) (votes (now (block .entry)) v from j)) n ⌝ }
+    ensures { λ c. ⌜ c ≡ weigh (λ i. 1) (λ j. holds (eqb p) (rowVotes (now (block .entry)) v from j)) n ⌝ }
 {
     let mut count: usize = 0;
     let mut j: usize = 0;
     while j < n {
-        count += vote_share(block, from + layout::SLOT * j, v, p);
+        count += vote_share(block, from + record::SLOT * j, v, p);
         j += 1;
     }
     count
@@ -335,7 +335,7 @@ fn votes_for(block: &[u8], from: usize, n: usize, v: u32, p: u64) -> usize
 // The plan that a quorum of the votes of view v from a place on is for. Where the votes are too few, those for the plan are not counted.
 pub fn agreed_plan(block: &[u8], from: usize, set: Settings, v: u32) -> Choice
     requires { ⌜ (from + slotSize * (set .n) ≤ length (now block)) × (set .n ≤ rows) × (3 * set .f < set .n) ⌝ }
-    ensures { λ r. ⌜ chosen r ≡ agreedIn (votes (now (block .entry)) v from) (set .n) (set .f) ⌝ }
+    ensures { λ r. ⌜ chosen r ≡ agreedIn (rowVotes (now (block .entry)) v from) (set .n) (set .f) ⌝ }
 {
     let n = set.n as usize;
     let f = set.f as usize;

@@ -15,10 +15,10 @@ use Rattle.entry.specs.Layout.{entryBytes}
 use Rattle.settings.specs.declared.Settings.{Settings}
 use Rattle.settings.specs.Settings.{settingRows}
 use Rattle.record.specs.Slots as slots
-use Rattle.record.specs.inside.Slots.{fresh}
-use Rattle.layout.specs.Layout.{decodeRecord}
-use Rattle.layout.specs.Size.{recordSize}
-use Rattle.layout.specs.inside.Layout.{Holds}
+use Rattle.record.specs.inside.Slots.{freshSlots}
+use Rattle.record.specs.Layout.{decodeRecord}
+use Rattle.record.specs.Size.{recordSize}
+use Rattle.record.specs.inside.Layout.{HoldsRecord}
 use Rattle.sound.specs.declared.Lent.the-variants.{Blank, Unsound, Sound}
 use Rattle.sound.specs.inside.Sound.{sound, lentIs}
 use Rattle.sound.proofs.Laws.{lentLength, lentBlank, lentOther}
@@ -29,7 +29,7 @@ use Rattle.protocol.proofs.Sound.{Whole}
 use Rattle.protocol.proofs.Proper.{freshWhole}
 use Rattle.contents.specs.Contents.{contentsIn}
 use Rattle.contents.specs.inside.Ready.{Ready}
-use Rattle.contents.specs.Calls.{after, startLeft}
+use Rattle.contents.specs.Calls.{leftAfter, startLeft}
 use Rattle.contents.specs.Left.{gave}
 use Rattle.contents.proofs.Parts.{contentsFresh, cleanFresh}
 use Rattle.contents.proofs.Ready.{contentsHeld, readyAs}
@@ -39,7 +39,7 @@ use Rattle.vault.proofs.Laws.{acceptedRoom, refusedBy, acceptedBy, call
 
 -- ---- the fresh record, its timer entry, and the pass
 
-module _ (set : Settings) (plan : ℕ) (given : first (settingRows set) ≡ 0) (low : plan < 2 ^ 64) (rec : List ℕ) (holds : Holds rec (fresh set plan))
+module _ (set : Settings) (plan : ℕ) (given : first (settingRows set) ≡ 0) (low : plan < 2 ^ 64) (rec : List ℕ) (holds : HoldsRecord rec (freshSlots set plan))
     (t : Entry) (et : t ≡ timerEntry (calls.fresh set plan) 0) (at : ℕ) (out out' : List ℕ)
     (put : (at ≡ 0 + length (entryBytes t)) × (out' ≡ placed out 0 (entryBytes t))) (room : 256 ≤ length out) where
   -- View 0 is entered: a fresh record, and its timer entry.
@@ -55,7 +55,7 @@ module _ (set : Settings) (plan : ℕ) (given : first (settingRows set) ≡ 0) (
 
   -- Its settings are those of the start.
   pub freshSet : set ≡ decodeRecord rec .set
-  unfolding fresh
+  unfolding freshSlots
   freshSet = ap (λ (r : slots.Record). r .set) (sym (holds .is))
 
   -- The bytes are the fresh record's, and the output has the timer entry.
@@ -109,7 +109,7 @@ module _ (rec : List ℕ) (set : Settings) (plan : ℕ) (out : List ℕ) where
 
   module _ (room : 256 ≤ length out) (size : length rec ≡ recordSize) (blank : decodeRecord rec .set .n ≡ 0) where
     -- A blank record: the start by contents decides.
-    startBlank : after rec out (answer none (start set plan)) ≡ startLeft rec set plan out
+    startBlank : leftAfter rec out (answer none (start set plan)) ≡ startLeft rec set plan out
     unfolding startLeft
     startBlank = calledLent 4 rec out (start set plan) room Blank (lentBlank rec size blank)
 
@@ -119,6 +119,6 @@ module _ (rec : List ℕ) (set : Settings) (plan : ℕ) (out : List ℕ) where
     startRefused k is given = refusedBy rec out (started set plan) (first (settingRows set)) k is given ∙ startBlank
 
     -- The settings pass: the start is accepted.
-    pub startAccepted : first (settingRows set) ≡ 0 → after rec out (accepted (started set plan)) ≡ startLeft rec set plan out
+    pub startAccepted : first (settingRows set) ≡ 0 → leftAfter rec out (accepted (started set plan)) ≡ startLeft rec set plan out
     unfolding answer
     startAccepted given = acceptedBy rec out (started set plan) (first (settingRows set)) given ∙ startBlank

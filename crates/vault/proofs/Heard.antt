@@ -11,7 +11,7 @@ use native.Mathlib.Omega.{arith}
 use lib.Dec.{leb, ltb, eqb}
 use lib.ListN.{length}
 use borrow.Author.Tests.{le-leb, lt-leb, eqb-true, eqb-false, ltb-true, ltb-false, leb-false}
-use Rattle.quorum.proofs.Bools.{which}
+use Rattle.rules.proofs.Bools.{which}
 use Rattle.rules.specs.Options.{holds}
 use Rattle.wire.specs.Fields.{Bytes}
 use Rattle.frame.specs.declared.Frame.{Frame}
@@ -24,14 +24,14 @@ use Rattle.frame.proofs.Laws.{neither}
 use Rattle.settings.specs.declared.Settings.{Settings}
 use Rattle.record.specs.Slots as slots
 use Rattle.record.specs.Slots.{rows, frameSlot, slotOf}
-use Rattle.record.specs.inside.Slots.{Place}
-use Rattle.layout.specs.Layout.{decodeRecord}
-use Rattle.layout.specs.Size.{recordSize}
-use Rattle.layout.specs.inside.Layout.{Holds}
-use Rattle.keeping.specs.Kept.{frameIn, keptIn}
-use Rattle.keeping.specs.inside.Kept.{keepFrame}
-use Rattle.keeping.specs.inside.Keeping.{stale, outdone, keepRows}
-use Rattle.keeping.proofs.Forms.{fitsKind}
+use Rattle.record.specs.inside.Slots.{RowPlace}
+use Rattle.record.specs.Layout.{decodeRecord}
+use Rattle.record.specs.Size.{recordSize}
+use Rattle.record.specs.inside.Layout.{HoldsRecord}
+use Rattle.record.specs.Kept.{frameHeld, keptIn}
+use Rattle.record.specs.inside.Kept.{keepFrame}
+use Rattle.record.specs.inside.Keeping.{stale, outdone, keepRows}
+use Rattle.record.proofs.Forms.{fitsKind}
 use Rattle.sound.specs.declared.Lent.the-variants.{Sound}
 use Rattle.sound.specs.inside.Sound.{lentIs}
 use Rattle.protocol.specs.Record.{Record}
@@ -44,7 +44,7 @@ use Rattle.protocol.proofs.Proper.{heardWhole}
 use Rattle.protocol.proofs.Read.{acceptedReadable}
 use Rattle.contents.specs.Contents.{contents, contentsIn}
 use Rattle.contents.specs.inside.Ready.{Ready}
-use Rattle.contents.specs.Calls.{after, frameLeft}
+use Rattle.contents.specs.Calls.{leftAfter, frameLeft}
 use Rattle.contents.specs.Left.{gave}
 use Rattle.contents.proofs.Kept.{contentsKeep}
 use Rattle.contents.proofs.Clean.{keptAt, cleanKeep}
@@ -76,17 +76,17 @@ staleOld current kind v = go (eqb kind 6)
     go true = atOrBelow v current
     go false = or-false (ltb v current)
 
-module _ (r : slots.Record) (f : Frame) (at : Place (f .kind) (f .sender)) where
+module _ (r : slots.Record) (f : Frame) (at : RowPlace (f .kind) (f .sender)) where
   -- 'same sender and kind kept at this view or a higher one'.
   outdoneKept : outdone (slotOf r (frameSlot (f .kind) (f .sender))) (f .view)
       ≡ holds (λ (g : Frame). leb (f .view) (g .view)) (contents r .kept (f .kind) (f .sender))
-  unfolding outdone keptIn frameIn
+  unfolding outdone keptIn frameHeld
   outdoneKept =
       go (present (slotOf r (frameSlot (f .kind) (f .sender))))
       ∙ ap (holds (λ (g : Frame). leb (f .view) (g .view))) (sym (keptAt r (f .kind) (f .sender) (at .low) (at .high) (at .row)))
     where
       go : (b : Bool) → (b && leb (f .view) (slotOf r (frameSlot (f .kind) (f .sender)) .view))
-          ≡ holds (λ (g : Frame). leb (f .view) (g .view)) (cond b (some (frameIn (slotOf r) (f .kind) (f .sender))) none)
+          ≡ holds (λ (g : Frame). leb (f .view) (g .view)) (cond b (some (frameHeld (slotOf r) (f .kind) (f .sender))) none)
       go true = refl
       go false = refl
 
@@ -107,7 +107,7 @@ module _ {rec : List ℕ} {set : Settings} {f : Frame} (g : Read rec set f) wher
   shape = g .readable .valid .shape
 
   -- Rows 9 and 11 leave a kind and a sender that a record has a slot for.
-  pub placeOf : Place (f .kind) (f .sender)
+  pub placeOf : RowPlace (f .kind) (f .sender)
   placeOf =
       let (low, high) = fitsKind (f .kind) (f .body) shape in
       let given = noneGiven (linkRows (f .sender) (f .sender) (set .n) (set .id)) (g .readable .link) .0 in
@@ -138,13 +138,13 @@ module _ {rec : List ℕ} {set : Settings} {f : Frame} (g : Read rec set f) wher
     rowsRefused out = refusedBy rec out (heard (contentsIn rec) f) (first (recordRows (contentsIn rec) f)) k given
 
     -- It finds none: the frame is accepted.
-    pub rowsAccepted : (out : List ℕ) → k ≡ 0 → after rec out (accepted (heard (contentsIn rec) f)) ≡ readLeft rec f out
+    pub rowsAccepted : (out : List ℕ) → k ≡ 0 → leftAfter rec out (accepted (heard (contentsIn rec) f)) ≡ readLeft rec f out
     unfolding answer
     rowsAccepted out e = acceptedBy rec out (heard (contentsIn rec) f) (first (recordRows (contentsIn rec) f)) (rowsPass e)
 
   -- ---- the frame is kept
 
-  module _ (rec' : List ℕ) (holds : Holds rec' (keepFrame (decodeRecord rec) (f .sender) f)) where
+  module _ (rec' : List ℕ) (holds : HoldsRecord rec' (keepFrame (decodeRecord rec) (f .sender) f)) where
     -- The bytes hold the contents with the frame kept.
     held : contentsIn rec' ≡ keep f (contentsIn rec)
     held = contentsHeld holds ∙ contentsKeep (decodeRecord rec) f refl (placeOf .row) shape
@@ -199,21 +199,21 @@ module _ (rec bytes : List ℕ) (link : ℕ) (out : List ℕ) where
     reads = got ∙ ap (λ (s : Settings). readFrame bytes link (s .n) (s .id)) is
 
     -- So what the call leaves is what that answer gives.
-    pub frameAnswered : after rec out (answer (some (contentsIn rec)) (frame x)) ≡ frameLeft rec link bytes out
+    pub frameAnswered : leftAfter rec out (answer (some (contentsIn rec)) (frame x)) ≡ frameLeft rec link bytes out
     unfolding frameLeft
     frameAnswered =
-        ap (λ (y : Reading). after rec out (answer (some (contentsIn rec)) (frame y))) reads ∙ calledLent 3 rec out (frame reading) room Sound sound
+        ap (λ (y : Reading). leftAfter rec out (answer (some (contentsIn rec)) (frame y))) reads ∙ calledLent 3 rec out (frame reading) room Sound sound
 
     -- 'Each gives its number, .. record and output unchanged': the reader's refusal is passed on.
     pub readRefused : (j k : ℕ) → x ≡ Refused j → k ≡ refusalOf x → gave k rec out ≡ frameLeft rec link bytes out
     unfolding answer
     readRefused j k e number =
         ap (λ (i : ℕ). gave i rec out) (number ∙ ap refusalOf e)
-        ∙ ap (λ (y : Reading). after rec out (answer (some (contentsIn rec)) (frame y))) (sym e) ∙ frameAnswered
+        ∙ ap (λ (y : Reading). leftAfter rec out (answer (some (contentsIn rec)) (frame y))) (sym e) ∙ frameAnswered
 
     -- An accepted frame goes on against the record.
     pub readAccepted : (f : Frame) → x ≡ Accepted f → readLeft rec f out ≡ frameLeft rec link bytes out
-    readAccepted f e = ap (λ (y : Reading). after rec out (answer (some (contentsIn rec)) (frame y))) (sym e) ∙ frameAnswered
+    readAccepted f e = ap (λ (y : Reading). leftAfter rec out (answer (some (contentsIn rec)) (frame y))) (sym e) ∙ frameAnswered
 
     -- What `frame_read` asks for: a sound record, and a frame that its reader accepted.
     pub readThen : Bytes rec → Bytes bytes → (f : Frame) → x ≡ Accepted f → Read rec set f

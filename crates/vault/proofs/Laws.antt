@@ -12,7 +12,7 @@ use lib.Dec.{ltb}
 use borrow.Author.Tests.{lt-ltb, le-ltb, ltb-false}
 use Rattle.wire.specs.Fields.{Bytes}
 use Rattle.entry.specs.Layout.{layout}
-use Rattle.layout.specs.Layout.{encodeRecord, decodeRecord}
+use Rattle.record.specs.Layout.{encodeRecord, decodeRecord}
 use Rattle.sound.specs.declared.Lent.{Lent}
 use Rattle.sound.specs.declared.Lent.the-variants.{Blank, Unsound, Sound}
 use Rattle.sound.specs.inside.Sound.{lentIs}
@@ -21,7 +21,7 @@ use Rattle.protocol.specs.Pass.{Out}
 use Rattle.protocol.specs.Calls.{Call, unless, refused, accepted, answer}
 use Rattle.protocol.proofs.Size.{outputShort}
 use Rattle.contents.specs.Contents.{contents, slotted}
-use Rattle.contents.specs.Calls.{after, onLent, called}
+use Rattle.contents.specs.Calls.{leftAfter, onLent, called}
 use Rattle.contents.specs.Left.{wrote, gave}
 use Rattle.contents.proofs.Ready.{readySpells}
 use Rattle.pass.specs.inside.Steps.{Room, Ran}
@@ -31,7 +31,7 @@ use Rattle.vault.specs.inside.Answers.{byLent, wayIn}
 
 -- The bytes that are left are the one spelling of the contents that the call leaves.
 pub acceptedLeft : (o : Out) (rec rec' out out' : List ℕ) (n : ℕ) → Bytes rec' → Ran o 0 out out' n rec'
-    → wrote n rec' out' ≡ after rec out (accepted o)
+    → wrote n rec' out' ≡ leftAfter rec out (accepted o)
 acceptedLeft o rec rec' out out' n bytes ran =
     let held : rec' ≡ encodeRecord (slotted (o .left)) = readySpells (ran .ready) bytes (ran .left) in
     let count : n ≡ length (layout (o .wrote)) = omega (arith, ran .count) in
@@ -45,13 +45,13 @@ acceptedRoom b a o out e room = omega (arith, outputShort b a o e)
 
 module _ (rec out : List ℕ) (o : Out) (k : ℕ) where
   -- A table gives a number: that is the answer, record and output unchanged.
-  pub refusedBy : (j : ℕ) → j ≡ k → (j ≡ 0 → ⊥) → gave j rec out ≡ after rec out (unless k o)
+  pub refusedBy : (j : ℕ) → j ≡ k → (j ≡ 0 → ⊥) → gave j rec out ≡ leftAfter rec out (unless k o)
   refusedBy zero e given = absurd (given refl)
-  refusedBy (suc j) e given = ap (λ (i : ℕ). after rec out (unless i o)) e
+  refusedBy (suc j) e given = ap (λ (i : ℕ). leftAfter rec out (unless i o)) e
 
   -- It gives none: the call is accepted.
-  pub acceptedBy : k ≡ 0 → after rec out (accepted o) ≡ after rec out (unless k o)
-  acceptedBy e = ap (λ (i : ℕ). after rec out (unless i o)) (sym e)
+  pub acceptedBy : k ≡ 0 → leftAfter rec out (accepted o) ≡ leftAfter rec out (unless k o)
+  acceptedBy e = ap (λ (i : ℕ). leftAfter rec out (unless i o)) (sym e)
 
 -- ---- any call: 'output space below 256 bytes' first, then by what the record is
 
@@ -62,7 +62,7 @@ module _ (k : ℕ) (rec out : List ℕ) (a : Call) where
   calledShort low = rw (lt-ltb (length out) 256 low)
 
   -- Else what the record is decides.
-  pub calledLent : 256 ≤ length out → (l : Lent) → lentIs rec ≡ l → after rec out (onLent l k (contents (decodeRecord rec)) a) ≡ called k rec out a
+  pub calledLent : 256 ≤ length out → (l : Lent) → lentIs rec ≡ l → leftAfter rec out (onLent l k (contents (decodeRecord rec)) a) ≡ called k rec out a
   unfolding called
   calledLent room l e = sym (rw (le-ltb (length out) 256 room, e))
 
@@ -86,9 +86,9 @@ module _ (rec out : List ℕ) (k : ℕ) (way : k ≡ wayIn rec (length out)) whe
   wayRefused a blank given = go (ltb (length out) 256) (lentIs rec) way
     where
       go : (b : Bool) (l : Lent) → k ≡ cond b 1 (byLent l)
-          → gave k rec out ≡ cond b (gave 1 rec out) (after rec out (onLent l 3 (contents (decodeRecord rec)) a))
+          → gave k rec out ≡ cond b (gave 1 rec out) (leftAfter rec out (onLent l 3 (contents (decodeRecord rec)) a))
       go true l e = ap (λ (j : ℕ). gave j rec out) e
-      go false Blank e = ap (λ (j : ℕ). gave j rec out) e ∙ ap (after rec out) (sym blank)
+      go false Blank e = ap (λ (j : ℕ). gave j rec out) e ∙ ap (leftAfter rec out) (sym blank)
       go false Unsound e = ap (λ (j : ℕ). gave j rec out) e
       go false Sound e = absurd (given e)
 

@@ -3,6 +3,7 @@
 use entry::Entry;
 use frame::Frame;
 use frame::Reading;
+use frame::numbers;
 use settings::Settings;
 use sound::Lent;
 ghost use Prim.Native.Nat.{_≤_, _<_};
@@ -11,8 +12,8 @@ ghost use lib.ListN.{length};
 ghost use Rattle.frame.specs.Refusal.{first};
 ghost use Rattle.settings.specs.Settings.{settingRows};
 ghost use Rattle.record.specs.Slots.{rows};
-ghost use Rattle.layout.specs.Layout.{decodeRecord};
-ghost use Rattle.layout.specs.Size.{recordSize};
+ghost use Rattle.record.specs.Layout.{decodeRecord};
+ghost use Rattle.record.specs.Size.{recordSize};
 ghost use Rattle.sound.specs.declared.Lent.the-variants.{Sound};
 ghost use Rattle.sound.specs.inside.Sound.{lentIs};
 ghost use Rattle.protocol.specs.Record.{changeOf};
@@ -32,25 +33,8 @@ pub enum Answer {
 // The output space that every call asks for.
 const ROOM: usize = 256;
 
-// The refusals that are given here, by number: output space below 256 bytes, a blank record, one that is not sound, start on a record
-// that is not blank, a timer for another view, a timer in the last view.
-const SHORT: u8 = 1;
-
-const BLANK: u8 = 2;
-
-const UNSOUND: u8 = 3;
-
-const STARTED: u8 = 4;
-
-const OTHER_VIEW: u8 = 18;
-
-const NO_VIEW: u8 = 19;
-
 // The last view that there is.
 const LAST: u32 = 4294967295;
-
-// A vault's own view-change stands in the row of this kind.
-const VIEW_CHANGE: u8 = 6;
 
 // Where a pass begins: with A, or after a start with C.
 const FROM_A: u8 = 0;
@@ -64,7 +48,7 @@ fn begin(rec: &mut [u8], set: Settings, plan: u64, out: &mut [u8]) -> usize
     requires { ⌜ (length (now rec) ≡ recordSize) × (first (settingRows set) ≡ 0) × (256 ≤ length (now out)) ⌝ }
     ensures { λ n. ⌜ Ran (started set plan) 0 (now (out .entry)) (now (out .exit)) n (now (rec .exit)) ⌝ }
 {
-    layout::put_fresh(rec, set, plan);
+    record::put_fresh(rec, set, plan);
     let millis = settings::timer_millis(set.class);
     let at = entry::put_entry(out, 0, Entry::Timer { view: 0, millis });
     pass::pass_from(rec, set, FROM_C, out, at)
@@ -75,14 +59,14 @@ pub fn start(rec: &mut [u8], set: Settings, plan: u64, out: &mut [u8]) -> Answer
     ensures { λ r. ⌜ leftBy r (now (rec .exit)) (now (out .exit)) ≡ startLeft (now (rec .entry)) set plan (now (out .entry)) ⌝ }
 {
     if out.len() < ROOM {
-        return Answer::Refused(SHORT);
+        return Answer::Refused(numbers::REFUSED_OUTPUT);
     }
-    if rec.len() != layout::SIZE {
-        return Answer::Refused(STARTED);
+    if rec.len() != record::SIZE {
+        return Answer::Refused(numbers::REFUSED_STARTED);
     }
-    let held = layout::settings_of(rec);
+    let held = record::settings_of(rec);
     if held.n != 0 {
-        return Answer::Refused(STARTED);
+        return Answer::Refused(numbers::REFUSED_STARTED);
     }
     let why = settings::settings_refusal(set);
     if why != 0 {
@@ -99,12 +83,12 @@ fn way_in(rec: &[u8], room: usize) -> u8
     ensures { λ k. ⌜ k ≡ wayIn (now (rec .entry)) room ⌝ }
 {
     if room < ROOM {
-        return SHORT;
+        return numbers::REFUSED_OUTPUT;
     }
     let lent = sound::classify(rec);
     match lent {
-        Lent::Blank => BLANK,
-        Lent::Unsound => UNSOUND,
+        Lent::Blank => numbers::REFUSED_BLANK,
+        Lent::Unsound => numbers::REFUSED_UNSOUND,
         Lent::Sound => 0,
     }
 }
@@ -116,7 +100,7 @@ fn hear(rec: &mut [u8], set: Settings, f: Frame, out: &mut [u8]) -> usize
     requires { ⌜ Read (now rec) set f × (first (recordRows (contentsIn (now rec)) f) ≡ 0) × (256 ≤ length (now out)) ⌝ }
     ensures { λ n. ⌜ Ran (heard (contentsIn (now (rec .entry))) f) 0 (now (out .entry)) (now (out .exit)) n (now (rec .exit)) ⌝ }
 {
-    keeping::keep(rec, f.sender, f);
+    record::keeping::keep(rec, f.sender, f);
     pass::pass_from(rec, set, FROM_A, out, 0)
 }
 
@@ -125,8 +109,8 @@ fn frame_read(rec: &mut [u8], set: Settings, f: Frame, out: &mut [u8]) -> Answer
     requires { ⌜ Read (now rec) set f × (256 ≤ length (now out)) ⌝ }
     ensures { λ a. ⌜ leftBy a (now (rec .exit)) (now (out .exit)) ≡ readLeft (now (rec .entry)) f (now (out .entry)) ⌝ }
 {
-    let view = layout::view_of(rec);
-    let why = keeping::keep_refusal(rec, view, f.sender, f.kind, f.view);
+    let view = record::view_of(rec);
+    let why = record::keeping::keep_refusal(rec, view, f.sender, f.kind, f.view);
     if why != 0 {
         return Answer::Refused(why);
     }
@@ -139,8 +123,8 @@ fn frame_in(rec: &mut [u8], sender: u8, bytes: &[u8], out: &mut [u8]) -> Answer
     requires { ⌜ (lentIs (now rec) ≡ Sound) × (256 ≤ length (now out)) ⌝ }
     ensures { λ a. ⌜ leftBy a (now (rec .exit)) (now (out .exit)) ≡ frameLeft (now (rec .entry)) sender (now (bytes .entry)) (now (out .entry)) ⌝ }
 {
-    let set = layout::settings_of(rec);
-    let got = reader::read(bytes, sender, set.n, set.id);
+    let set = record::settings_of(rec);
+    let got = frame::reader::read(bytes, sender, set.n, set.id);
     let Reading::Accepted(f) = got else {
         return Answer::Refused(frame::refusal_of(got));
     };
@@ -165,10 +149,10 @@ fn timer_refusal(current: u32, view: u32) -> u8
     ensures { λ k. ⌜ TimerGives current view k ⌝ }
 {
     if view != current {
-        return OTHER_VIEW;
+        return numbers::REFUSED_TIMER;
     }
     if current == LAST {
-        return NO_VIEW;
+        return numbers::REFUSED_LAST_VIEW;
     }
     0
 }
@@ -178,8 +162,8 @@ fn wanted_view(rec: &[u8], id: u8, view: u32) -> u32
     requires { ⌜ (length (now rec) ≡ recordSize) × (id < rows) × (view < 4294967295) ⌝ }
     ensures { λ w. ⌜ w ≡ wantedFrom view (changeOf (contentsIn (now (rec .entry))) id) ⌝ }
 {
-    let at = layout::frame_slot(VIEW_CHANGE, id);
-    let own = layout::slot_of(rec, at);
+    let at = record::frame_slot(numbers::VIEW_CHANGE, id);
+    let own = record::slot_of(rec, at);
     if own.mark != 1 {
         return view + 1;
     }
@@ -190,7 +174,7 @@ fn wanted_view(rec: &[u8], id: u8, view: u32) -> u32
 }
 
 // A view is asked for; then one pass from A.
-fn ring(rec: &mut [u8], set: Settings, view: u32, out: &mut [u8]) -> usize
+fn time_out(rec: &mut [u8], set: Settings, view: u32, out: &mut [u8]) -> usize
     requires { ⌜ Held (now rec) set × (view ≡ decodeRecord (now rec) .view) × (view < 4294967295) × (256 ≤ length (now out)) ⌝ }
     ensures { λ n. ⌜ Ran (timedOut (contentsIn (now (rec .entry)))) 0 (now (out .entry)) (now (out .exit)) n (now (rec .exit)) ⌝ }
 {
@@ -204,14 +188,14 @@ fn timer_in(rec: &mut [u8], view: u32, out: &mut [u8]) -> Answer
     requires { ⌜ (lentIs (now rec) ≡ Sound) × (256 ≤ length (now out)) ⌝ }
     ensures { λ r. ⌜ leftBy r (now (rec .exit)) (now (out .exit)) ≡ timerLeft (now (rec .entry)) view (now (out .entry)) ⌝ }
 {
-    let current = layout::view_of(rec);
+    let current = record::view_of(rec);
     let why = timer_refusal(current, view);
     if why != 0 {
         return Answer::Refused(why);
     }
-    let set = layout::settings_of(rec);
-    let timedOut = ring(rec, set, current, out);
-    Answer::Written(timedOut)
+    let set = record::settings_of(rec);
+    let count = time_out(rec, set, current, out);
+    Answer::Written(count)
 }
 
 // Timer, for the view that the host names.

@@ -6,8 +6,8 @@ use mathlib.Core.List.{List, [], _∷_}
 use native.Mathlib.Omega.{arith}
 use borrow.Author.Tests.{lt-ltb, le-ltb}
 use lib.ListN.{length, set}
-use Rattle.stored.specs.declared.Current.{Current}
-use Rattle.stored.specs.declared.Decision.{Decision}
+use Rattle.questions.specs.declared.Current.{Current}
+use Rattle.questions.specs.declared.Decision.{Decision}
 use Rattle.vault_c.specs.Asked.{Told, told, two, tellCurrent, tellDecision, withRoom}
 
 -- There is no room for two numbers.
@@ -20,11 +20,11 @@ room : (out : List ℕ) (t : Told) → 2 ≤ length out → t ≡ withRoom out t
 unfolding withRoom
 room out t h = rw (le-ltb (length out) 2 h) refl
 
--- With room, the host is told what crate stored answers on the current view.
+-- With room, the host is told what crate questions answers on the current view.
 pub currentTold : (out : List ℕ) (t : Told) (x y : Current) → 2 ≤ length out → x ≡ y → t ≡ tellCurrent x out → t ≡ withRoom out (tellCurrent y out)
 currentTold out t x y h same is = is ∙ ap (λ (z : Current). tellCurrent z out) same ∙ room out (tellCurrent y out) h
 
--- With room, the host is told what crate stored answers on the decision.
+-- With room, the host is told what crate questions answers on the decision.
 pub decisionTold : (out : List ℕ) (t : Told) (x y : Decision) → 2 ≤ length out → x ≡ y → t ≡ tellDecision x out → t ≡ withRoom out (tellDecision y out)
 decisionTold out t x y h same is = is ∙ ap (λ (z : Decision). tellDecision z out) same ∙ room out (tellDecision y out) h
 

@@ -10,7 +10,7 @@ use native.Mathlib.Omega.{arith}
 use lib.Dec.{ltb}
 use lib.ListN.{length}
 use Rattle.settings.specs.declared.Settings.{Settings}
-use Rattle.layout.specs.Layout.{decodeRecord}
+use Rattle.record.specs.Layout.{decodeRecord}
 use Rattle.sound.specs.declared.Lent.{Lent}
 use Rattle.sound.specs.declared.Lent.the-variants.{Blank, Unsound, Sound}
 use Rattle.sound.specs.inside.Sound.{lentIs}
@@ -25,7 +25,7 @@ use Rattle.vault_c.specs.inside.Numbers.{code, Short}
 use Rattle.vault_c.specs.Numbers.{seen, numbered}
 use Rattle.vault_c.proofs.Refusals.{Refusal, Named, Brings, readNamed, answerNamed}
 use Rattle.contents.specs.Contents.{contents}
-use Rattle.contents.specs.Calls.{after, onLent, called, startLeft, frameLeft, timerLeft}
+use Rattle.contents.specs.Calls.{leftAfter, onLent, called, startLeft, frameLeft, timerLeft}
 use Rattle.contents.specs.Left.{Left, wrote, gave}
 
 -- What a call leaves is small: at most 205 bytes written, or a refusal's number.
@@ -35,15 +35,15 @@ Small (gave number rec out) = Refusal number
 
 module _ (rec out : List ℕ) (a : Call) (brings : Brings a) where
   -- By contents every call leaves so little.
-  smallAfter : (b : Option Record) → Small (after rec out (answer b a))
+  smallAfter : (b : Option Record) → Small (leftAfter rec out (answer b a))
   smallAfter b = go (answer b a) refl (answerNamed b a brings)
     where
-      go : (u : Answer) → answer b a ≡ u → Named u → Small (after rec out u)
+      go : (u : Answer) → answer b a ≡ u → Named u → Small (leftAfter rec out u)
       go (refused k) e named = named
       go (accepted o) e named = outputShort b a o e
 
   -- So it does on a lent record, whatever that is.
-  smallLent : (l : Lent) (k : ℕ) (r : Record) → Refusal k → Small (after rec out (onLent l k r a))
+  smallLent : (l : Lent) (k : ℕ) (r : Record) → Refusal k → Small (leftAfter rec out (onLent l k r a))
   smallLent Blank k r named = smallAfter none
   smallLent Unsound k r named = named
   smallLent Sound k r named = smallAfter (some r)
@@ -53,7 +53,7 @@ module _ (rec out : List ℕ) (a : Call) (brings : Brings a) where
   unfolding called
   smallCalled k named = go (ltb (length out) 256)
     where
-      go : (b : Bool) → Small (cond b (gave 1 rec out) (after rec out (onLent (lentIs rec) k (contents (decodeRecord rec)) a)))
+      go : (b : Bool) → Small (cond b (gave 1 rec out) (leftAfter rec out (onLent (lentIs rec) k (contents (decodeRecord rec)) a)))
       go true = omega arith
       go false = smallLent (lentIs rec) k (contents (decodeRecord rec)) named
 

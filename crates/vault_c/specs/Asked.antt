@@ -5,10 +5,10 @@ use mathlib.Core.Bool.{cond}
 use mathlib.Core.List.{List, _∷_}
 use lib.Dec.{ltb}
 use lib.ListN.{length, drop}
-use Rattle.stored.specs.declared.Current.{Current}
-use Rattle.stored.specs.declared.Current.the-variants as current
-use Rattle.stored.specs.declared.Decision.{Decision}
-use Rattle.stored.specs.declared.Decision.the-variants as decision
+use Rattle.questions.specs.declared.Current.{Current}
+use Rattle.questions.specs.declared.Current.the-variants as current
+use Rattle.questions.specs.declared.Decision.{Decision}
+use Rattle.questions.specs.declared.Decision.the-variants as decision
 
 -- The version of the library, major * 10000 + minor * 100 + patch: VAULT_VERSION of include/vault.h.
 abbrev pub version : ℕ
@@ -21,7 +21,7 @@ pub data Told : Type 0 where
 abbrev pub two : ℕ → ℕ → List ℕ → List ℕ
 two view number out = view ∷ number ∷ drop 2 out
 
--- "Each gives its number, .. output unchanged"; 256 for an answer: here the view and the milliseconds of its timer.
+-- 'Each gives its number, .. output unchanged'; 256 for an answer: here the view and the milliseconds of its timer.
 abbrev pub tellCurrent : Current → List ℕ → Told
 tellCurrent (current.Entered view millis) out = told 256 (two view millis out)
 tellCurrent (current.Refused number) out = told number out

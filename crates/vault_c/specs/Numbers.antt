@@ -8,7 +8,7 @@ use Rattle.contents.specs.Left.{Left, wrote, gave}
 pub data Seen : Type 0 where
   seen : ℕ → List ℕ → List ℕ → Seen
 
--- "Each gives its number"; "Accepted calls return the byte count written", here above 256.
+-- 'Each gives its number'; 'Accepted calls return the byte count written', here above 256.
 abbrev pub numbered : Left → Seen
 numbered (wrote count rec out) = seen (256 + count) rec out
 numbered (gave number rec out) = seen number rec out

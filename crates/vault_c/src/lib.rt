@@ -2,17 +2,17 @@
 // help with entries and refusals (include/vault.h).
 ghost use mathlib.Core.Path.{_≡_};
 ghost use lib.ListN.{length, drop};
-ghost use Rattle.layout.specs.Size.{recordSize};
+ghost use Rattle.record.specs.Size.{recordSize};
 ghost use Rattle.contents.specs.Calls.{startLeft, frameLeft, timerLeft};
-ghost use Rattle.stored.specs.Stored.{currentOf, decisionOf};
-ghost use Rattle.entries.specs.Walk.{sizeIn};
-ghost use Rattle.texts.specs.Texts.{sentenceOf, fitting, Written};
+ghost use Rattle.questions.specs.Stored.{currentOf, decisionOf};
+ghost use Rattle.entry.specs.Walk.{sizeIn};
+ghost use Rattle.questions.specs.Texts.{sentenceOf, fitting, Written};
 ghost use Rattle.vault_c.specs.inside.Numbers.{code, Short};
 ghost use Rattle.vault_c.specs.Numbers.{seen, numbered};
 ghost use Rattle.vault_c.specs.Asked.{version, told, tellCurrent, tellDecision, withRoom};
+use questions::Current;
+use questions::Decision;
 use settings::Settings;
-use stored::Current;
-use stored::Decision;
 use vault::Answer;
 
 // What a call that is accepted gives, less the bytes that it wrote.
@@ -22,7 +22,7 @@ const ACCEPTED: u32 = 256;
 const DECIDED: u32 = 257;
 
 // The refusal where the host lent too little room.
-const SHORT: u32 = 1;
+const SHORT: u32 = frame::numbers::REFUSED_OUTPUT as u32;
 
 // Major * 10000 + minor * 100 + patch.
 const VERSION: u32 = 10000;
@@ -51,7 +51,7 @@ pub extern "C" fn vault_version() -> u32
 pub extern "C" fn vault_record_size() -> u32
     ensures { λ r. ⌜ r ≡ recordSize ⌝ }
 {
-    layout::SIZE as u32
+    record::SIZE as u32
 }
 
 // Starts the vault of a blank record.
@@ -97,7 +97,7 @@ pub extern "C" fn vault_current(rec: &[u8], out: &mut [u32]) -> u32
     if out.len() < 2 {
         return SHORT;
     }
-    let current = stored::current_of(rec);
+    let current = questions::current_of(rec);
     match current {
         Current::Entered { view, millis } => {
             out[0] = view;
@@ -116,7 +116,7 @@ pub extern "C" fn vault_decision(rec: &[u8], out: &mut [u64]) -> u32
     if out.len() < 2 {
         return SHORT;
     }
-    let decision = stored::decision_of(rec);
+    let decision = questions::decision_of(rec);
     match decision {
         Decision::Made { view, plan } => {
             out[0] = view as u64;
@@ -133,7 +133,7 @@ pub extern "C" fn vault_decision(rec: &[u8], out: &mut [u64]) -> u32
 pub extern "C" fn vault_entry(out: &[u8], at: usize) -> u32
     ensures { λ r. ⌜ r ≡ sizeIn (drop at (now (out .entry))) ⌝ }
 {
-    let size = entries::size_from(out, at);
+    let size = entry::size_from(out, at);
     size as u32
 }
 
@@ -142,6 +142,6 @@ pub extern "C" fn vault_entry(out: &[u8], at: usize) -> u32
 pub extern "C" fn vault_refusal_text(number: u32, out: &mut [u8]) -> u32
     ensures { λ r. ⌜ Written (fitting (sentenceOf number) (length (now (out .entry)))) (now (out .entry)) (now (out .exit)) r ⌝ }
 {
-    let count = texts::refusal_text(number, out);
+    let count = questions::refusal_text(number, out);
     count as u32
 }

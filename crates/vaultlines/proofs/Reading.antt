@@ -9,7 +9,7 @@ use Rattle.lines.specs.Steps.{Fed, first, andThen}
 use Rattle.lines.proofs.Taking.{takeShort}
 use Rattle.answers.specs.Lines.{vaultLines}
 use Rattle.answers.specs.Lines.{keptSize}
-use Rattle.pieces.specs.inside.Sizes.{pieceSize}
+use Rattle.answers.specs.inside.Sizes.{pieceSize}
 use Rattle.vaultlines.specs.declared.Ended.{Ended}
 use Rattle.vaultlines.specs.declared.Ended.the-variants.{Dry}
 use Rattle.vaultlines.specs.inside.Reading.{EndedWell}

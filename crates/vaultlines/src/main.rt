@@ -7,7 +7,7 @@ ghost use mathlib.Core.Path.{_≡_};
 ghost use Prim.Native.Nat.{_≤_};
 ghost use lib.ListN.{length};
 ghost use Rattle.answers.specs.Lines.{keptSize};
-ghost use Rattle.pieces.specs.inside.Sizes.{pageSize};
+ghost use Rattle.answers.specs.inside.Sizes.{pageSize};
 ghost use Rattle.vaultlines.specs.inside.Reading.{EndedWell};
 
 // Writes out what is on the page.
@@ -29,7 +29,7 @@ fn read_all(rec: &mut [u8], text: &mut [u8], page: &mut [u8]) -> Ended
     requires { ⌜ (length (now text) ≡ keptSize) × (length (now page) ≡ pageSize) ⌝ }
     ensures { λ e. ⌜ EndedWell (now (rec .entry)) e (now (rec .exit)) (now (text .exit)) ⌝ }
 {
-    let mut piece = [0u8; pieces::PIECE];
+    let mut piece = [0u8; answers::PIECE];
     let mut len = 0;
     let mut turns = u64::MAX;
     while turns > 0 {
@@ -41,7 +41,7 @@ fn read_all(rec: &mut [u8], text: &mut [u8], page: &mut [u8]) -> Ended
             return Ended::Dry(len);
         }
         let count = io::count(got, &piece);
-        let place = pieces::feed(rec, text, len, page, &piece[0..count]);
+        let place = answers::feed(rec, text, len, page, &piece[0..count]);
         flush(page, place.at);
         len = place.len;
         turns -= 1;
@@ -57,13 +57,13 @@ fn run(rec: &mut [u8], text: &mut [u8], page: &mut [u8])
     let Ended::Dry(len) = ended else {
         return;
     };
-    let at = pieces::finish(rec, text, len, page);
+    let at = answers::finish(rec, text, len, page);
     flush(page, at);
 }
 
 fn main() {
-    let mut rec = [0u8; layout::SIZE];
-    let mut text = [0u8; pieces::KEPT];
-    let mut page = [0u8; pieces::PAGE];
+    let mut rec = [0u8; record::SIZE];
+    let mut text = [0u8; answers::KEPT];
+    let mut page = [0u8; answers::PAGE];
     run(&mut rec, &mut text, &mut page);
 }

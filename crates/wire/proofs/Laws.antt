@@ -1,4 +1,4 @@
--- Laws of digits, numbers and fields. "Numbers are big-endian" (01, Frames) holds for one byte, four and eight alike, so each
+-- Laws of digits, numbers and fields. 'Numbers are big-endian' (01, Frames) holds for one byte, four and eight alike, so each
 -- law is over the width, by induction: one more byte is one more digit to the base 256. Spelling a number and reading it back
 -- gives the number (`numberDigits`); reading bytes and spelling the number gives the bytes (`digitsNumber`); both carry over
 -- to a list of fields (`readFields`, `spellRead`).
@@ -15,7 +15,7 @@ use lib.Seq.{getD-at, take-add, take-suc, drop-drop, getD-drop, take-all}
 use Rattle.wire.specs.Digits.{numberAt, digits}
 use Rattle.wire.specs.inside.Reversed.{Reversed}
 use Rattle.wire.specs.Fields.{Field, field, spell, Sized, Bytes}
-use Rattle.wire.specs.inside.Widths.{widths, total, fieldsAt}
+use Rattle.wire.specs.inside.Widths.{widths, totalWidth, fieldsAt}
 
 -- a number is spelt in just as many bytes as its width
 pub lengthDigits : (w n : ℕ) → length (digits w n) ≡ w
@@ -61,7 +61,7 @@ digitsNumber (suc w) s at b h =
     rw (digits-div m (b (at + w)), digits-mod m (b (at + w)), digitsNumber w s at b (omega arith), take-suc (drop at s) w 0 inside, getD-drop)
 
 -- fields take as many bytes as their widths add up to
-pub lengthSpell : (fs : List Field) → length (spell fs) ≡ total (widths fs)
+pub lengthSpell : (fs : List Field) → length (spell fs) ≡ totalWidth (widths fs)
 lengthSpell [] = refl
 lengthSpell (field w v ∷ fs) = rw (length-append, lengthDigits, lengthSpell fs)
 
@@ -76,7 +76,7 @@ fieldsSpell (field w v ∷ fs) p t h =
     rw (e, numberDigits w v p (spell fs ++ t) (h .0), rest)
 
 -- fields that have been read anywhere in some bytes are spelt as they stood
-pub spellFields : (ws s : List ℕ) (at : ℕ) → Bytes s → at + total ws ≤ length s → spell (fieldsAt ws s at) ≡ take (total ws) (drop at s)
+pub spellFields : (ws s : List ℕ) (at : ℕ) → Bytes s → at + totalWidth ws ≤ length s → spell (fieldsAt ws s at) ≡ take (totalWidth ws) (drop at s)
 spellFields [] s at b h = refl
 spellFields (w ∷ ws) s at b h =
     rw (digitsNumber w s at b (omega arith), spellFields ws s (at + w) b (omega arith), take-add, drop-drop)
@@ -91,8 +91,8 @@ pub readFields : (fs : List Field) → Sized fs → fieldsAt (widths fs) (spell 
 readFields fs h = rw append-nil at (fieldsSpell fs [] [] h)
 
 -- a whole string of bytes that has been read is spelt as it stood
-pub spellRead : (ws s : List ℕ) → Bytes s → length s ≡ total ws → spell (fieldsAt ws s 0) ≡ s
-spellRead ws s b e = spellFields ws s 0 b (omega arith) ∙ take-all (total ws) s (omega arith)
+pub spellRead : (ws s : List ℕ) → Bytes s → length s ≡ totalWidth ws → spell (fieldsAt ws s 0) ≡ s
+spellRead ws s b e = spellFields ws s 0 b (omega arith) ∙ take-all (totalWidth ws) s (omega arith)
 
 -- two lists of fields one after the other are spelt end to end
 pub spellAppend : (fs gs : List Field) → spell (fs ++ gs) ≡ spell fs ++ spell gs

@@ -1,4 +1,4 @@
--- Laws of output: "Entries lie end to end" and "bytes beyond it keep their contents" (01, Refusals). Bytes put at a place and
+-- Laws of output: 'Entries lie end to end' and 'bytes beyond it keep their contents' (01, Refusals). Bytes put at a place and
 -- more put where they end are the two pieces put at once (`placedMore`); a rest of the output that was lent, written at its
 -- start and given back, is the output written at that place (`placedLent`). All hold because the bytes before a place, at it and
 -- beyond it are three parts of one list.
@@ -13,7 +13,7 @@ use lib.ListN.{length, take, drop, set, length-append, length-drop, take-append-
 use lib.Seq.{sets, set-comm, set-split, length-take-le, length-sets, take-all, take-at, drop-at, drop-drop, sets-eq}
 use Rattle.wire.specs.Digits.{digits}
 use Rattle.wire.specs.Fields.{Field, field, spell}
-use Rattle.wire.specs.inside.Widths.{widths, total}
+use Rattle.wire.specs.inside.Widths.{widths, totalWidth}
 use Rattle.wire.specs.Placed.{placed}
 use Rattle.wire.proofs.Laws.{lengthDigits, lengthSpell, spellAppend}
 
@@ -71,17 +71,17 @@ puts o at [] = o
 puts o at (field w v ∷ fs) = puts (placed o at (digits w v)) (at + w) fs
 
 -- fields put one after the other are their spelling put at once
-pub putsSpell : (fs : List Field) (o : List ℕ) (at : ℕ) → at + total (widths fs) ≤ length o → puts o at fs ≡ placed o at (spell fs)
+pub putsSpell : (fs : List Field) (o : List ℕ) (at : ℕ) → at + totalWidth (widths fs) ≤ length o → puts o at fs ≡ placed o at (spell fs)
 putsSpell [] o at h = sym (placedNone o at)
 putsSpell (field w v ∷ fs) o at h =
     let room : at + length (digits w v) ≤ length o = rw lengthDigits (omega arith) in
-    let left : at + w + total (widths fs) ≤ length (placed o at (digits w v)) = rw (lengthPlaced o at (digits w v) room) (omega arith) in
+    let left : at + w + totalWidth (widths fs) ≤ length (placed o at (digits w v)) = rw (lengthPlaced o at (digits w v) room) (omega arith) in
     putsSpell fs (placed o at (digits w v)) (at + w) left
     ∙ (ap (λ (n : ℕ). placed (placed o at (digits w v)) (at + n) (spell fs)) (sym (lengthDigits w v)) ∙ placedMore o at (digits w v) (spell fs) (omega arith))
 
 -- fields put in two parts
 pub placedSpell : (fs gs : List Field) (o : List ℕ) (at : ℕ) → at ≤ length o
-    → placed (placed o at (spell fs)) (at + total (widths fs)) (spell gs) ≡ placed o at (spell (fs ++ gs))
+    → placed (placed o at (spell fs)) (at + totalWidth (widths fs)) (spell gs) ≡ placed o at (spell (fs ++ gs))
 placedSpell fs gs o at h = rw (spellAppend, ← lengthSpell fs) (placedMore o at (spell fs) (spell gs) h)
 
 -- the last of a run of stores can be made first

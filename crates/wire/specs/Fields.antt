@@ -5,7 +5,7 @@ use mathlib.Core.List.{List, [], _∷_, _++_}
 use lib.ListN.{getD}
 use Rattle.wire.specs.Digits.{digits}
 
--- A number and the count of bytes that it is written in: "plan, 8 bytes" is `field 8 plan`.
+-- A number and the count of bytes that it is written in: 'plan, 8 bytes' is `field 8 plan`.
 pub data Field : Type 0 where
   field : ℕ → ℕ → Field
 

@@ -3,7 +3,7 @@
 use Prim.Native.Nat.{_+_, _-_, _≤_}
 use mathlib.Core.Path.{_≡_, _∙_}
 use Rattle.acts.specs.inside.Acts.{actAt}
-use Rattle.acts.specs.inside.Lent.{Lent}
+use Rattle.acts.specs.inside.Lent.{LentRecord}
 use Rattle.acts.proofs.Parts.{lent}
 use Rattle.acts.proofs.Numbers.{actVotes, numbered}
 use borrow.Author.Needs.{needs}
@@ -12,7 +12,7 @@ use Rattle.acts.proofs.act_at.Statement.{statement}
 use Rattle.acts.proofs.act_at.Tie as tie
 
 -- The record that the step is lent.
-here : (e : tie.Start) → Lent (e .args .rec .now) (e .args .set) (e .args .view)
+here : (e : tie.Start) → LentRecord (e .args .rec .now) (e .args .set) (e .args .view)
 here e = lent (e .args .rec .now) (e .args .set) (e .args .view) (e .pre .0) (e .pre .1) (e .pre .2)
 
 act-a-requires : tie.Need-act-a-requires

@@ -8,9 +8,9 @@ use Rattle.settings.specs.declared.Settings.{Settings}
 use Rattle.settings.specs.inside.Allowed.{Allowed}
 use Rattle.record.specs.Slots as slots
 use Rattle.record.specs.Slots.{rows, slotCount, slotOf}
-use Rattle.layout.specs.Layout.{sharedSize, partPlace, slotIn, decodeRecord}
-use Rattle.layout.specs.Size.{recordSize}
-use Rattle.layout.specs.inside.Layout.{blockSize}
+use Rattle.record.specs.Layout.{sharedSize, partPlace, slotIn, decodeRecord}
+use Rattle.record.specs.Size.{recordSize}
+use Rattle.record.specs.inside.Layout.{blockSize}
 use Rattle.protocol.specs.Sound.{Sound}
 use Rattle.contents.specs.Contents.{contents, contentsIn}
 use Rattle.tally.specs.inside.Parts.{sharedPart, blockPart, blockPlace}
@@ -27,5 +27,5 @@ pub record Reads (s : List ℕ) (r : slots.Record) : Type 0 where
   pub spelt : contents r ≡ contentsIn s
 
 -- The bytes, with the settings and the view that they spell.
-abbrev pub Lent : List ℕ → Settings → ℕ → Type 0
-Lent s set view = Reads s (record { set = set; view = view; plan = decodeRecord s .plan; slots = decodeRecord s .slots })
+abbrev pub LentRecord : List ℕ → Settings → ℕ → Type 0
+LentRecord s set view = Reads s (record { set = set; view = view; plan = decodeRecord s .plan; slots = decodeRecord s .slots })

@@ -18,10 +18,10 @@ abbrev pub approvedBy : Record → ℕ → Bool
 approvedBy c p = safe rule3 (vaults c) (reportsOf c rule3) (c .view) p
 
 -- 'Reports are those in kept suggests (Rule 1) or proofs (Rule 3) of view v', for the current view: by the kind of frame.
-abbrev pub reportsIn : Record → ℕ → Reports
-reportsIn c kind j = each (c .kept kind j) (λ f. when (eqb (f .view) (c .view)) (reportBy (f .body)))
+abbrev pub reportsNow : Record → ℕ → Reports
+reportsNow c kind j = each (c .kept kind j) (λ f. when (eqb (f .view) (c .view)) (reportBy (f .body)))
 
 -- By suggests (kind 7): p if that is safe by Rule 1, else the smallest safe plan. By proofs (kind 8): p if that is safe by Rule 3.
 unfoldable pub safePlan : Record → ℕ → ℕ → Option ℕ
 safePlan c kind p =
-    cond (eqb kind 7) (choice (vaults c) (reportsIn c kind) (c .view) p) (cond (safe rule3 (vaults c) (reportsIn c kind) (c .view) p) (some p) none)
+    cond (eqb kind 7) (choice (vaults c) (reportsNow c kind) (c .view) p) (cond (safe rule3 (vaults c) (reportsNow c kind) (c .view) p) (some p) none)

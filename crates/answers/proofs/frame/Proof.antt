@@ -1,4 +1,4 @@
--- `answers::frame` meets its contract: "other lines are frames whose byte 1 is also the link's sender".
+-- `answers::frame` meets its contract: 'other lines are frames whose byte 1 is also the link's sender'.
 -- Assumes nothing.
 use denote.Ref.{now}
 use borrow.Author.Needs.{needs}

@@ -1,4 +1,4 @@
--- `answers::put_answer` meets its contract: "one output entry a line, or fd and the refusal number as one byte".
+-- `answers::put_answer` meets its contract: 'one output entry a line, or fd and the refusal number as one byte'.
 -- Assumes nothing.
 use denote.Ref.{now}
 use borrow.Author.Needs.{needs}

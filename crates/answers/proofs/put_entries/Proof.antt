@@ -1,4 +1,4 @@
--- `answers::put_entries` meets its contract: "one output entry a line". The invariant is `PutTo`; the measure is what is left of the
+-- `answers::put_entries` meets its contract: 'one output entry a line'. The invariant is `PutTo`; the measure is what is left of the
 -- bytes. A line of k bytes has 2k + 1 digits, at most 3k.
 -- Assumes nothing.
 use Prim.Native.Nat.{_-_}

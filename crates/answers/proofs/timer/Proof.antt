@@ -1,4 +1,4 @@
--- `answers::timer` meets its contract: "kind 09 is a timer (view; 5 bytes)".
+-- `answers::timer` meets its contract: 'kind 09 is a timer (view; 5 bytes)'.
 -- Assumes nothing.
 use native.Mathlib.Omega.{arith}
 use denote.Ref.{now}

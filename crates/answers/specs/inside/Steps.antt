@@ -27,13 +27,13 @@ abbrev pub lineShare : ℕ
 lineShare = 70
 
 -- 'Entries lie end to end': some bytes are entries, and nothing besides.
-pub record Laid (s : List ℕ) : Type 0 where
+pub record LaidOut (s : List ℕ) : Type 0 where
   pub valid : AllValid (entriesOf s)
   pub entries : layout (entriesOf s) ≡ s
 
 -- An answer whose written bytes are entries.
 abbrev pub Printable : Answer → List ℕ → Type 0
-Printable (Written count) out = (count ≤ outputSize) × (length out ≡ outputSize) × Laid (take count out)
+Printable (Written count) out = (count ≤ outputSize) × (length out ≡ outputSize) × LaidOut (take count out)
 Printable (Refused number) out = Unit {0}
 
 -- What a call left, put on the page: the record's bytes afterwards, and what is printed.

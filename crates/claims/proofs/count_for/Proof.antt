@@ -9,7 +9,7 @@ use lib.ListN.{getD}
 use borrow.Author.Needs.{needs}
 use Rattle.claims.proofs.Rows.{countNone, countStep}
 use Rattle.claims.specs.inside.Rows.{countOf}
-use Rattle.quorum.proofs.Laws.{shareMost}
+use Rattle.rules.proofs.Quorums.{shareMost}
 use Rattle.claims.proofs.count_for.Statement.{statement}
 use Rattle.claims.proofs.count_for.Tie as tie
 

@@ -6,8 +6,8 @@ use mathlib.Core.Path.{_≡_, sym, _∙_, ap}
 use native.Mathlib.Omega.{arith}
 use borrow.Author.Needs.{needs}
 use Rattle.claims.specs.inside.Spans.{covering}
-use Rattle.quorum.proofs.Laws.{weighNone, weighStep, shareMost}
-use Rattle.quorum.specs.Sets.{weigh}
+use Rattle.rules.proofs.Quorums.{weighNone, weighStep, shareMost}
+use Rattle.rules.specs.Sets.{weigh}
 use Rattle.claims.proofs.locks_above.Statement.{statement}
 use Rattle.claims.proofs.locks_above.Tie as tie
 

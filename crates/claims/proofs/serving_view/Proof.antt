@@ -12,7 +12,7 @@ use lib.ListN.{getD}
 use Rattle.claims.proofs.Rows.{countNone, countStep, rowFits, Below, walkOver, walked}
 use Rattle.claims.specs.inside.Rows.{countOf, claimedIn, endOf, servingView}
 use Rattle.claims.specs.Table.{column}
-use Rattle.quorum.proofs.Laws.{shareMost}
+use Rattle.rules.proofs.Quorums.{shareMost}
 use Rattle.claims.proofs.serving_view.Statement.{statement}
 use Rattle.claims.proofs.serving_view.Tie as tie
 

@@ -6,7 +6,7 @@ use mathlib.Core.Bool.{Bool, true, false, cond}
 use mathlib.Core.List.{List}
 use lib.Dec.{leb, ltb, eqb}
 use lib.ListN.{getD}
-use Rattle.quorum.specs.Sets.{weigh}
+use Rattle.rules.specs.Sets.{weigh}
 use Rattle.rules.specs.Rules.{Report, Reports, reporting}
 use Rattle.claims.specs.declared.Search.{Search}
 use Rattle.claims.specs.declared.Tally.{Tally}
@@ -25,8 +25,8 @@ abbrev pub forPlan : List ℕ → ℕ → Tally → ℕ → ℕ
 forPlan plans at t p = t .every + countOf plans at (t .some) p
 
 -- The tally fits a row.
-abbrev pub Fits : Tally → Type 0
-Fits t = (t .every ≤ column) × (t .some ≤ column)
+abbrev pub FitsRow : Tally → Type 0
+FitsRow t = (t .every ≤ column) × (t .some ≤ column)
 
 -- What one report adds: it passes the test of every plan, of plan x only, or of none.
 pub data Stance (test : ℕ → Bool) (x every some : ℕ) : Type 0 where
@@ -39,7 +39,7 @@ abbrev pub added : Tally → Tally → Tally
 added t share = record { every = t .every + share .every; some = t .some + share .some }
 
 -- The row tells of every plan how many of the first n reports pass its test.
-pub record Tells (rs : Reports) (n : ℕ) (test : ℕ → Report → Bool) (plans : List ℕ) (at : ℕ) (t : Tally) : Type 0 where
+pub record RowTells (rs : Reports) (n : ℕ) (test : ℕ → Report → Bool) (plans : List ℕ) (at : ℕ) (t : Tally) : Type 0 where
   pub most : t .every + t .some ≤ n
   pub tells : (p : ℕ) → forPlan plans at t p ≡ weigh (λ i. 1) (reporting rs (test p)) n
 

@@ -6,8 +6,8 @@ use mathlib.Core.Bool.{Bool, cond}
 use mathlib.Core.List.{List}
 use lib.Dec.{leb, ltb}
 use lib.ListN.{getD}
-use Rattle.quorum.specs.Sets.{equals, Set}
-use Rattle.quorum.specs.Quorums.{isBlocking}
+use Rattle.rules.specs.Sets.{equals, Set}
+use Rattle.rules.specs.Quorums.{isBlocking}
 use Rattle.rules.specs.inside.Views.{views}
 
 -- Those of whose spans view u is one.

@@ -4,8 +4,8 @@ use Prim.Native.Nat.{ℕ}
 use mathlib.Core.Path.{_≡_}
 use mathlib.Core.List.{List}
 use lib.ListN.{length}
-use Rattle.layout.specs.Layout.{decodeRecord}
-use Rattle.layout.specs.Size.{recordSize}
+use Rattle.record.specs.Layout.{decodeRecord}
+use Rattle.record.specs.Size.{recordSize}
 use Rattle.protocol.specs.inside.Sound.{Ranged}
 use Rattle.protocol.specs.Sound.{Sound}
 use Rattle.contents.specs.Contents.{contentsIn}

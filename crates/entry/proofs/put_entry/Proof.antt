@@ -1,4 +1,4 @@
--- `entry::put_entry` meets its contract. "Entries lie end to end: a recipient byte .., then the frame" (01, Refusals).
+-- `entry::put_entry` meets its contract. 'Entries lie end to end: a recipient byte .., then the frame' (01, Refusals).
 -- Each variant by the call that its arm makes.
 -- Assumes nothing.
 use lib.ListN.{length-append}

@@ -1,4 +1,4 @@
--- `entry::put_frame` meets its contract. "a recipient byte (ff all vaults, else a vault's number, ..), then the frame" (01, Refusals).
+-- `entry::put_frame` meets its contract. 'a recipient byte (ff all vaults, else a vault's number, ..), then the frame' (01, Refusals).
 -- The recipient is stored; the rest of the output is lent to the writer, written at its start and given back.
 -- Assumes nothing.
 use Prim.Native.Nat.{_+_, _≤_}

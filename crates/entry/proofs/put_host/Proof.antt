@@ -1,4 +1,4 @@
--- `entry::put_host` meets its contract. "Host entries: 0b, view (4), milliseconds (4) for a timer; 0a, view (4), plan (8) for a decision" (01, Refusals).
+-- `entry::put_host` meets its contract. 'Host entries: 0b, view (4), milliseconds (4) for a timer; 0a, view (4), plan (8) for a decision' (01, Refusals).
 -- Four fields put one after the other are the four spelt end to end.
 -- Assumes nothing.
 use denote.Ref.{now}

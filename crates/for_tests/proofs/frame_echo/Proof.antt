@@ -1,4 +1,4 @@
--- `for_tests::frame_echo` meets its contract. "Each gives its number, zero bytes written, record and output unchanged" (01, Refusals).
+-- `for_tests::frame_echo` meets its contract. 'Each gives its number, zero bytes written, record and output unchanged' (01, Refusals).
 -- Each answer by the reading that led to it: 1 by the length, a refusal by `read`, the entries by `put_echo`.
 -- Assumes nothing.
 use Prim.Native.Nat.{ℕ, _+_}

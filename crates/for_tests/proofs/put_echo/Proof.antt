@@ -1,4 +1,4 @@
--- `for_tests::put_echo` meets its contract. "Entries lie end to end" (01, Refusals).
+-- `for_tests::put_echo` meets its contract. 'Entries lie end to end' (01, Refusals).
 -- Three entries put one after the other lie end to end, and three entries have room in 138 bytes.
 -- Assumes nothing.
 use native.Mathlib.Omega.{arith}

@@ -1,4 +1,4 @@
--- `frame::any_bad_form` meets its contract. "bad report: mark not 0 or 1; absent with a nonzero byte", of any of the three (01, Refusal 14).
+-- `frame::any_bad_form` meets its contract. 'bad report: mark not 0 or 1; absent with a nonzero byte', of any of the three (01, Refusal 14).
 -- `any` over three reports is the three flags joined.
 -- Assumes nothing.
 use borrow.Author.Needs.{needs}

@@ -1,4 +1,4 @@
--- `frame::any_too_high` meets its contract. "bad report: .. view not below the frame's", of any of the three (01, Refusal 14).
+-- `frame::any_too_high` meets its contract. 'bad report: .. view not below the frame's', of any of the three (01, Refusal 14).
 -- `any` over three reports is the three flags joined.
 -- Assumes nothing.
 use borrow.Author.Needs.{needs}

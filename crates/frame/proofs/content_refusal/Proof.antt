@@ -1,4 +1,4 @@
--- `frame::content_refusal` meets its contract. "view 0 in kind 6, 7 or 8"; "bad report" (01, Refusals 13 and 14).
+-- `frame::content_refusal` meets its contract. 'view 0 in kind 6, 7 or 8'; 'bad report' (01, Refusals 13 and 14).
 -- Row 13 by the flag, the rows of 14 by the call; a body without reports gives none.
 -- Assumes nothing.
 use Rattle.frame.proofs.Laws.{told}

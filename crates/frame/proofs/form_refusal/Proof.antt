@@ -1,4 +1,4 @@
--- `frame::form_refusal` meets its contract. "empty, or kind not 1 to 8"; "length wrong for the kind" (01, Refusals 9 and 10).
+-- `frame::form_refusal` meets its contract. 'empty, or kind not 1 to 8'; 'length wrong for the kind' (01, Refusals 9 and 10).
 -- A kind has no length exactly where it is unknown, so the length decides both rows.
 -- Assumes nothing.
 use mathlib.Core.Path.{sym, _∙_}

@@ -1,4 +1,4 @@
--- `frame::leader_refusal` meets its contract. "proposal not from its view's leader; suggest for a view this vault does not lead" (01, Refusal 15).
+-- `frame::leader_refusal` meets its contract. 'proposal not from its view's leader; suggest for a view this vault does not lead' (01, Refusal 15).
 -- The one row is given by the flag.
 -- Assumes nothing.
 use Rattle.frame.proofs.Laws.{told}

@@ -1,4 +1,4 @@
--- `frame::led_wrong` meets its contract. "proposal not from its view's leader; suggest for a view this vault does not lead" (01, Refusal 15).
+-- `frame::led_wrong` meets its contract. 'proposal not from its view's leader; suggest for a view this vault does not lead' (01, Refusal 15).
 -- The match finds the kind, and each kind but 1 and 7 passes.
 -- Assumes nothing.
 use mathlib.Core.Path.{_≡_}

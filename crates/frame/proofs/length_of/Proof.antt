@@ -1,4 +1,4 @@
--- `frame::length_of` meets its contract. The columns "Kind" and "Length" of the table of frames (01, Frames).
+-- `frame::length_of` meets its contract. The columns 'Kind' and 'Length' of the table of frames (01, Frames).
 -- Each arm of the match is one form of kind, and each form has its length (`Laws`).
 -- Assumes nothing.
 use mathlib.Core.Path.{sym}

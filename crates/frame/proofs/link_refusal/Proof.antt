@@ -1,4 +1,4 @@
--- `frame::link_refusal` meets its contract. "link's sender ≥ n or the vault's own number"; "sender byte is not the link's" (01, Refusals 11 and 12).
+-- `frame::link_refusal` meets its contract. 'link's sender ≥ n or the vault's own number'; 'sender byte is not the link's' (01, Refusals 11 and 12).
 -- Each return is decided by the tests that led to it.
 -- Assumes nothing.
 use mathlib.Core.Path.{refl}

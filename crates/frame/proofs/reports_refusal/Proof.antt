@@ -1,4 +1,4 @@
--- `frame::reports_refusal` meets its contract. "bad report" (01, Refusal 14), in three rows.
+-- `frame::reports_refusal` meets its contract. 'bad report' (01, Refusal 14), in three rows.
 -- Each return is decided by the flags that led to it.
 -- Assumes nothing.
 use Rattle.frame.proofs.Laws.{told}

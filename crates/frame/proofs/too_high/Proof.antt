@@ -1,4 +1,4 @@
--- `frame::too_high` meets its contract. "view not below the frame's" (01, Refusal 14).
+-- `frame::too_high` meets its contract. 'view not below the frame's' (01, Refusal 14).
 -- Each return is decided by the tests that led to it.
 -- Assumes nothing.
 use mathlib.Core.Path.{refl}

@@ -1,4 +1,4 @@
--- `frame::view_missing` meets its contract. "view 0 in kind 6, 7 or 8" (01, Refusal 13).
+-- `frame::view_missing` meets its contract. 'view 0 in kind 6, 7 or 8' (01, Refusal 13).
 -- The match finds whether the kind is in that range.
 -- Assumes nothing.
 use native.Mathlib.Omega.{arith}

@@ -10,12 +10,12 @@ use Rattle.frame.specs.declared.Report.{Report}
 use Rattle.frame.specs.declared.Reading.{Reading}
 use Rattle.frame.specs.declared.Reading.the-variants.{Accepted, Refused}
 
--- Bytes of a known kind, as many as the table's column "Length" has for it.
+-- Bytes of a known kind, as many as the table's column 'Length' has for it.
 pub record Formed (s : List ℕ) : Type 0 where
   pub kind : within 1 8 (getD s 0 0) ≡ true
   pub size : length s ≡ lengthOf (getD s 0 0)
 
--- "A mark (1 present, 0 absent)": the report of a vote for a plan at a view.
+-- 'A mark (1 present, 0 absent)': the report of a vote for a plan at a view.
 abbrev pub presentAt : ℕ → ℕ → Report
 presentAt view plan = record { mark = 1; view = view; plan = plan }
 

@@ -1,4 +1,4 @@
--- `lines::digit_of` meets its contract. "Output digits are lower-case."
+-- `lines::digit_of` meets its contract. 'Output digits are lower-case.'
 -- Assumes nothing.
 use mathlib.Core.Path.{sym}
 use borrow.Author.Needs.{needs}

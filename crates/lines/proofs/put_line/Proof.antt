@@ -1,4 +1,4 @@
--- `lines::put_line` meets its contract. "It prints one output entry a line"; "Output digits are lower-case".
+-- `lines::put_line` meets its contract. 'It prints one output entry a line'; 'Output digits are lower-case'.
 -- The invariant: the rest of the line, put on what is there, gives what is to come out.
 -- Assumes nothing.
 use Prim.Native.Nat.{_+_, _*_, _-_, _≤_}

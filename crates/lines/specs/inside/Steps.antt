@@ -18,9 +18,9 @@ spells (Count n) bytes = some (take n bytes)
 spells Bad bytes = none
 
 -- How many there are.
-abbrev pub countOf : Spelling → ℕ
-countOf (Count n) = n
-countOf Bad = 0
+abbrev pub spellingCount : Spelling → ℕ
+spellingCount (Count n) = n
+spellingCount Bad = 0
 
 -- Lines put on the page: it holds them from a place on and is otherwise as it was; where they end.
 pub record OnPage (lines page : List ℕ) (at : ℕ) (page′ : List ℕ) (next : ℕ) : Type 0 where

@@ -2,7 +2,7 @@
 -- Assumes nothing.
 use mathlib.Core.Path.{_≡_, sym, _∙_}
 use lib.ListN.{length}
-use Rattle.layout.specs.Size.{recordSize}
+use Rattle.record.specs.Size.{recordSize}
 use Rattle.pass.proofs.Runs.{copied}
 use borrow.Author.Needs.{needs}
 use Rattle.pass.proofs.store.Statement.{statement}

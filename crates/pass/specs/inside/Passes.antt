@@ -4,7 +4,7 @@ use Prim.Native.Nat.{ℕ, _≤_}
 use mathlib.Core.Path.{_≡_}
 use mathlib.Core.List.{List}
 use lib.ListN.{length, drop}
-use Rattle.layout.specs.Layout.{decodeRecord}
+use Rattle.record.specs.Layout.{decodeRecord}
 use Rattle.protocol.specs.Pass.{Step, pass, fromA}
 use Rattle.contents.specs.Contents.{contentsIn}
 use Rattle.contents.specs.inside.Ready.{Ready}

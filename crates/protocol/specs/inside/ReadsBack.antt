@@ -12,6 +12,6 @@ use Rattle.protocol.specs.Fed.{Fed}
 use Rattle.protocol.specs.ReadsBack.{ReadBy}
 
 -- Of every accepted call on a blank record or a sound one. Proved as `callReadsBack` in proofs/ReadsBack.
-abbrev pub AlwaysReadsBack : Type 0
-AlwaysReadsBack = (b : Option Record) (a : Call) → ((r : Record) → b ≡ some r → Sound r × Ranged r) → Fed b a
+abbrev pub ContentsReadBack : Type 0
+ContentsReadBack = (b : Option Record) (a : Call) → ((r : Record) → b ≡ some r → Sound r × Ranged r) → Fed b a
     → (o : Out) → answer b a ≡ accepted o → ReadBy (o .left .set) (o .wrote)

@@ -7,7 +7,7 @@ use mathlib.Core.Logic.{_⊎_}
 use mathlib.Core.Bool.{true}
 use mathlib.Core.List.{List, [], _∷_, _++_}
 use mathlib.Core.Option.{Option, none, some}
-use Rattle.quorum.specs.Sets.{Vaults, Set, size, total}
+use Rattle.rules.specs.Sets.{Vaults, Set, size, total}
 use Rattle.frame.specs.declared.Frame.{Frame}
 use Rattle.frame.specs.declared.Reading.the-variants.{Accepted, Refused}
 use Rattle.entry.specs.declared.Entry.{Entry}
@@ -21,59 +21,60 @@ use Rattle.protocol.specs.Calls.{Call, start, frame, timer, short, Answe
 use Rattle.protocol.specs.Fed.{Readable}
 
 -- 'A run has an n, an f, a set of at least n - f numbers below n': the set's vaults keep the rules, and weigh what all do, less f.
-pub record Setting : Type 0 where
+pub record ContentsSetting : Type 0 where
   pub vaults : Vaults
   pub keeps : Set
   pub most : total vaults - vaults .f ≤ size vaults keeps
 
 -- 'Each item is one start, frame or timer call at one of them, accepted or refused'.
-pub record Item : Type 0 where
+pub record ContentsItem : Type 0 where
   pub at : ℕ
   pub call : Call
 
 -- 'zero bytes written, record and output unchanged', where the call is refused.
-abbrev pub leftBy : Option Record → Answer → Option Record
-leftBy b (refused k) = b
-leftBy b (accepted o) = some (o .left)
+abbrev pub recordAfter : Option Record → Answer → Option Record
+recordAfter b (refused k) = b
+recordAfter b (accepted o) = some (o .left)
 
 abbrev pub wroteBy : Answer → List Entry
 wroteBy (refused k) = []
 wroteBy (accepted o) = o .wrote
 
 -- 'at first any blank one. Each call gets the record that the last call at the same vault left'.
-unfoldable pub recordAt : List Item → ℕ → Option Record
+unfoldable pub recordAt : List ContentsItem → ℕ → Option Record
 recordAt [] = λ i. none
-recordAt (x ∷ l) = put (x .at) (leftBy (recordAt l (x .at)) (answer (recordAt l (x .at)) (x .call))) (recordAt l)
+recordAt (x ∷ l) = put (x .at) (recordAfter (recordAt l (x .at)) (answer (recordAt l (x .at)) (x .call))) (recordAt l)
 
 -- What the calls at a vault wrote, in their order.
-unfoldable pub written : List Item → ℕ → List Entry
+unfoldable pub written : List ContentsItem → ℕ → List Entry
 written [] = λ i. []
 written (x ∷ l) = put (x .at) (written l (x .at) ++ wroteBy (answer (recordAt l (x .at)) (x .call))) (written l)
 
 -- 'a frame that an accepted call at that sender, earlier in the list, wrote in an entry for all or for this vault'.
-abbrev pub Sent : List Item → ℕ → Frame → Type 0
-Sent l i x = (ForAll x ∈ written l (x .sender)) ⊎ (ForOne i x ∈ written l (x .sender))
+abbrev pub ContentsSent : List ContentsItem → ℕ → Frame → Type 0
+ContentsSent l i x = (ForAll x ∈ written l (x .sender)) ⊎ (ForOne i x ∈ written l (x .sender))
 
-module _ (c : Setting) where
+module _ (c : ContentsSetting) where
   -- What the run says of a call at vault i, after the calls l. A start: 'an accepted one brings this n, this f and the vault's
   -- own number. Class and plan are free.' A frame: 'Where the sender is any other number, the bytes are anything.'
-  abbrev pub Fair : List Item → ℕ → Call → Type 0
+  abbrev pub Fair : List ContentsItem → ℕ → Call → Type 0
   Fair l i (start s p) = (o : Out) → answer (recordAt l i) (start s p) ≡ accepted o → (vaultsOf s ≡ c .vaults) × (s .id ≡ i)
-  Fair l i (frame (Accepted x)) = Readable (c .vaults .n) i x × (c .keeps (x .sender) ≡ true → Sent l i x)
+  Fair l i (frame (Accepted x)) = Readable (c .vaults .n) i x × (c .keeps (x .sender) ≡ true → ContentsSent l i x)
   Fair l i (frame (Refused k)) = Unit {0}
   Fair l i (timer v) = Unit {0}
   Fair l i short = Unit {0}
 
   -- 'a list of calls of any length, the empty one included', at the vaults that keep the rules.
-  pub data Run : List Item → Type 0 where
-    nothingYet : Run []
-    andThen : {l : List Item} {x : Item} → Run l → c .keeps (x .at) ≡ true → Fair l (x .at) (x .call) → Run (x ∷ l)
+  pub data ContentsRun : List ContentsItem → Type 0 where
+    nothingYet : ContentsRun []
+    andThen : {l : List ContentsItem} {x : ContentsItem} → ContentsRun l → c .keeps (x .at) ≡ true → Fair l (x .at) (x .call) → ContentsRun (x ∷ l)
 
 -- 'A vault decides p where an accepted call at it writes the host entry 0a with plan p, in whatever view.'
-abbrev pub Decides : List Item → ℕ → ℕ → Type 0
-Decides l i p = (v : ℕ) × (Decision v p ∈ written l i)
+abbrev pub ContentsDecides : List ContentsItem → ℕ → ℕ → Type 0
+ContentsDecides l i p = (v : ℕ) × (Decision v p ∈ written l i)
 
 -- 'the plan of its accepted start': some vault of the list was started with p.
-pub data Started (p : ℕ) : List Item → Type 0 where
-  here : {l : List Item} {x : Item} {s : Settings} {o : Out} → x .call ≡ start s p → answer (recordAt l (x .at)) (x .call) ≡ accepted o → Started p (x ∷ l)
-  earlier : {l : List Item} {x : Item} → Started p l → Started p (x ∷ l)
+pub data ContentsStarted (p : ℕ) : List ContentsItem → Type 0 where
+  here : {l : List ContentsItem} {x : ContentsItem} {s : Settings} {o : Out} → x .call ≡ start s p → answer (recordAt l (x .at)) (x .call) ≡ accepted o
+      → ContentsStarted p (x ∷ l)
+  earlier : {l : List ContentsItem} {x : ContentsItem} → ContentsStarted p l → ContentsStarted p (x ∷ l)

@@ -15,15 +15,15 @@ use Rattle.protocol.specs.Fed.{Fed}
 use Rattle.protocol.specs.Sound.{Sound}
 
 -- 'A view is 32 bits wide', 'A plan is any 64-bit number'.
-abbrev pub Fits : Vote → Type 0
-Fits x = (x .view < 2 ^ 32) × (x .plan < 2 ^ 64)
+abbrev pub FitsVote : Vote → Type 0
+FitsVote x = (x .view < 2 ^ 32) × (x .plan < 2 ^ 64)
 
 -- Its numbers have their widths; those of kept frames do by `Valid`.
 pub record Ranged (r : Record) : Type 0 where
   pub start : r .start < 2 ^ 64
   pub view : r .view < 2 ^ 32
-  pub previous : (k : ℕ) (x : Vote) → r .previous k ≡ some x → Fits x
-  pub decision : (x : Vote) → r .decision ≡ some x → Fits x
+  pub previous : (k : ℕ) (x : Vote) → r .previous k ≡ some x → FitsVote x
+  pub decision : (x : Vote) → r .decision ≡ some x → FitsVote x
 
 -- What an accepted call leaves: a sound record, numbers of their widths, and entries that have bytes, which read as these entries
 -- and are no more than 256.

@@ -9,8 +9,8 @@ use Rattle.record.specs.Slots.{rows, kinds, emptySlot, Record}
 
 -- ---- where
 
--- "For each sender and kind": a kind, and a sender that a record has a row for.
-pub record Place (kind sender : ℕ) : Type 0 where
+-- 'For each sender and kind': a kind, and a sender that a record has a row for.
+pub record RowPlace (kind sender : ℕ) : Type 0 where
   pub low : 1 ≤ kind
   pub high : kind ≤ kinds
   pub row : sender < rows
@@ -29,6 +29,6 @@ withSlot r at slot = record { set = r .set; view = r .view; plan = r .plan; slot
 abbrev pub withView : Record → ℕ → Record
 withView r view = record { set = r .set; view = view; plan = r .plan; slots = r .slots }
 
--- "it enters view 0 with .. no kept frames and no reports"
-unfoldable pub fresh : Settings → ℕ → Record
-fresh set plan = record { set = set; view = 0; plan = plan; slots = λ i. emptySlot }
+-- 'it enters view 0 with .. no kept frames and no reports'
+unfoldable pub freshSlots : Settings → ℕ → Record
+freshSlots set plan = record { set = set; view = 0; plan = plan; slots = λ i. emptySlot }

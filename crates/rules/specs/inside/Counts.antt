@@ -5,9 +5,9 @@ use Prim.Native.Nat.{ℕ, zero, suc, _+_, _-_, min}
 use mathlib.Core.Bool.{Bool, true, false, cond, not, _&&_, _||_}
 use mathlib.Core.Option.{Option, none, some}
 use lib.Dec.{ltb, eqb}
-use Rattle.quorum.specs.inside.Bools.{any}
-use Rattle.quorum.specs.Sets.{Vaults}
-use Rattle.quorum.specs.Quorums.{isQuorum, isBlocking}
+use Rattle.rules.specs.inside.Bools.{anyBelow}
+use Rattle.rules.specs.Sets.{Vaults}
+use Rattle.rules.specs.Quorums.{isQuorum, isBlocking}
 use Rattle.rules.specs.Options.{holds}
 use Rattle.rules.specs.Rules.{Vote, Report, Reports, Rule, rule1, rule3, claims, unlocked, allows, reporting}
 
@@ -45,7 +45,7 @@ twoClaimed vs rs u p₁ p₂ = not (eqb p₂ p₁) && (claimed vs rs p₁ u && c
 unfoldable pub twoSets : Vaults → Reports → ℕ → ℕ → Bool
 twoSets vs rs v u =
     ltb (u + 1) v
-    && any (λ i. any (λ j. twoClaimed vs rs u (votedPlan rs (vs .n) i) (votedPlan rs (vs .n) j)) (vs .n + 2)) (vs .n + 2)
+    && anyBelow (λ i. anyBelow (λ j. twoClaimed vs rs u (votedPlan rs (vs .n) i) (votedPlan rs (vs .n) j)) (vs .n + 2)) (vs .n + 2)
 
 -- What a rule asks of the claims at view u.
 unfoldable pub backed : Rule → Vaults → Reports → ℕ → ℕ → ℕ → Bool
@@ -54,7 +54,7 @@ backed rule3 vs rs v p u = claimed vs rs p u || twoSets vs rs v u
 
 -- Plan p is safe in view v by the rule.
 unfoldable pub safe : Rule → Vaults → Reports → ℕ → ℕ → Bool
-safe rule vs rs v p = eqb v 0 || (free vs rs || any (λ u. allowed vs rs p u && backed rule vs rs v p u) v)
+safe rule vs rs v p = eqb v 0 || (free vs rs || anyBelow (λ u. allowed vs rs p u && backed rule vs rs v p u) v)
 
 -- The report names p: its lock or its highest vote is for p.
 unfoldable pub names : ℕ → Report → Bool

@@ -5,8 +5,8 @@ use mathlib.Core.Path.{_≡_}
 use mathlib.Core.Bool.{Bool, false, not}
 use mathlib.Core.Option.{Option, none, some}
 use lib.Dec.{leb}
-use Rattle.quorum.specs.Sets.{Vaults, weigh}
-use Rattle.quorum.specs.Quorums.{isQuorum}
+use Rattle.rules.specs.Sets.{Vaults, weigh}
+use Rattle.rules.specs.Quorums.{isQuorum}
 use Rattle.rules.specs.Rules.{Report, Reports, viewOf, reporting}
 use Rattle.rules.specs.inside.Counts.{free}
 

@@ -2,12 +2,12 @@
 -- The count is that of the first r reporters without a lock; of all n, it is a quorum exactly if it is n - f or more (`quorumCount`).
 -- Assumes nothing.
 use Prim.Native.Nat.{_-_, _≤_}
-use mathlib.Core.Path.{_≡_, refl, sym, _∙_, ap, subst}
+use mathlib.Core.Path.{_≡_, sym, _∙_, ap}
 use native.Mathlib.Omega.{arith}
 use borrow.Author.Needs.{needs}
 use Rattle.claims.specs.Table.{reportsInTable}
-use Rattle.quorum.proofs.Laws.{weighNone, weighStep, shareMost, quorumCount}
-use Rattle.quorum.specs.Sets.{weigh}
+use Rattle.rules.proofs.Quorums.{weighNone, weighStep, shareMost, quorumCount}
+use Rattle.rules.specs.Sets.{weigh}
 use Rattle.rules.specs.inside.Counts.{free}
 use Rattle.rules.specs.Rules.{unlocked, reporting}
 use Rattle.safe.proofs.free.Statement.{statement}

@@ -1,5 +1,5 @@
 -- `safe::safe_three` meets its contract.
--- Rule 3 accepts what Rule 1 does (`threeOne`), and the twoSet clause at the same view (`threeFirst`, `threeNext`).
+-- Rule 3 accepts what Rule 1 does (`threeOne`), and the two-set clause at the same view (`threeFirst`, `threeNext`).
 -- Assumes nothing.
 use mathlib.Core.Path.{_≡_, sym, _∙_}
 use mathlib.Core.Bool.{false}

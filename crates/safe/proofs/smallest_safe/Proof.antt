@@ -4,7 +4,7 @@
 use Prim.Native.Nat.{ℕ, _+_}
 use mathlib.Core.Bool.{false}
 use mathlib.Core.Option.{Option}
-use mathlib.Core.Path.{_≡_, refl, sym, _∙_, ap, subst}
+use mathlib.Core.Path.{_≡_, _∙_, ap}
 use lib.ListN.{getD}
 use Rattle.claims.specs.Table.{column}
 use Rattle.safe.specs.inside.Searches.{passesIn, smallestFrom}

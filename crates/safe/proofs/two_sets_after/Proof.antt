@@ -6,7 +6,7 @@ use mathlib.Core.Path.{sym, _∙_}
 use native.Mathlib.Omega.{arith}
 use borrow.Author.Needs.{needs}
 use Rattle.claims.specs.Table.{reportsInTable}
-use Rattle.quorum.specs.Sets.{equals}
+use Rattle.rules.specs.Sets.{equals}
 use Rattle.rules.proofs.Views.{twoLate}
 use Rattle.safe.proofs.Searches.{falling, pairSame}
 use Rattle.safe.proofs.two_sets_after.Statement.{statement}

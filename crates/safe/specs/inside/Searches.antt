@@ -9,11 +9,11 @@ use mathlib.Core.List.{List}
 use lib.Dec.{leb, ltb, eqb}
 use lib.ListN.{length, getD}
 use Rattle.rules.specs.Rules.{Reports, claims, allows}
-use Rattle.quorum.specs.Sets.{Vaults, equals}
+use Rattle.rules.specs.Sets.{Vaults, equals}
 use Rattle.rules.specs.inside.Counts.{free, smaller}
 use Rattle.rules.specs.inside.Views.{Lowest}
 use Rattle.claims.specs.declared.Search.{Search}
-use Rattle.claims.specs.inside.Rows.{rowsSize, forPlan, Fits, Tells, claimedIn, endOf, servingView}
+use Rattle.claims.specs.inside.Rows.{rowsSize, forPlan, FitsRow, RowTells, claimedIn, endOf, servingView}
 use Rattle.claims.specs.Table.{column}
 
 -- Where the row of locks begins, behind the two rows of claims.
@@ -59,7 +59,7 @@ smallestOf plans c =
     smallestFrom (smallestFrom none (passesIn plans c true) (λ i. getD plans (lockRow + i) 0) (c .locks .some))
     (passesIn plans c false) (λ i. getD plans (column + i) 0) (c .next .some)
 
--- ---- the twoSet clause
+-- ---- the two-set clause
 
 -- 'blocking sets claiming p1 at view a and another plan p2 at view b', where a test tells what is claimed at each view.
 pub data Pair (next here : ℕ → Bool) (b : Bool) : Type 0 where
@@ -78,16 +78,16 @@ pub record Laid (c : Search) (plans : List ℕ) : Type 0 where
   pub size : length plans ≡ rowsSize
   pub below : c .u < c .v
   pub few : c .f < c .n
-  pub here : Fits (c .here)
-  pub next : Fits (c .next)
-  pub locks : Fits (c .locks)
+  pub here : FitsRow (c .here)
+  pub next : FitsRow (c .next)
+  pub locks : FitsRow (c .locks)
 
 -- They tell who claims at view u and at the next view, and whose locks allow a plan at view u.
 pub record Prepared (rs : Reports) (c : Search) (plans : List ℕ) : Type 0 where
   pub laid : Laid c plans
-  pub here : Tells rs (c .n) (λ p. claims p (c .u)) plans 0 (c .here)
-  pub next : Tells rs (c .n) (λ p. claims p (c .u + 1)) plans column (c .next)
-  pub locks : Tells rs (c .n) (λ p. allows p (c .u)) plans lockRow (c .locks)
+  pub here : RowTells rs (c .n) (λ p. claims p (c .u)) plans 0 (c .here)
+  pub next : RowTells rs (c .n) (λ p. claims p (c .u + 1)) plans column (c .next)
+  pub locks : RowTells rs (c .n) (λ p. allows p (c .u)) plans lockRow (c .locks)
 
 -- In view 0 every plan is safe, and so where 'some quorum q of reporters has no lock at all'.
 unfoldable pub everySafe : Vaults → Reports → ℕ → Bool

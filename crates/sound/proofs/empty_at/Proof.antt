@@ -3,7 +3,7 @@
 use mathlib.Core.Path.{ap, sym, _∙_}
 use Rattle.frame.specs.Refusal.{absent}
 use Rattle.record.specs.Slots.{slotOf}
-use Rattle.layout.specs.Layout.{decodeRecord}
+use Rattle.record.specs.Layout.{decodeRecord}
 use Rattle.sound.proofs.Laws.{off, on, emptyFrame, emptyShort, emptyReports}
 use Rattle.sound.proofs.Places.{frameThere}
 use borrow.Author.Needs.{needs}

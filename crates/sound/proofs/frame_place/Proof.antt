@@ -4,8 +4,8 @@ use Prim.Native.Nat.{_+_, _*_}
 use mathlib.Core.Path.{_∙_}
 use native.Mathlib.Omega.{arith}
 use Rattle.record.specs.Slots.{frameSlot}
-use Rattle.layout.specs.Layout.{slotSize, place}
-use Rattle.layout.proofs.Laws.{placeFits}
+use Rattle.record.specs.Layout.{slotSize, place}
+use Rattle.record.proofs.Laws.{placeFits}
 use Rattle.sound.proofs.Places.{placeFrame}
 use borrow.Author.Needs.{needs}
 use Rattle.sound.proofs.frame_place.Statement.{statement}

@@ -5,7 +5,7 @@ use mathlib.Core.Bool.{Bool}
 use native.Mathlib.Omega.{arith}
 use Prim.Native.Nat.{ℕ, _<_}
 use Rattle.record.specs.Slots.{rows, slotOf}
-use Rattle.layout.specs.Layout.{decodeRecord}
+use Rattle.record.specs.Layout.{decodeRecord}
 use Rattle.frame.proofs.Laws.{told}
 use Rattle.sound.specs.inside.Sound.{all}
 use Rattle.sound.specs.inside.Bulk.{absentFrom}

@@ -4,7 +4,7 @@ use mathlib.Core.Path.{_≡_, ap, sym, _∙_}
 use native.Mathlib.Omega.{arith}
 use Rattle.frame.specs.declared.Report.{Report}
 use Rattle.record.specs.Slots.{frameSlot, slotOf}
-use Rattle.layout.specs.Layout.{decodeRecord}
+use Rattle.record.specs.Layout.{decodeRecord}
 use Rattle.sound.proofs.Places.{frameThere}
 use Rattle.sound.proofs.Forms.{bareRows, keptPlan, keptPlanned, keptBare, keptTold}
 use borrow.Author.Needs.{needs}

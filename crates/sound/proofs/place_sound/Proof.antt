@@ -4,7 +4,7 @@ use mathlib.Core.Path.{ap, sym, _∙_}
 use Rattle.frame.specs.declared.Report.{Report}
 use Rattle.frame.proofs.Laws.{told}
 use Rattle.record.specs.Slots.{slotOf}
-use Rattle.layout.specs.Layout.{decodeRecord}
+use Rattle.record.specs.Layout.{decodeRecord}
 use Rattle.sound.proofs.Laws.{placeEmpty}
 use Rattle.sound.proofs.Places.{frameThere}
 use Rattle.sound.proofs.Forms.{keptFree}

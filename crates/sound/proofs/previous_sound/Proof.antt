@@ -2,7 +2,7 @@
 -- Assumes nothing.
 use mathlib.Core.Path.{ap, _∙_}
 use Rattle.record.specs.Slots.{slotOf}
-use Rattle.layout.specs.Layout.{decodeRecord}
+use Rattle.record.specs.Layout.{decodeRecord}
 use Rattle.sound.specs.inside.Sound.{stands, previousSound}
 use borrow.Author.Needs.{needs}
 use Rattle.sound.proofs.previous_sound.Statement.{statement}

@@ -4,7 +4,7 @@ use Prim.Native.Nat.{ℕ}
 use mathlib.Core.Path.{ap, sym, _∙_}
 use lib.Dec.{ltb}
 use Rattle.frame.specs.Refusal.{absent}
-use Rattle.layout.specs.Layout.{slotIn}
+use Rattle.record.specs.Layout.{slotIn}
 use Rattle.sound.proofs.Forms.{reportAbsent, reportPresent}
 use borrow.Author.Needs.{needs}
 use Rattle.sound.proofs.report_fits.Statement.{statement}

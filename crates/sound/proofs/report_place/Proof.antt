@@ -4,8 +4,8 @@ use Prim.Native.Nat.{ℕ, _+_, _*_, _<_}
 use mathlib.Core.Path.{_≡_, ap, _∙_}
 use native.Mathlib.Omega.{arith}
 use Rattle.record.specs.Slots.{slotCount, reportSlot}
-use Rattle.layout.specs.Layout.{slotSize, place}
-use Rattle.layout.proofs.Laws.{placeFits}
+use Rattle.record.specs.Layout.{slotSize, place}
+use Rattle.record.proofs.Laws.{placeFits}
 use Rattle.sound.proofs.Places.{placeReport}
 use borrow.Author.Needs.{needs}
 use Rattle.sound.proofs.report_place.Statement.{statement}

@@ -5,7 +5,7 @@ use mathlib.Core.Path.{_≡_, ap, sym, _∙_}
 use native.Mathlib.Omega.{arith}
 use Rattle.frame.specs.Refusal.{absent}
 use Rattle.record.specs.Slots.{reportSlot, slotOf}
-use Rattle.layout.specs.Layout.{place, decodeRecord}
+use Rattle.record.specs.Layout.{place, decodeRecord}
 use Rattle.sound.specs.inside.Bulk.{groupSize}
 use Rattle.sound.proofs.Laws.{off, on, reportsHighest, reportsPrevious, reportsLock}
 use Rattle.sound.proofs.Places.{reportThere}

@@ -8,8 +8,8 @@ use Rattle.frame.specs.Refusal.{badPrevious}
 use Rattle.frame.specs.declared.Report.{Report}
 use Rattle.frame.specs.declared.Reports.{Reports}
 use Rattle.record.specs.Slots.{reportSlot, slotOf}
-use Rattle.layout.specs.Layout.{slotIn, decodeRecord}
-use Rattle.keeping.specs.Kept.{reportsIn}
+use Rattle.record.specs.Layout.{slotIn, decodeRecord}
+use Rattle.record.specs.Kept.{reportsIn}
 use Rattle.sound.specs.inside.Bulk.{groupSize, reportFits}
 use Rattle.sound.proofs.Laws.{off, on}
 use Rattle.sound.proofs.Places.{reportThere}

@@ -4,7 +4,7 @@ use Prim.Native.Nat.{_+_, _-_, _<_}
 use mathlib.Core.Path.{sym, _∙_}
 use native.Mathlib.Omega.{arith}
 use Rattle.record.specs.Slots.{rows, slotOf}
-use Rattle.layout.specs.Layout.{decodeRecord}
+use Rattle.record.specs.Layout.{decodeRecord}
 use Rattle.sound.specs.inside.Sound.{all}
 use Rattle.sound.specs.inside.Bulk.{absentFrom, toldAbsent}
 use Rattle.sound.proofs.Laws.{off, on}

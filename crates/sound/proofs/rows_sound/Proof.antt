@@ -5,7 +5,7 @@ use mathlib.Core.Path.{_≡_, sym}
 use mathlib.Core.Bool.{Bool, true}
 use native.Mathlib.Omega.{arith}
 use Rattle.record.specs.Slots.{kinds, slotOf}
-use Rattle.layout.specs.Layout.{decodeRecord}
+use Rattle.record.specs.Layout.{decodeRecord}
 use Rattle.sound.specs.inside.Sound.{all, kindSound, rowsSound}
 use Rattle.sound.proofs.Laws.{off, on, allNone, allMore, allStop}
 use borrow.Author.Needs.{needs}

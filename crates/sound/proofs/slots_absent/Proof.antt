@@ -4,7 +4,7 @@ use Prim.Native.Nat.{ℕ, _+_, _-_, _*_, _≤_}
 use mathlib.Core.Path.{_≡_, ap, _∙_}
 use native.Mathlib.Omega.{arith}
 use lib.ListN.{length, take, drop}
-use Rattle.layout.specs.Layout.{slotSize}
+use Rattle.record.specs.Layout.{slotSize}
 use Rattle.sound.specs.inside.Sound.{all}
 use Rattle.sound.specs.inside.Bulk.{zeroIn, zeroFrom}
 use Rattle.sound.proofs.Places.{runAbsent, runFits, zeroPart}

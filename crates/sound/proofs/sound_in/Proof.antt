@@ -5,7 +5,7 @@ use native.Mathlib.Omega.{arith}
 use Rattle.frame.proofs.Laws.{told}
 use Rattle.settings.proofs.Allowed.{allowed}
 use Rattle.record.specs.Slots.{slotOf}
-use Rattle.layout.specs.Layout.{decodeRecord}
+use Rattle.record.specs.Layout.{decodeRecord}
 use Rattle.sound.proofs.Laws.{off, on, soundSettings, soundRows, soundVotes}
 use borrow.Author.Needs.{needs}
 use Rattle.sound.proofs.sound_in.Statement.{statement}

@@ -4,7 +4,7 @@ use mathlib.Core.Path.{sym, _∙_}
 use native.Mathlib.Omega.{arith}
 use Prim.Native.Nat.{_+_, _*_, _<_}
 use Rattle.record.specs.Slots.{rows, slotOf}
-use Rattle.layout.specs.Layout.{decodeRecord}
+use Rattle.record.specs.Layout.{decodeRecord}
 use Rattle.sound.proofs.Laws.{off, on}
 use Rattle.sound.proofs.Rows.{toldFirst, toldSecond, toldThird}
 use borrow.Author.Needs.{needs}

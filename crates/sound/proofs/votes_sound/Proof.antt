@@ -5,7 +5,7 @@ use mathlib.Core.Bool.{not}
 use Rattle.frame.specs.declared.Report.{Report}
 use Rattle.frame.specs.Refusal.{badForm}
 use Rattle.record.specs.Slots.{slotOf}
-use Rattle.layout.specs.Layout.{decodeRecord}
+use Rattle.record.specs.Layout.{decodeRecord}
 use Rattle.sound.proofs.Laws.{off, on, votesFirst, votesSecond, votesDecision}
 use borrow.Author.Needs.{needs}
 use Rattle.sound.proofs.votes_sound.Statement.{statement}

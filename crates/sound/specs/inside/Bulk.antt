@@ -30,7 +30,7 @@ zeroIn s i = eqb (getD s i 0) 0
 abbrev pub zeroFrom : List ℕ → ℕ → ℕ → Bool
 zeroFrom s from i = eqb (getD s (from + i) 0) 0
 
--- "Absent means all 13 bytes zero", of the slot i slots on.
+-- 'Absent means all 13 bytes zero', of the slot i slots on.
 abbrev pub absentFrom : (ℕ → Report) → ℕ → ℕ → Bool
 absentFrom slots from i = absent (slots (from + i))
 
@@ -57,7 +57,7 @@ pub record Marked (slots : ℕ → Report) (head : Head) : Type 0 where
   pub mark : slots (frameSlot (head .kind) (head .sender)) .mark ≡ 1
   pub view : head .view ≡ slots (frameSlot (head .kind) (head .sender)) .view
 
--- The frames that a slot holds, by the table's column "Rest": with a plan, bare, and with three reports.
+-- The frames that a slot holds, by the table's column 'Rest': with a plan, bare, and with three reports.
 abbrev pub planFrame : Head → ℕ → Frame
 planFrame head plan = record { kind = head .kind; sender = head .sender; view = head .view; body = Plan plan }
 
@@ -71,6 +71,6 @@ bareFrame head = record { kind = head .kind; sender = head .sender; view = head 
 abbrev pub toldFrame : Head → Reports → Frame
 toldFrame head told = record { kind = head .kind; sender = head .sender; view = head .view; body = Told told }
 
--- "bad report": a report of a frame of a view has its form, and is below it.
+-- 'bad report': a report of a frame of a view has its form, and is below it.
 unfoldable pub reportFits : ℕ → Report → Bool
 reportFits view r = not (badForm r) && not (tooHigh view r)

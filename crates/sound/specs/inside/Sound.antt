@@ -1,4 +1,4 @@
--- When a lent record is blank, and when it is sound (document 01, "What a vault keeps"). Slots are given as a function from places
+-- When a lent record is blank, and when it is sound (document 01, 'What a vault keeps'). Slots are given as a function from places
 -- to what stands there. Since every string of 11,703 bytes spells a record, what a record of document 01 can't hold (a mark that
 -- is neither 0 nor 1, an absent slot that is not zero, a report without its frame, a plan beside a view-change) is unsound here.
 -- Assumes nothing.
@@ -13,9 +13,9 @@ use Rattle.frame.specs.Refusal.{first, present, absent, badForm, badPrevious, c
 use Rattle.settings.specs.declared.Settings.{Settings}
 use Rattle.settings.specs.Settings.{settingRows}
 use Rattle.record.specs.Slots.{rows, kinds, Record, frameSlot, reportSlot, previousSlot, decisionSlot, slotOf}
-use Rattle.layout.specs.Layout.{decodeRecord}
-use Rattle.layout.specs.Size.{recordSize}
-use Rattle.keeping.specs.Kept.{frameIn}
+use Rattle.record.specs.Layout.{decodeRecord}
+use Rattle.record.specs.Size.{recordSize}
+use Rattle.record.specs.Kept.{frameHeld}
 use Rattle.sound.specs.declared.Lent.{Lent}
 use Rattle.sound.specs.declared.Lent.the-variants.{Blank, Unsound, Sound}
 
@@ -36,25 +36,25 @@ reportsAbsent slots kind sender =
 unfoldable pub emptyAt : (ℕ → Report) → ℕ → ℕ → Bool
 emptyAt slots kind sender = absent (slots (frameSlot kind sender)) && (ltb kind 7 || reportsAbsent slots kind sender)
 
--- The table's column "Rest": only kinds 1 to 5 have a plan.
+-- The table's column 'Rest': only kinds 1 to 5 have a plan.
 unfoldable pub noPlan : ℕ → ℕ → Bool
 noPlan kind plan = ltb kind 6 || eqb plan 0
 
--- "no frame in its own row but the view-change is above the current view"
+-- 'no frame in its own row but the view-change is above the current view'
 unfoldable pub ahead : Settings → ℕ → Frame → Bool
 ahead set view f = eqb (f .sender) (set .id) && (not (eqb (f .kind) 6) && ltb view (f .view))
 
--- "every kept frame passes 9 to 15 for its row (its own row excused from the own-number half of 11)": 9, 10 and 12 are passed by
+-- 'every kept frame passes 9 to 15 for its row (its own row excused from the own-number half of 11)': 9, 10 and 12 are passed by
 -- place, and of 11 the half is left that the sender is below n.
 unfoldable pub frameSound : Settings → ℕ → Frame → Bool
 frameSound set view f =
     ltb (f .sender) (set .n) && (not (ahead set view f) && eqb (first (contentRows f ++ leaderRows f (set .n) (set .id))) 0)
 
--- "For each sender and kind it keeps one frame": a sound one, or nothing stands there.
+-- 'For each sender and kind it keeps one frame': a sound one, or nothing stands there.
 unfoldable pub placeSound : (ℕ → Report) → Settings → ℕ → ℕ → ℕ → Bool
 placeSound slots set view kind sender =
     cond (present (slots (frameSlot kind sender)))
-    (noPlan kind (slots (frameSlot kind sender) .plan) && frameSound set view (frameIn slots kind sender))
+    (noPlan kind (slots (frameSlot kind sender) .plan) && frameSound set view (frameHeld slots kind sender))
     (emptyAt slots kind sender)
 
 -- The places of a kind, of each sender that the layout has a row for.
@@ -67,7 +67,7 @@ rowsSound slots set view = all (λ k. kindSound slots set view (k + 1)) kinds
 
 -- ---- the own votes
 
--- "each previous vote stands to its highest as in 14"
+-- 'each previous vote stands to its highest as in 14'
 unfoldable pub stands : Report → Report → Bool
 stands highest previous = not (badForm previous) && not (badPrevious highest previous)
 
@@ -75,14 +75,14 @@ stands highest previous = not (badForm previous) && not (badPrevious highest pre
 unfoldable pub previousSound : (ℕ → Report) → ℕ → ℕ → Bool
 previousSound slots id kind = stands (slots (frameSlot kind id)) (slots (previousSlot kind))
 
--- "its own previous vote-1 and vote-2, and the decision"
+-- 'its own previous vote-1 and vote-2, and the decision'
 unfoldable pub votesSound : (ℕ → Report) → ℕ → Bool
 votesSound slots id =
     previousSound slots id 2 && (previousSound slots id 3 && not (badForm (slots decisionSlot)))
 
 -- ---- the record
 
--- "It is sound when its settings pass 5 to 8, every kept frame passes .., and each previous vote stands to its highest as in 14."
+-- 'It is sound when its settings pass 5 to 8, every kept frame passes .., and each previous vote stands to its highest as in 14.'
 unfoldable pub soundIn : (ℕ → Report) → Settings → ℕ → Bool
 soundIn slots set view =
     eqb (first (settingRows set)) 0 && (rowsSound slots set view && votesSound slots (set .id))
@@ -91,13 +91,13 @@ soundIn slots set view =
 abbrev pub sound : Record → Bool
 sound r = soundIn (slotOf r) (r .set) (r .view)
 
--- "Otherwise it is blank when its n is 0."
-abbrev pub blank : Record → Bool
-blank r = eqb (r .set .n) 0
+-- 'Otherwise it is blank when its n is 0.'
+abbrev pub isBlank : Record → Bool
+isBlank r = eqb (r .set .n) 0
 
--- "A lent record of the wrong length, or whose bytes spell no record, is unsound and not blank."
+-- 'A lent record of the wrong length, or whose bytes spell no record, is unsound and not blank.'
 unfoldable pub lentIs : List ℕ → Lent
 lentIs s =
     cond (eqb (length s) recordSize)
-    (cond (blank (decodeRecord s)) Blank (cond (sound (decodeRecord s)) Sound Unsound))
+    (cond (isBlank (decodeRecord s)) Blank (cond (sound (decodeRecord s)) Sound Unsound))
     Unsound

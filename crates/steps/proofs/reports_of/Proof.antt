@@ -2,7 +2,7 @@
 -- Assumes nothing.
 use mathlib.Core.Path.{ap, _∙_}
 use Rattle.record.specs.Slots.{slotOf}
-use Rattle.layout.specs.Layout.{decodeRecord}
+use Rattle.record.specs.Layout.{decodeRecord}
 use borrow.Author.Needs.{needs}
 use Rattle.steps.proofs.reports_of.Statement.{statement}
 use Rattle.steps.proofs.reports_of.Tie as tie

@@ -11,8 +11,8 @@ use Rattle.entry.specs.declared.Entry.{Entry}
 use Rattle.entry.specs.declared.Entry.the-variants.{ForAll, ForOne, Timer, Decision}
 use Rattle.record.specs.Slots as slots
 use Rattle.record.specs.Slots.{frameSlot, previousSlot, slotOf}
-use Rattle.layout.specs.Size.{recordSize}
-use Rattle.layout.specs.Layout.{decodeRecord}
+use Rattle.record.specs.Size.{recordSize}
+use Rattle.record.specs.Layout.{decodeRecord}
 use Rattle.protocol.specs.Pass.{Act, ask, enter, cast, decide, Out}
 use Rattle.contents.specs.Lent.{Clean}
 use Rattle.contents.specs.Contents.{contentsIn}

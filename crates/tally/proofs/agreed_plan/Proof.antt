@@ -6,7 +6,7 @@ use mathlib.Core.Bool.{Bool, true, false, cond}
 use mathlib.Core.Option.{none, some}
 use lib.Dec.{leb}
 use borrow.Author.Tests.{lt-leb, le-leb}
-use Rattle.tally.specs.inside.Votes.{votes, agreedIn}
+use Rattle.tally.specs.inside.Votes.{rowVotes, agreedIn}
 use Rattle.tally.proofs.Votes.{agreedFew, agreedCount}
 use borrow.Author.Needs.{needs}
 use native.Mathlib.Omega.{arith}
@@ -31,7 +31,7 @@ returns c =
     let e = b .before .before .before .before in
     let a = e .args in
     let less : a .set .f < a .set .n = omega arith in
-    agreedFew (votes (a .block .now) (a .v) (a .from)) (a .set .n) (a .set .f) (b .lead-of .result) (b .lead-of .ensures) less (c .if1 .taken)
+    agreedFew (rowVotes (a .block .now) (a .v) (a .from)) (a .set .n) (a .set .f) (b .lead-of .result) (b .lead-of .ensures) less (c .if1 .taken)
 
 votes-for-requires : tie.Need-votes-for-requires
 votes-for-requires c κs = search needs
@@ -44,14 +44,14 @@ entry c = c .before .before .before .before .before .before .before
 counted : (c : tie.After-votes-for) (enough : Bool)
     → leb (entry c .args .set .n - entry c .args .set .f) (c .votes-for .result) ≡ enough
     → cond enough (some (c .before .before .before .lead-of .result .plan)) none
-    ≡ agreedIn (votes (entry c .args .block .now) (entry c .args .v) (entry c .args .from)) (entry c .args .set .n) (entry c .args .set .f)
+    ≡ agreedIn (rowVotes (entry c .args .block .now) (entry c .args .v) (entry c .args .from)) (entry c .args .set .n) (entry c .args .set .f)
 counted c enough is =
     let many = c .before in
     let lead = many .before .before .lead-of in
     let a = entry c .args in
     let less : a .set .f < a .set .n = omega arith in
     ap (λ (x : Bool). cond x (some (lead .result .plan)) none) (sym is)
-    ∙ agreedCount (votes (a .block .now) (a .v) (a .from)) (a .set .n) (a .set .f) (lead .result) (lead .ensures) less (many .if1 .left)
+    ∙ agreedCount (rowVotes (a .block .now) (a .v) (a .from)) (a .set .n) (a .set .f) (lead .result) (lead .ensures) less (many .if1 .left)
     (c .votes-for .result) (c .votes-for .ensures)
 
 returns-2 : tie.Need-returns-2

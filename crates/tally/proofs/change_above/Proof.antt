@@ -2,7 +2,7 @@
 -- Assumes nothing.
 use Prim.Native.Nat.{ℕ, max}
 use mathlib.Core.Path.{_∙_, ap}
-use Rattle.layout.specs.Layout.{slotIn}
+use Rattle.record.specs.Layout.{slotIn}
 use Rattle.tally.proofs.Changes.{newsNone, newsSome}
 use borrow.Author.Needs.{needs}
 use Rattle.tally.proofs.change_above.Statement.{statement}

@@ -6,7 +6,7 @@ use mathlib.Core.Bool.{not}
 use mathlib.Core.Option.{Option}
 use lib.Dec.{eqb}
 use Rattle.rules.specs.Options.{isNone}
-use Rattle.layout.specs.Layout.{slotIn}
+use Rattle.record.specs.Layout.{slotIn}
 use Rattle.tally.proofs.Votes.{votedNone, votedThere}
 use borrow.Author.Needs.{needs}
 use Rattle.tally.proofs.is_of_view.Statement.{statement}

@@ -4,7 +4,7 @@ use Prim.Native.Nat.{ℕ}
 use mathlib.Core.Path.{sym, _∙_, ap}
 use mathlib.Core.Logic.{_≢_}
 use mathlib.Core.Option.{Option}
-use Rattle.layout.specs.Layout.{slotIn}
+use Rattle.record.specs.Layout.{slotIn}
 use Rattle.tally.specs.inside.Votes.{leadWith, leadAfter}
 use Rattle.tally.proofs.Votes.{votedNone, votedOther, votedSome}
 use borrow.Author.Needs.{needs}

@@ -2,7 +2,7 @@
 -- Assumes nothing.
 use Prim.Native.Nat.{_-_, _≤_}
 use mathlib.Core.Path.{_≡_}
-use Rattle.tally.specs.inside.Votes.{votes, leading}
+use Rattle.tally.specs.inside.Votes.{rowVotes, leading}
 use Rattle.tally.proofs.Votes.{leadNone, leadMore, leadLow, leadAll, leadFew}
 use borrow.Author.Needs.{needs}
 use native.Mathlib.Omega.{arith}
@@ -10,7 +10,7 @@ use Rattle.tally.proofs.lead_of.Statement.{statement}
 use Rattle.tally.proofs.lead_of.Tie as tie
 
 abbrev Inv-loop : tie.InvT-loop
-Inv-loop block from n f v b₀ j₀ b j = (j ≤ n) × (b ≡ leading (votes block v from) j)
+Inv-loop block from n f v b₀ j₀ b j = (j ≤ n) × (b ≡ leading (rowVotes block v from) j)
 
 abbrev μ-loop : tie.MeasureT-loop
 μ-loop block from n f v b₀ j₀ b j = n - j
@@ -23,14 +23,14 @@ add-if1 c =
     let at = c .before .before in
     let e = at .before .before in
     let a = e .args in
-    omega (arith, leadLow (votes (a .block .now) (a .v) (a .from)) (at .loop .j) (at .loop .b) (at .loop .inv .1) .1)
+    omega (arith, leadLow (rowVotes (a .block .now) (a .v) (a .from)) (at .loop .j) (at .loop .b) (at .loop .inv .1) .1)
 
 returns : tie.Need-returns Inv-loop μ-loop
 returns c =
     let at = c .before .before .before in
     let e = at .before .before in
     let a = e .args in
-    leadFew (votes (a .block .now) (a .v) (a .from)) (at .loop .j) (a .n) (a .f) (at .loop .b) (at .loop .inv .1)
+    leadFew (rowVotes (a .block .now) (a .v) (a .from)) (at .loop .j) (a .n) (a .f) (at .loop .b) (at .loop .inv .1)
     (c .before .before .loop-test .taken) (c .if1 .taken)
 
 mul-lead-after : tie.Need-mul-lead-after Inv-loop μ-loop
@@ -44,7 +44,7 @@ lead-after-requires c κs =
     let at = c .before .before .before in
     let e = at .before .before in
     let a = e .args in
-    let low = leadLow (votes (a .block .now) (a .v) (a .from)) (at .loop .j) (at .loop .b) (at .loop .inv .1) in
+    let low = leadLow (rowVotes (a .block .now) (a .v) (a .from)) (at .loop .j) (at .loop .b) (at .loop .inv .1) in
     (omega (arith, low .0, low .1), omega (arith, low .1), omega arith)
 
 add-j : tie.Need-add-j Inv-loop μ-loop
@@ -59,14 +59,14 @@ loop-again c =
     let e = at .before .before in
     let a = e .args in
     let next = c .lead-after in
-    (omega arith, leadMore (votes (a .block .now) (a .v) (a .from)) (at .loop .j) (at .loop .b) (next .result) (at .loop .inv .1) (next .ensures))
+    (omega arith, leadMore (rowVotes (a .block .now) (a .v) (a .from)) (at .loop .j) (at .loop .b) (next .result) (at .loop .inv .1) (next .ensures))
 
 returns-2 : tie.Need-returns-2 Inv-loop μ-loop
 returns-2 c =
     let at = c .before in
     let e = at .before .before in
     let a = e .args in
-    leadAll (votes (a .block .now) (a .v) (a .from)) (at .loop .j) (a .n) (a .f) (at .loop .b) (at .loop .inv .1) (omega arith)
+    leadAll (rowVotes (a .block .now) (a .v) (a .from)) (at .loop .j) (a .n) (a .f) (at .loop .b) (at .loop .inv .1) (omega arith)
 
 pub lead-of-spec : {M : Type 1} → statement M
 lead-of-spec =

@@ -4,7 +4,7 @@ use Prim.Native.Nat.{ℕ}
 use mathlib.Core.Path.{_≡_, _∙_, ap}
 use mathlib.Core.Bool.{not}
 use Rattle.rules.specs.Options.{isNone}
-use Rattle.layout.specs.Layout.{slotIn}
+use Rattle.record.specs.Layout.{slotIn}
 use Rattle.tally.specs.inside.Votes.{voted}
 use borrow.Author.Needs.{needs}
 use Rattle.tally.proofs.sent.Statement.{statement}

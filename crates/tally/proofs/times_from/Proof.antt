@@ -4,7 +4,7 @@ use Prim.Native.Nat.{ℕ, _+_, _-_, _≤_}
 use mathlib.Core.Path.{_≡_, _∙_, ap}
 use lib.Dec.{eqb}
 use lib.ListN.{length, getD}
-use Rattle.quorum.proofs.Laws.{shareMost}
+use Rattle.rules.proofs.Quorums.{shareMost}
 use Rattle.tally.specs.inside.Changes.{times}
 use Rattle.tally.proofs.Changes.{timesStep}
 use borrow.Author.Needs.{needs}

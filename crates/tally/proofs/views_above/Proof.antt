@@ -4,7 +4,7 @@ use Prim.Native.Nat.{_<_, _-_, _≤_}
 use mathlib.Core.Path.{_≡_, sym, _∙_}
 use lib.Dec.{ltb}
 use lib.ListN.{length, length-set}
-use Rattle.quorum.proofs.Laws.{shareMost}
+use Rattle.rules.proofs.Quorums.{shareMost}
 use Rattle.tally.specs.inside.Changes.{changeIn}
 use Rattle.tally.proofs.Changes.{Passed, passNone, passMore, gathered, gatheredFew}
 use borrow.Author.Needs.{needs}

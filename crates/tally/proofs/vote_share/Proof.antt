@@ -7,7 +7,7 @@ use mathlib.Core.Option.{Option, some}
 use lib.Dec.{eqb}
 use borrow.Author.Tests.{eq-eqb, ne-eqb}
 use Rattle.rules.specs.Options.{holds}
-use Rattle.layout.specs.Layout.{slotIn}
+use Rattle.record.specs.Layout.{slotIn}
 use Rattle.tally.specs.inside.Votes.{voted}
 use Rattle.tally.proofs.Votes.{votedPlan, toldNone}
 use borrow.Author.Needs.{needs}

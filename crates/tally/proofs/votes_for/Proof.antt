@@ -3,9 +3,9 @@
 use Prim.Native.Nat.{_-_, _≤_}
 use mathlib.Core.Path.{_≡_, sym, _∙_, ap}
 use lib.Dec.{eqb}
-use Rattle.quorum.proofs.Laws.{weighNone, weighStep, shareMost}
+use Rattle.rules.proofs.Quorums.{weighNone, weighStep, shareMost}
 use Rattle.rules.specs.Options.{holds}
-use Rattle.tally.specs.inside.Votes.{votes}
+use Rattle.tally.specs.inside.Votes.{rowVotes}
 use Rattle.tally.proofs.Votes.{tally}
 use borrow.Author.Needs.{needs}
 use native.Mathlib.Omega.{arith}
@@ -13,7 +13,7 @@ use Rattle.tally.proofs.votes_for.Statement.{statement}
 use Rattle.tally.proofs.votes_for.Tie as tie
 
 abbrev Inv-loop : tie.InvT-loop
-Inv-loop block from n v p count₀ j₀ count j = (j ≤ n) × (count ≤ j) × (count ≡ tally (votes block v from) p j)
+Inv-loop block from n v p count₀ j₀ count j = (j ≤ n) × (count ≤ j) × (count ≡ tally (rowVotes block v from) p j)
 
 abbrev μ-loop : tie.MeasureT-loop
 μ-loop block from n v p count₀ j₀ count j = n - j
@@ -35,7 +35,7 @@ add-count c =
     let a = c .before .before .before .before .args in
     let at = c .before .before .loop in
     let m = c .vote-share in
-    omega (arith, shareMost (holds (eqb (a .p)) (votes (a .block .now) (a .v) (a .from) (at .j))) 1 (m .result) (m .ensures))
+    omega (arith, shareMost (holds (eqb (a .p)) (rowVotes (a .block .now) (a .v) (a .from) (at .j))) 1 (m .result) (m .ensures))
 
 add-j : tie.Need-add-j Inv-loop μ-loop
 add-j c = search needs
@@ -48,10 +48,10 @@ loop-again c =
     let a = c .before .before .before .before .args in
     let at = c .before .before .loop in
     let m = c .vote-share in
-    let little : m .result ≤ 1 = shareMost (holds (eqb (a .p)) (votes (a .block .now) (a .v) (a .from) (at .j))) 1 (m .result) (m .ensures) in (
+    let little : m .result ≤ 1 = shareMost (holds (eqb (a .p)) (rowVotes (a .block .now) (a .v) (a .from) (at .j))) 1 (m .result) (m .ensures) in (
       omega arith,
       omega arith,
-      weighStep (λ i. 1) (λ i. holds (eqb (a .p)) (votes (a .block .now) (a .v) (a .from) i)) (at .j) (at .count) (m .result) (at .inv .2) (m .ensures),
+      weighStep (λ i. 1) (λ i. holds (eqb (a .p)) (rowVotes (a .block .now) (a .v) (a .from) i)) (at .j) (at .count) (m .result) (at .inv .2) (m .ensures),
     )
 
 returns : tie.Need-returns Inv-loop μ-loop
@@ -59,7 +59,7 @@ returns c =
     let a = c .before .before .before .args in
     let at = c .before .loop in
     let e : at .j ≡ a .n = omega arith in
-    at .inv .2 ∙ ap (tally (votes (a .block .now) (a .v) (a .from)) (a .p)) e
+    at .inv .2 ∙ ap (tally (rowVotes (a .block .now) (a .v) (a .from)) (a .p)) e
 
 pub votes-for-spec : {M : Type 1} → statement M
 votes-for-spec =

@@ -7,11 +7,11 @@ use mathlib.Core.List.{List}
 use mathlib.Core.Option.{Option, none, some}
 use lib.Dec.{leb, ltb, eqb}
 use lib.ListN.{length, getD}
-use Rattle.quorum.specs.Sets.{Set, weigh}
+use Rattle.rules.specs.Sets.{Set, weigh}
 use Rattle.rules.specs.Options.{holds}
 use Rattle.frame.specs.declared.Report.{Report}
 use Rattle.frame.specs.Refusal.{present}
-use Rattle.layout.specs.Layout.{headSize}
+use Rattle.record.specs.Layout.{headSize}
 use Rattle.tally.specs.inside.Parts.{rowIn}
 
 -- 'view-changes are for w': the view for which the one in a slot is, where one is kept.

@@ -12,7 +12,7 @@ use Rattle.claims.specs.Table.{column, tableSize, voteAbove, reportsInTable}
 use Rattle.frame.specs.declared.Report as Slot
 use Rattle.frame.specs.Refusal.{present}
 use Rattle.record.specs.Slots.{frameSlot, reportSlot}
-use Rattle.layout.specs.Layout.{slotIn}
+use Rattle.record.specs.Layout.{slotIn}
 use Rattle.tally.specs.inside.Parts.{blockPlace}
 
 -- A vote's view + 1, 0 where it is absent.
@@ -20,22 +20,22 @@ unfoldable pub aboveOf : Slot.Report → ℕ
 aboveOf x = cond (eqb (x .mark) 1) (x .view + 1) 0
 
 -- The vote in a slot, as the table tells it.
-abbrev pub voteBy : Slot.Report → Option Vote
-voteBy x = voteAbove (aboveOf x) (x .plan)
+abbrev pub slotVote : Slot.Report → Option Vote
+slotVote x = voteAbove (aboveOf x) (x .plan)
 
 -- The three votes that sender j's suggest (kind 7) or proof (kind 8) reports.
-abbrev pub toldIn : List ℕ → ℕ → ℕ → Report
-toldIn block kind j = record {
-  highest = voteBy (slotIn block (blockPlace (reportSlot kind 0 j)));
-  previous = voteBy (slotIn block (blockPlace (reportSlot kind 1 j)));
-  lock = voteBy (slotIn block (blockPlace (reportSlot kind 2 j)));
+abbrev pub reportInBlock : List ℕ → ℕ → ℕ → Report
+reportInBlock block kind j = record {
+  highest = slotVote (slotIn block (blockPlace (reportSlot kind 0 j)));
+  previous = slotVote (slotIn block (blockPlace (reportSlot kind 1 j)));
+  lock = slotVote (slotIn block (blockPlace (reportSlot kind 2 j)));
 }
 
 -- 'Reports are those in kept suggests (Rule 1) or proofs (Rule 3) of view v'.
 unfoldable pub reportsBy : List ℕ → ℕ → ℕ → Reports
 reportsBy block kind v j =
     cond (present (slotIn block (blockPlace (frameSlot kind j))) && eqb (slotIn block (blockPlace (frameSlot kind j)) .view) v)
-    (some (toldIn block kind j)) none
+    (some (reportInBlock block kind j)) none
 
 -- The table with a vote in two columns.
 abbrev pub withVote : List ℕ → ℕ → Slot.Report → List ℕ

@@ -8,13 +8,13 @@ use mathlib.Core.Bool.{Bool, cond, _&&_}
 use mathlib.Core.List.{List}
 use mathlib.Core.Option.{Option, none, some}
 use lib.Dec.{eqb}
-use Rattle.quorum.specs.Sets.{equals}
-use Rattle.quorum.specs.Quorums.{isQuorum}
+use Rattle.rules.specs.Sets.{equals}
+use Rattle.rules.specs.Quorums.{isQuorum}
 use Rattle.rules.specs.Options.{holds}
 use Rattle.frame.specs.declared.Report.{Report}
 use Rattle.frame.specs.Refusal.{present}
 use Rattle.record.specs.Slots.{frameSlot}
-use Rattle.layout.specs.Layout.{slotIn}
+use Rattle.record.specs.Layout.{slotIn}
 use Rattle.tally.specs.inside.Parts.{blockPlace, rowIn}
 use Rattle.tally.specs.declared.Lead.{Lead}
 
@@ -23,12 +23,12 @@ unfoldable pub voted : ℕ → Report → Option ℕ
 voted v slot = cond (present slot && eqb (slot .view) v) (some (slot .plan)) none
 
 -- The plan of a sender's vote-k (0: proposal), where that is of view v.
-abbrev pub voteIn : List ℕ → ℕ → ℕ → ℕ → Option ℕ
-voteIn block v k j = voted v (slotIn block (blockPlace (frameSlot (k + 1) j)))
+abbrev pub voteInBlock : List ℕ → ℕ → ℕ → ℕ → Option ℕ
+voteInBlock block v k j = voted v (slotIn block (blockPlace (frameSlot (k + 1) j)))
 
 -- The plans of the votes of view v that stand from a place on.
-abbrev pub votes : List ℕ → ℕ → ℕ → ℕ → Option ℕ
-votes block v from j = voted v (rowIn block from j)
+abbrev pub rowVotes : List ℕ → ℕ → ℕ → ℕ → Option ℕ
+rowVotes block v from j = voted v (rowIn block from j)
 
 -- A vote for x: one more for the plan that leads, or one against it.
 unfoldable pub leadWith : Lead → ℕ → Lead

@@ -3,7 +3,7 @@
 use mathlib.Core.Path.{_≡_, sym, _∙_, ap}
 use denote.Ref.{now}
 use Rattle.settings.specs.declared.Settings.{Settings}
-use Rattle.layout.specs.Layout.{decodeRecord}
+use Rattle.record.specs.Layout.{decodeRecord}
 use Rattle.protocol.specs.Calls.{started}
 use Rattle.vault.proofs.Laws.{acceptedLeft}
 use Rattle.vault.proofs.Begun.{startShort, startLength, startHeld, startRefused, startAccepted}

@@ -2,7 +2,7 @@
 -- Assumes nothing.
 use denote.Ref.{now}
 use Rattle.vault.proofs.Laws.{wayOpen}
-use Rattle.vault.proofs.Rung.{timerShut}
+use Rattle.vault.proofs.Timers.{timerShut}
 use borrow.Author.Needs.{needs}
 use Rattle.vault.proofs.timer.Statement.{statement}
 use Rattle.vault.proofs.timer.Tie as tie

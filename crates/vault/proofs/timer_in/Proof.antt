@@ -8,7 +8,7 @@ use Rattle.contents.specs.inside.Ready.{Ready}
 use Rattle.contents.proofs.Sound.{sizeSound}
 use Rattle.contents.proofs.Ready.{readyLent}
 use Rattle.vault.proofs.Laws.{acceptedLeft}
-use Rattle.vault.proofs.Rung.{timerRefused, timerAccepted, viewBelow}
+use Rattle.vault.proofs.Timers.{timerRefused, timerAccepted, viewBelow}
 use borrow.Author.Needs.{needs}
 use Rattle.vault.proofs.timer_in.Statement.{statement}
 use Rattle.vault.proofs.timer_in.Tie as tie
@@ -41,8 +41,8 @@ settings-of-requires c κs =
     let rec = now (s .args .rec) in
     sizeSound rec (s .pre .0)
 
-ring-requires : tie.Need-ring-requires
-ring-requires c κs =
+time-out-requires : tie.Need-time-out-requires
+time-out-requires c κs =
     let a = c .before .before in
     let b = a .before .before in
     let d = b .before in
@@ -72,8 +72,8 @@ returns-2 c =
     let s = f .before .before .before .before in
     let rec = now (s .args .rec) in
     let out = now (s .args .out) in
-    acceptedLeft (timedOut (contentsIn rec)) rec (b .ring .last .0) out (b .ring .last .1 .1 .1 .0) (b .ring .result)
-    (λ i. a .slice-known3 .given i .fits) (b .ring .ensures)
+    acceptedLeft (timedOut (contentsIn rec)) rec (b .time-out .last .0) out (b .time-out .last .1 .1 .1 .0) (b .time-out .result)
+    (λ i. a .slice-known3 .given i .fits) (b .time-out .ensures)
     ∙ timerAccepted rec out (s .pre .0) (s .pre .1) (f .view-of .result) (f .view-of .ensures)
     (s .args .view) (e .timer-refusal .result) (e .timer-refusal .ensures) (d .if1 .left)
 
@@ -86,7 +86,7 @@ timer-in-spec =
     same-length
     returns
     settings-of-requires
-    ring-requires
+    time-out-requires
     same-length-2
     same-length-3
     returns-2)

@@ -1,6 +1,6 @@
 -- `vault::timer_refusal` meets its contract: the branches decide the rows 18 and 19.
 -- Assumes nothing.
-use Rattle.vault.proofs.Rung.{notCurrent, lastView, mayRing}
+use Rattle.vault.proofs.Timers.{notCurrent, lastView, mayTimeOut}
 use Rattle.vault.proofs.timer_refusal.Statement.{statement}
 use Rattle.vault.proofs.timer_refusal.Tie as tie
 
@@ -17,7 +17,7 @@ returns-3 : tie.Need-returns-3
 returns-3 c =
     let a = c .before in
     let s = a .before in
-    mayRing _ (s .args .view) (a .if1 .left) (c .if2 .left)
+    mayTimeOut _ (s .args .view) (a .if1 .left) (c .if2 .left)
 
 pub timer-refusal-spec : {M : Type 1} → statement M
 timer-refusal-spec = tie.close (tie.spec returns returns-2 returns-3)

@@ -1,7 +1,7 @@
 -- `vault::wanted_view` meets its contract: by whether an own view-change is kept, and whether it is above the view.
 -- Assumes nothing.
 use denote.Ref.{now}
-use Rattle.vault.proofs.Rung.{wantedNone, wantedOwn, wantedNext}
+use Rattle.vault.proofs.Timers.{wantedNone, wantedOwn, wantedNext}
 use borrow.Author.Needs.{needs}
 use Rattle.vault.proofs.wanted_view.Statement.{statement}
 use Rattle.vault.proofs.wanted_view.Tie as tie

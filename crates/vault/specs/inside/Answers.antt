@@ -10,7 +10,7 @@ use Rattle.frame.specs.declared.Frame.{Frame}
 use Rattle.frame.specs.declared.Reading.the-variants.{Accepted}
 use Rattle.frame.specs.Refusal.{first}
 use Rattle.settings.specs.declared.Settings.{Settings}
-use Rattle.layout.specs.Layout.{decodeRecord}
+use Rattle.record.specs.Layout.{decodeRecord}
 use Rattle.sound.specs.declared.Lent.{Lent}
 use Rattle.sound.specs.declared.Lent.the-variants.{Blank, Unsound, Sound}
 use Rattle.sound.specs.inside.Sound.{lentIs}
@@ -19,7 +19,7 @@ use Rattle.protocol.specs.Calls.{frame, timerRows, answer}
 use Rattle.protocol.specs.Fed.{Readable}
 use Rattle.contents.specs.Contents.{contentsIn}
 use Rattle.contents.specs.inside.Ready.{Ready}
-use Rattle.contents.specs.Calls.{after}
+use Rattle.contents.specs.Calls.{leftAfter}
 use Rattle.contents.specs.Left.{Left}
 
 -- Refusals 2 and 3 by what the lent record is; 0 where it is sound.
@@ -44,7 +44,7 @@ pub record Read (rec : List ℕ) (set : Settings) (f : Frame) : Type 0 where
 
 -- 'against the record': what a frame that the reader accepted leaves.
 abbrev pub readLeft : List ℕ → Frame → List ℕ → Left
-readLeft rec f out = after rec out (answer (some (contentsIn rec)) (frame (Accepted f)))
+readLeft rec f out = leftAfter rec out (answer (some (contentsIn rec)) (frame (Accepted f)))
 
 -- Rows 18 and 19 look at the record's view alone: the number that they give, 0 where neither does, of every record at a view.
 abbrev pub TimerGives : ℕ → ℕ → ℕ → Type 0

@@ -3,7 +3,7 @@
 use native.Mathlib.Omega.{arith}
 use lib.ListN.{drop}
 use denote.Ref.{now}
-use Rattle.entries.proofs.Laws.{inMost}
+use Rattle.entry.proofs.Laws.{inMost}
 use borrow.Author.Needs.{needs}
 use Rattle.vault_c.proofs.vault_entry.Statement.{statement}
 use Rattle.vault_c.proofs.vault_entry.Tie as tie

@@ -1,7 +1,7 @@
 -- `vault_c::vault_refusal_text` meets its contract: a sentence is short.
 -- Assumes nothing.
 use native.Mathlib.Omega.{arith}
-use Rattle.texts.proofs.Laws.{shortTexts, shortWritten}
+use Rattle.questions.proofs.Sentences.{shortTexts, shortWritten}
 use borrow.Author.Needs.{needs}
 use Rattle.vault_c.proofs.vault_refusal_text.Statement.{statement}
 use Rattle.vault_c.proofs.vault_refusal_text.Tie as tie

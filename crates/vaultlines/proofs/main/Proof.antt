@@ -3,7 +3,7 @@
 use Prim.Native.Nat.{ℕ}
 use lib.ListN.{length-replicate}
 use Rattle.answers.specs.Lines.{keptSize}
-use Rattle.pieces.specs.inside.Sizes.{pageSize}
+use Rattle.answers.specs.inside.Sizes.{pageSize}
 use borrow.Author.Needs.{needs}
 use Rattle.vaultlines.proofs.main.Statement.{statement}
 use Rattle.vaultlines.proofs.main.Tie as tie

@@ -8,7 +8,7 @@ use borrow.Author.Needs.{needs}
 use lib.ListN.{length}
 use Rattle.answers.specs.Lines.{keptSize}
 use Rattle.vaultlines.specs.declared.Ended.the-variants.{Dry}
-use Rattle.pieces.specs.inside.Sizes.{pageSize, pieceSize}
+use Rattle.answers.specs.inside.Sizes.{pageSize, pieceSize}
 use Rattle.vaultlines.specs.inside.Reading.{EndedWell}
 use Rattle.vaultlines.proofs.Reading.{endedNone, endedMore, pieceSmall}
 use Rattle.vaultlines.proofs.read_all.Statement.{statement}

@@ -1,4 +1,4 @@
--- `wire::number` meets its contract. "Numbers are big-endian" (01, Frames).
+-- `wire::number` meets its contract. 'Numbers are big-endian' (01, Frames).
 -- The invariant: n is the number that the first i bytes spell, and it has at most i digits, so one more byte fits in 64 bits.
 -- Assumes nothing.
 use Prim.Native.Nat.{_≤_, _<_, _-_, _+_, _^_}

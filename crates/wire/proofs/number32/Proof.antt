@@ -1,4 +1,4 @@
--- `wire::number32` meets its contract. "a view (4 bytes)" (01, Frames): four bytes read from the other end, and turned round.
+-- `wire::number32` meets its contract. 'a view (4 bytes)' (01, Frames): four bytes read from the other end, and turned round.
 -- Assumes nothing.
 use denote.Ref.{now}
 use Rattle.wire.proofs.Laws.{turned}

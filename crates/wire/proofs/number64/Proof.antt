@@ -1,4 +1,4 @@
--- `wire::number64` meets its contract. "a plan (8)" (01, Frames): four bytes and four.
+-- `wire::number64` meets its contract. 'a plan (8)' (01, Frames): four bytes and four.
 -- Assumes nothing.
 use denote.Ref.{now}
 use native.Mathlib.Omega.{arith}

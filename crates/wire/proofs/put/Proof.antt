@@ -1,4 +1,4 @@
--- `wire::put` meets its contract. "Numbers are big-endian" (01, Frames).
+-- `wire::put` meets its contract. 'Numbers are big-endian' (01, Frames).
 -- The invariant: what is left to store, stored on what is there, gives what is to come out; at the end nothing is left.
 -- Assumes nothing.
 use Prim.Native.Nat.{_≤_, _+_}

@@ -11,9 +11,9 @@ widths [] = []
 widths (field w v ∷ fs) = w ∷ widths fs
 
 -- How many bytes fields of these widths take together.
-abbrev pub total : List ℕ → ℕ
-total [] = 0
-total (w ∷ ws) = w + total ws
+abbrev pub totalWidth : List ℕ → ℕ
+totalWidth [] = 0
+totalWidth (w ∷ ws) = w + totalWidth ws
 
 -- The fields of the given widths that stand at a place.
 abbrev pub fieldsAt : List ℕ → List ℕ → ℕ → List Field

@@ -1,3 +1,0 @@
-pub mod Reports
-pub mod Agree
-pub mod Valid

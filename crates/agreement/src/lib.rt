@@ -1,1 +1,0 @@
-// Histories of votes that keep the rules agree: definitions in specs/, proofs in proofs/. This crate has no code.

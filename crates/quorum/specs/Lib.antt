@@ -1,3 +1,0 @@
-pub mod Sets
-pub mod Quorums
-pub mod inside

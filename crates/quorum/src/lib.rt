@@ -1,1 +1,0 @@
-// Quorums and blocking sets: definitions in specs/, laws in proofs/. This crate has no code.
