@@ -94,9 +94,9 @@ module _ (s : List ℕ) (r : slots.Record) (reads : Reads s r) where
             → each o (λ q. some (cast 1 q)) ≡ actD (contents r)
         votesOne unsent on p o plan e =
             let off : false ≡ sentNow (contents r) 1 = sym unsent ∙ votedIs in
-            let is-p : proposed ≡ some p = votedPlan (r .view) (slotIn (blockPart s) at) (sym kept ∙ on) ∙ ap some (sym plan) in
+            let isP : proposed ≡ some p = votedPlan (r .view) (slotIn (blockPart s) at) (sym kept ∙ on) ∙ ap some (sym plan) in
             ap (λ (x : Option ℕ). each x (λ q. some (cast 1 q))) (e ∙ planThree (contents r) p) ∙ by (approvedBy (contents r) p)
-            ∙ (λ i. when (not (off i) && approvedBy (contents r) p) (some (cast 1 p))) ∙ actOn (some p) is-p
+            ∙ (λ i. when (not (off i) && approvedBy (contents r) p) (some (cast 1 p))) ∙ actOn (some p) isP
           where
             by : (b : Bool) → each (cond b (some p) none) (λ q. some (cast 1 q)) ≡ when b (some (cast 1 p))
             by true = refl
@@ -106,7 +106,7 @@ module _ (s : List ℕ) (r : slots.Record) (reads : Reads s r) where
 module _ (c : Record) (may : Bool) (is : may ≡ mayPropose c) where
   -- The vault may not propose: C does nothing.
   pub proposesNot : may ≡ false → none ≡ actC c
-  proposesNot off = let no-turn : mayPropose c ≡ false = sym is ∙ off in sym (ap (λ (b : Bool). when b (each (proposalOf c) (λ p. some (cast 0 p)))) no-turn)
+  proposesNot off = let noTurn : mayPropose c ≡ false = sym is ∙ off in sym (ap (λ (b : Bool). when b (each (proposalOf c) (λ p. some (cast 0 p)))) noTurn)
 
   -- It may: C proposes the plan chosen, if there is one.
   pub proposes : may ≡ true → (o : Option ℕ) → o ≡ proposalOf c → each o (λ p. some (cast 0 p)) ≡ actC c

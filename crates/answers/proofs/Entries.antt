@@ -151,10 +151,10 @@ pub putAll : (page₀ : List ℕ) (at : ℕ) (s page : List ℕ) (i end : ℕ) �
 unfolding entriesWithin
 putAll page₀ at s page i end so done =
     let gone : drop i s ≡ [] = drop-of-length-le s {i = i} done in
-    let none-left : entryLines (entriesOf (drop i s)) ≡ [] = ap (λ (l : List ℕ). entryLines (entriesOf l)) gone in
-    let no-more : length (entryLines (entriesOf (drop i s))) ≡ 0 = ap length none-left in
+    let noneLeft : entryLines (entriesOf (drop i s)) ≡ [] = ap (λ (l : List ℕ). entryLines (entriesOf l)) gone in
+    let noMore : length (entryLines (entriesOf (drop i s))) ≡ 0 = ap length noneLeft in
     record {
-      shown = sym (placedNone page end) ∙ ap (λ (l : List ℕ). placed page end l) (sym none-left) ∙ so .shown;
+      shown = sym (placedNone page end) ∙ ap (λ (l : List ℕ). placed page end l) (sym noneLeft) ∙ so .shown;
       ends = omega (arith, so .ends);
     }
 

@@ -98,8 +98,8 @@ secondMissing (x ∷ y ∷ s) h = absurd (omega arith)
 -- So less than two bytes hold no entry.
 pub inShort : (s : List ℕ) → length s < 2 → sizeIn s ≡ 0
 inShort s h =
-    let none-here : sizeHere s ≡ 0 = ap (λ (k : ℕ). sizeBy (getD s 0 0) k) (secondMissing s h) ∙ byNothing (getD s 0 0) in
-    inWhole s (omega arith) ∙ none-here
+    let noneHere : sizeHere s ≡ 0 = ap (λ (k : ℕ). sizeBy (getD s 0 0) k) (secondMissing s h) ∙ byNothing (getD s 0 0) in
+    inWhole s (omega arith) ∙ noneHere
 
 -- At the end, and beyond it.
 pub inNone : (s : List ℕ) (at : ℕ) → length s ≤ at → sizeIn (drop at s) ≡ 0

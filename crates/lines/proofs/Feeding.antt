@@ -78,11 +78,11 @@ module _ {S : Type 0} (p : Program S) (room : ℕ) (s₀ : S) (line₀ piece : L
     unfolding after prints
     fedEnd within keeps kept =
         let long : length (drop i piece) ≤ length (firstLine (drop i piece)) = rw length-drop (omega arith) in
-        let none-ended : ended line (drop i piece) ≡ [] = endedNone line (drop i piece) long in
+        let noneEnded : ended line (drop i piece) ≡ [] = endedNone line (drop i piece) long in
         record {
-          left = ap (after p s) (sym none-ended) ∙ so .left;
+          left = ap (after p s) (sym noneEnded) ∙ so .left;
           kept = kept ∙ ap (take room) (sym (begunNone line (drop i piece) long)) ∙ so .kept;
-          says = sym (append-nil said) ∙ ap (λ (l : List (List ℕ)). said ++ prints p s l) (sym none-ended) ∙ so .says;
+          says = sym (append-nil said) ∙ ap (λ (l : List (List ℕ)). said ++ prints p s l) (sym noneEnded) ∙ so .says;
         }
 
     -- The piece ends with a line's end, or is empty.

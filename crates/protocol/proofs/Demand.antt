@@ -167,11 +167,11 @@ module _ (c : ContentsSetting) (Began : ℕ → Type 0) where
           let (given, same) = unlessAccepted (first (settingRows s)) (started s p) tested in
           let third : Third = subst (λ (vs : Vaults). 3 * vs .f < total vs) same-vaults (thirdWeight s given) in
           let blank : written l (s .id) ≡ [] = ap (written l) id ∙ v .blank i e in
-          let zero-view : viewIn (recordAt l (s .id)) ≡ 0 = ap (λ (j : ℕ). viewIn (recordAt l j)) id ∙ ap viewIn e in (
+          let zeroView : viewIn (recordAt l (s .id)) ≡ 0 = ap (λ (j : ℕ). viewIn (recordAt l j)) id ∙ ap viewIn e in (
             third,
             subst (λ (u : Out). Went c Began (past l) i u) same
                 (subst (λ (j : ℕ). Went c Began (past l) j (started s p)) id
-                (startWent c Began seed (past l) s p same-vaults (began s p refl) blank zero-view)),
+                (startWent c Began seed (past l) s p same-vaults (began s p refl) blank zeroView)),
           )
       go (frame (Accepted x)) (some r) e began fair is =
           let (read, sent) = fair in

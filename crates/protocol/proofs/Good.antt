@@ -383,12 +383,12 @@ module _ (c : ContentsSetting) (Began : ℕ → Type 0) where
               lock = reported (spelt (voteOf r (lockVote rule) i));
             } in
             let reads : reportBy (Told (tells r rule)) ≡ some read = refl in
-            let is-x : read ≡ x = cc in
+            let isX : read ≡ x = cc in
             let same : said ≡ x = (λ z. record {
               highest = sym (reportedSpelt (voteOf r (claimVote rule) i)) z;
               previous = sym (reportedSpelt (r .previous (claimVote rule))) z;
               lock = sym (reportedSpelt (voteOf r (lockVote rule) i)) z;
-            }) ∙ is-x in (
+            }) ∙ isX in (
               omega (arith, putSame i ((does r a) .view) (h .at), ap (λ (b : Act). (does r b) .view) is),
               subst (λ (y : Report). Exact (Voted h′ i) rule w y)
                   same exact,

@@ -28,12 +28,12 @@ acceptedReadable s link n own x bytes e =
     let said : getD s 1 0 ≡ x .sender = senderSaid s ∙ ap (λ (y : Frame). y .sender) (p .said) in
     let same : getD s 1 0 ≡ link = eqb-true (getD s 1 0) link
     (not-false (eqb (getD s 1 0) link) (noneGiven (linkRows (getD s 1 0) link n own) (p .linkPassed) .1 .0)) in
-    let own-link : x .sender ≡ link = sym said ∙ same in (
-      own-link,
+    let ownLink : x .sender ≡ link = sym said ∙ same in (
+      ownLink,
       record {
         valid = acceptedValid s link n own x bytes e;
         link =
-            subst (λ (j : ℕ). first (linkRows (x .sender) j n own) ≡ 0) (sym own-link)
+            subst (λ (j : ℕ). first (linkRows (x .sender) j n own) ≡ 0) (sym ownLink)
             (subst (λ (j : ℕ). first (linkRows j link n own) ≡ 0) said (p .linkPassed));
         content = p .content;
         leader = p .leader;

@@ -38,13 +38,13 @@ pub noneMade : (rec : List ℕ) (slot : Report) → slot ≡ decodeRecord rec .s
     → decision.Open ≡ madeBy (contentsIn rec .decision)
 unfolding contents
 noneMade rec slot e h =
-    let none-reported : decision.Open ≡ madeBy (reported slot) = rw (ne-eqb (slot .mark) 1 h) refl in
-    none-reported ∙ ap (λ (x : Report). madeBy (reported x)) e
+    let noneReported : decision.Open ≡ madeBy (reported slot) = rw (ne-eqb (slot .mark) 1 h) refl in
+    noneReported ∙ ap (λ (x : Report). madeBy (reported x)) e
 
 -- A marked slot is a decision made, in its view and for its plan.
 pub oneMade : (rec : List ℕ) (slot : Report) → slot ≡ decodeRecord rec .slots decisionSlot → slot .mark ≡ 1
     → decision.Made (slot .view) (slot .plan) ≡ madeBy (contentsIn rec .decision)
 unfolding contents
 oneMade rec slot e h =
-    let one-reported : decision.Made (slot .view) (slot .plan) ≡ madeBy (reported slot) = rw (eq-eqb (slot .mark) 1 h) refl in
-    one-reported ∙ ap (λ (x : Report). madeBy (reported x)) e
+    let oneReported : decision.Made (slot .view) (slot .plan) ≡ madeBy (reported slot) = rw (eq-eqb (slot .mark) 1 h) refl in
+    oneReported ∙ ap (λ (x : Report). madeBy (reported x)) e

@@ -52,8 +52,8 @@ module _ {vs : Vaults} {keeps : Set} (most : Mostly vs keeps) {voted : History} 
             let (vote, named) = t .previous .sent e in
             let (z, f, other) = named in
             let (top, g, high) = t .highest .top (y .view) (y .plan) (t .previous .low e) vote in
-            let y-p = before (y .view) (omega arith) (t .previous .low e) j (y .plan) h vote in
-            let top-p = before (top .view) (omega arith) (t .highest .low g) j (top .plan) h (t .highest .sent g) in
+            let yP = before (y .view) (omega arith) (t .previous .low e) j (y .plan) h vote in
+            let topP = before (top .view) (omega arith) (t .highest .low g) j (top .plan) h (t .highest .sent g) in
             let same : y .plan ≡ z .plan = cc in
             absurd (other same)
 

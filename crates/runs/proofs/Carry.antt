@@ -92,10 +92,10 @@ readSaid : (rec : List ℕ) (r : Record) (link : ℕ) (bytes : List ℕ) → Hol
 unfolding contents
 readSaid rec r link bytes h low (Refused k) read = tt
 readSaid rec r link bytes h low (Accepted x) read =
-    let n-is : decodeRecord rec .set .n ≡ r .set .n = ap (λ (z : Record). z .set .n) (h .holds) in
-    let id-is : decodeRecord rec .set .id ≡ r .set .id = ap (λ (z : Record). z .set .id) (h .holds) in
+    let nIs : decodeRecord rec .set .n ≡ r .set .n = ap (λ (z : Record). z .set .n) (h .holds) in
+    let idIs : decodeRecord rec .set .id ≡ r .set .id = ap (λ (z : Record). z .set .id) (h .holds) in
     let can = acceptedReadable bytes link (decodeRecord rec .set .n) (decodeRecord rec .set .id) x low read .1 in
-    subst (λ (k : ℕ). Readable k (r .set .id) x) n-is (subst (λ (k : ℕ). Readable (decodeRecord rec .set .n) k x) id-is can)
+    subst (λ (k : ℕ). Readable k (r .set .id) x) nIs (subst (λ (k : ℕ). Readable (decodeRecord rec .set .n) k x) idIs can)
 
 -- A call whose numbers have their widths feeds the call on contents.
 pub fedSaid : (rec : List ℕ) (b : Option Record) (a : ByteCall) → Spells rec b → InWidth a → Fed b (said rec a)

@@ -149,16 +149,16 @@ unfolding all
 allMore test n h k = rw (add-one, h, k)
 
 -- a test that fails decides
-and-false : (b : Bool) → (b && false) ≡ false
-and-false true = refl
-and-false false = refl
+andFalse : (b : Bool) → (b && false) ≡ false
+andFalse true = refl
+andFalse false = refl
 
 -- a fault ends the loop, whatever follows
 pub allStop : (test : ℕ → Bool) (n i : ℕ) → i < n → test i ≡ false → all test n ≡ false
 unfolding all
 allStop test zero i h e = absurd (not-suc-le-zero h)
 allStop test (suc n) i h e = ⊎-elim
-    (λ (s : i ≡ n). ap (λ (b : Bool). all test n && b) (subst (λ (k : ℕ). test k ≡ false) s e) ∙ and-false (all test n))
+    (λ (s : i ≡ n). ap (λ (b : Bool). all test n && b) (subst (λ (k : ℕ). test k ≡ false) s e) ∙ andFalse (all test n))
     (λ (k : i < n). ap (λ (b : Bool). b && test n) (allStop test n i k e))
     (eq-or-lt-of-le (le-of-suc-le-suc h))
 
