@@ -68,7 +68,8 @@ acceptedBy P atStart atFrame atTimer none (timer v) o e = let z : _≡_ {A = ℕ
 acceptedBy P atStart atFrame atTimer (some r) (start s p) o e = let z : _≡_ {A = ℕ} 0 1 = cc in absurd (omega arith)
 acceptedBy P atStart atFrame atTimer (some r) (frame (Refused k)) o e = let z : _≡_ {A = ℕ} 0 1 = cc in absurd (omega arith)
 acceptedBy P atStart atFrame atTimer none (start s p) o e =
-    let (given, same) = unlessAccepted (first (settingRows s)) (started s p) e in
+    let asked : unless (first (settingRows s)) (started s p) ≡ accepted o = e in
+    let (given, same) = unlessAccepted (first (settingRows s)) (started s p) asked in
     subst (λ (u : Out). P none (start s p) u) same (atStart s p given)
 acceptedBy P atStart atFrame atTimer (some r) (frame (Accepted x)) o e =
     let (given, same) = unlessAccepted (first (recordRows r x)) (heard r x) e in
