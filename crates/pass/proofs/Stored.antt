@@ -3,7 +3,7 @@
 -- Assumes nothing.
 use Prim.Native.Nat.{ℕ, suc, _+_, _≤_, _<_}
 use mathlib.Core.Path.{_≡_, refl, sym, _∙_, ap, subst}
-use mathlib.Core.Logic.{_≢_, _⊎_, inl, inr}
+use mathlib.Core.Logic.{_⊎_, inl, inr}
 use mathlib.Core.Bool.{Bool, true, false, cond, not, _&&_}
 use mathlib.Core.List.{List}
 use mathlib.Core.Option.{Option, none, some}
@@ -18,7 +18,7 @@ use Rattle.frame.specs.declared.Report.{Report}
 use Rattle.frame.proofs.Laws.{bounds}
 use Rattle.settings.specs.declared.Settings.{Settings}
 use Rattle.record.specs.Slots.{Record, rows, frameSlot, previousSlot, decisionSlot, slotOf}
-use Rattle.record.specs.inside.Slots.{slotPut, withSlot}
+use Rattle.record.specs.inside.Slots.{withSlot}
 use Rattle.record.specs.Kept.{headSlot}
 use Rattle.record.specs.inside.Kept.{keepFrame}
 use Rattle.record.specs.inside.Keeping.{moves, ownSlot, shiftedSlots, ownBroadcast}
@@ -211,7 +211,8 @@ pub voteStored : (rec bytes : List ℕ) (k p : ℕ) → LeftBy (some (cast k p))
     → BytesBut (AtVote (set .id) k) rec bytes × (set .id < rows) × (k ≤ 4)
 voteStored rec bytes k p h own =
     let id : _ ≡ decodeRecord rec .set .id = ap (λ (x : Settings). x .id) own in
-    (subst (λ (j : ℕ). BytesBut (AtVote j k) rec bytes) (sym id) (leftVote rec bytes k p h), subst (λ (j : ℕ). j < rows) (sym id) (readyRow (h .ready)), h .votes)
+    let back = sym id in
+    (subst (λ (j : ℕ). BytesBut (AtVote j k) rec bytes) back (leftVote rec bytes k p h), subst (λ (j : ℕ). j < rows) back (readyRow (h .ready)), h .votes)
 
 -- The slot of a decision is all that is to be written back.
 pub decisionStored : (rec bytes : List ℕ) (p : ℕ) → LeftBy (some (decide p)) rec bytes

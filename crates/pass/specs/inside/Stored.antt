@@ -6,7 +6,6 @@ use mathlib.Core.Logic.{_⊎_}
 use mathlib.Core.List.{List}
 use mathlib.Core.Option.{Option, none, some}
 use lib.ListN.{length}
-use Rattle.settings.specs.declared.Settings.{Settings}
 use Rattle.record.specs.Slots.{Record, frameSlot, previousSlot, slotOf}
 use Rattle.record.specs.inside.Slots.{withSlot}
 use Rattle.record.specs.Size.{recordSize}
