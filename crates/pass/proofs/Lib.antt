@@ -1,2 +1,3 @@
+pub mod Stored
 pub mod Runs
 pub mod Passes

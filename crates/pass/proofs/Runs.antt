@@ -13,10 +13,13 @@ use Rattle.entry.specs.declared.Entry.{Entry}
 use Rattle.entry.specs.Layout.{entryBytes, layout}
 use Rattle.entry.proofs.Theorems.{layoutMore}
 use Rattle.record.specs.Size.{recordSize}
+use Rattle.record.specs.Layout.{decodeRecord}
+use Rattle.record.specs.inside.Layout.{HoldsRecord}
 use Rattle.protocol.specs.Record.{Record}
 use Rattle.protocol.specs.Pass.{Out, Step, onward, pass}
 use Rattle.contents.specs.Contents.{contentsIn}
 use Rattle.contents.specs.inside.Ready.{Ready}
+use Rattle.contents.proofs.Ready.{contentsHeld, readyHolds}
 use Rattle.steps.specs.declared.Entries.{Entries}
 use Rattle.steps.specs.declared.Record as by
 use Rattle.steps.specs.inside.Steps.{listOf, Took}
@@ -128,10 +131,11 @@ pub tookFrom : (s : Step) (t : by.Record) {copy rec : List ℕ} → copy ≡ rec
 tookFrom s t e = subst (λ (l : List ℕ). Took (s (contentsIn l)) t) e
 
 -- So with the record stored and its entries written, the step has run on the lent bytes.
-pub ranStored : (o : Out) (t : by.Record) → Took o t → (at : ℕ) (out : List ℕ) {rec : List ℕ} {n : ℕ} {after : List ℕ} → rec ≡ t .bytes
-    → EntriesPut at out (listOf (t .wrote .entries)) n after → Ran o at out after n rec
-ranStored o t took at out stored =
-    ranWritten o (t .wrote .entries) (took .wrote) at out (ap contentsIn stored ∙ took .left) (subst Ready (sym stored) (took .ready))
+pub ranStored : (o : Out) (t : by.Record) → Took o t → (at : ℕ) (out : List ℕ) {rec : List ℕ} {n : ℕ} {after : List ℕ}
+    → HoldsRecord rec (decodeRecord (t .bytes)) → EntriesPut at out (listOf (t .wrote .entries)) n after → Ran o at out after n rec
+ranStored o t took at out held =
+    let was = took .ready in
+    ranWritten o (t .wrote .entries) (took .wrote) at out (contentsHeld held ∙ took .left) (readyHolds held (was .clean) (was .sound) (was .ranged))
 
 -- Where there is nothing to do, nothing is written.
 pub ranNothing : (o : Out) (at : ℕ) (out rec : List ℕ) → o ≡ record { left = contentsIn rec; wrote = [] } → Ready rec → Ran o at out out at rec

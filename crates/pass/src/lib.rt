@@ -12,8 +12,10 @@ ghost use mathlib.Core.Option.{some};
 ghost use lib.ListN.{length};
 ghost use Rattle.wire.specs.Placed.{placed};
 ghost use Rattle.entry.specs.Layout.{layout};
+ghost use Rattle.record.specs.Slots.{rows, slotCount};
 ghost use Rattle.record.specs.Size.{recordSize};
 ghost use Rattle.record.specs.Layout.{decodeRecord};
+ghost use Rattle.record.specs.inside.Layout.{HoldsRecord};
 ghost use Rattle.protocol.specs.Pass.{ask, taken, pass};
 ghost use Rattle.contents.specs.Contents.{contentsIn};
 ghost use Rattle.contents.specs.inside.Ready.{Ready};
@@ -21,6 +23,7 @@ ghost use Rattle.acts.specs.inside.Acts.{asAct, actAt};
 ghost use Rattle.steps.specs.inside.Steps.{listOf};
 ghost use Rattle.steps.specs.inside.Order.{stepAt};
 ghost use Rattle.pass.specs.inside.Steps.{Room, Ran};
+ghost use Rattle.pass.specs.inside.Stored.{slotFrom, AtPrevious, AtVote, BytesBut, LeftBy};
 ghost use Rattle.pass.specs.inside.Passes.{stepsFrom};
 
 // ---- the record by value, and back
@@ -38,12 +41,55 @@ fn load(rec: &[u8]) -> Record
     Record { bytes, wrote }
 }
 
-// One copy back.
-fn store(r: Record, rec: &mut [u8])
-    requires { ⌜ length (now rec) ≡ recordSize ⌝ }
-    ensures { λ _. ⌜ now (rec .exit) ≡ r .bytes ⌝ }
+// One slot back.
+fn store_slot(bytes: &[u8], i: usize, rec: &mut [u8])
+    requires { ⌜ (length (now rec) ≡ recordSize) × (length (now bytes) ≡ recordSize) × (i < slotCount) ⌝ }
+    ensures { λ _. ⌜ HoldsRecord (now (rec .exit)) (slotFrom (decodeRecord (now (rec .entry))) (decodeRecord (now (bytes .entry))) i) ⌝ }
 {
-    let count = bytes::copy(&r.bytes, rec);
+    let slot = record::slot_of(bytes, i);
+    record::put_slot(rec, i, slot);
+}
+
+// The previous vote-k back, where that vote has one.
+fn store_previous(bytes: &[u8], k: u8, rec: &mut [u8])
+    requires { ⌜ BytesBut (AtPrevious k) (now rec) (now bytes) ⌝ }
+    ensures { λ _. ⌜ HoldsRecord (now (rec .exit)) (decodeRecord (now (bytes .entry))) ⌝ }
+{
+    if k < 1 {
+        return;
+    }
+    if 2 < k {
+        return;
+    }
+    let at = record::previous_slot(k + 1);
+    store_slot(bytes, at, rec);
+}
+
+// What sending vote-k changed back.
+fn store_vote(bytes: &[u8], id: u8, k: u8, rec: &mut [u8])
+    requires { ⌜ BytesBut (AtVote id k) (now rec) (now bytes) × (id < rows) × (k ≤ 4) ⌝ }
+    ensures { λ _. ⌜ HoldsRecord (now (rec .exit)) (decodeRecord (now (bytes .entry))) ⌝ }
+{
+    let at = record::frame_slot(k + 1, id);
+    store_slot(bytes, at, rec);
+    store_previous(bytes, k, rec);
+}
+
+// What an act changed back: the slots of a vote or of a decision, or all of the record by one copy.
+fn store(bytes: &[u8], act: Act, rec: &mut [u8])
+    requires { ⌜ LeftBy (asAct act) (now rec) (now bytes) ⌝ }
+    ensures { λ _. ⌜ HoldsRecord (now (rec .exit)) (decodeRecord (now (bytes .entry))) ⌝ }
+{
+    match act {
+        Act::Cast(k, _) => {
+            let set = record::settings_of(rec);
+            store_vote(bytes, set.id, k, rec);
+        }
+        Act::Decide(_) => store_slot(bytes, record::DECISION, rec),
+        _ => {
+            let count = bytes::copy(bytes, rec);
+        }
+    }
 }
 
 // ---- the entries, end to end
@@ -80,7 +126,7 @@ fn run_step(rec: &mut [u8], k: u8, act: Act, out: &mut [u8], at: usize) -> usize
     let s = r.step_at(k, act);
     let wrote = s.wrote;
     let entries = wrote.entries;
-    store(s, rec);
+    store(&s.bytes, act, rec);
     write_entries(out, at, entries)
 }
 

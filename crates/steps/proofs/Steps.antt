@@ -243,7 +243,7 @@ lawAt (and law rest) zero low = law
 lawAt (and law rest) (suc k) low = lawAt rest k (omega arith)
 
 -- The step of a number does the act of that number.
-stepBy : (k : ℕ) (c : Record) → stepAt k c ≡ taken c (actAt k c)
+pub stepBy : (k : ℕ) (c : Record) → stepAt k c ≡ taken c (actAt k c)
 unfolding actAt stepA stepB stepC stepD stepVote stepH
 stepBy zero c = refl
 stepBy (suc zero) c = refl

@@ -9,6 +9,7 @@ use Rattle.contents.specs.inside.Ready.{Ready}
 use Rattle.acts.specs.inside.Acts.{actAt}
 use Rattle.steps.specs.inside.Order.{stepAt}
 use Rattle.pass.proofs.Runs.{tookFrom, roomWritten, ranStored}
+use Rattle.pass.proofs.Stored.{leftStep}
 use borrow.Author.Needs.{needs}
 use Rattle.pass.proofs.run_step.Statement.{statement}
 use Rattle.pass.proofs.run_step.Tie as tie
@@ -23,11 +24,17 @@ step-at-requires c κs =
     (subst Ready back (s .pre .0), s .pre .1, s .pre .2 ∙ ap (λ (l : List ℕ). actAt (s .args .k) (contentsIn l)) back)
 
 store-requires : tie.Need-store-requires
-store-requires c κs = search needs
+store-requires c κs =
+    let q = c .before .before .before .before .before in
+    let s = q .before .before .before .before .before in
+    let t = q .step-at .result in
+    leftStep (s .args .k) (s .args .act) t (s .pre .0) (s .pre .2)
+    (tookFrom (stepAt (s .args .k)) t (q .before .load .ensures) (q .step-at .ensures))
 
 write-entries-requires : tie.Need-write-entries-requires
 write-entries-requires c κs =
-    let q = c .before .before .before .before .before .before in
+    let atStore = c .before .before .before in
+    let q = atStore .before .before .before .before .before .before in
     let s = q .before .before .before .before .before in
     let t = q .step-at .result in
     let took = tookFrom (stepAt (s .args .k)) t (q .before .load .ensures) (q .step-at .ensures) in
@@ -42,8 +49,7 @@ same-length-2 c = search needs
 returns : tie.Need-returns
 returns c =
     let atStore = c .before .before .before .before .before .before in
-    let atPlace = atStore .before .before .before in
-    let q = atPlace in
+    let q = atStore .before .before .before .before .before .before in
     let s = q .before .before .before .before .before in
     let t = q .step-at .result in
     let took = tookFrom (stepAt (s .args .k)) t (q .before .load .ensures) (q .step-at .ensures) in
