@@ -42,7 +42,7 @@ use Rattle.steps.specs.declared.Record as by
 use Rattle.steps.specs.inside.Steps.{OfView, OfPlan, Took}
 use Rattle.steps.specs.inside.Order.{stepAt}
 use Rattle.steps.proofs.Steps.{stepBy, ofView, ofPlan}
-use Rattle.pass.specs.inside.Stored.{slotFrom, SameBut, AtPrevious, AtVote, BytesBut, VoteFits, LeftBy}
+use Rattle.pass.specs.inside.Stored.{slotFrom, SameBut, AtPrevious, AtVote, BytesBut, VoteFits, ActLeft}
 
 -- ---- slots put in
 
@@ -138,7 +138,7 @@ module _ (rec bytes : List ℕ) where
   r = decodeRecord rec
 
   -- A vote's bytes differ from the record's in the slots of the vote.
-  pub leftVote : (k p : ℕ) → LeftBy (some (cast k p)) rec bytes → BytesBut (AtVote (r .set .id) k) rec bytes
+  pub leftVote : (k p : ℕ) → ActLeft (some (cast k p)) rec bytes → BytesBut (AtVote (r .set .id) k) rec bytes
   leftVote k p h = record {
     size = h .ready .size;
     whole = h .after .size;
@@ -150,7 +150,7 @@ module _ (rec bytes : List ℕ) where
           (h .left ∙ sym (contentsCast r k p (h .votes) (readyRow (h .ready))))
 
   -- A decision's differ in its slot.
-  pub leftDecision : (p : ℕ) → LeftBy (some (decide p)) rec bytes → slotFrom r (decodeRecord bytes) decisionSlot ≡ decodeRecord bytes
+  pub leftDecision : (p : ℕ) → ActLeft (some (decide p)) rec bytes → slotFrom r (decodeRecord bytes) decisionSlot ≡ decodeRecord bytes
   leftDecision p h =
       sameOne r (decodeRecord bytes) decisionSlot {d = λ i. i ≡ decisionSlot}
       (subst (SameBut (λ i. i ≡ decisionSlot) r) (sym is) changes) (λ i e. e)
@@ -203,11 +203,11 @@ previousNone k {rec} {bytes} h has =
     record { size = h .size; is = sameNone (decodeRecord rec) (decodeRecord bytes) (h .same) (λ i (low, high, is). has (low, high)) }
 
 -- The act, as the code's match has it.
-pub leftAs : (act was : acts.Act) → act ≡ was → {rec bytes : List ℕ} → LeftBy (asAct act) rec bytes → LeftBy (asAct was) rec bytes
-leftAs act was is {rec} {bytes} = subst (λ (a : acts.Act). LeftBy (asAct a) rec bytes) is
+pub leftAs : (act was : acts.Act) → act ≡ was → {rec bytes : List ℕ} → ActLeft (asAct act) rec bytes → ActLeft (asAct was) rec bytes
+leftAs act was is {rec} {bytes} = subst (λ (a : acts.Act). ActLeft (asAct a) rec bytes) is
 
 -- The slots of a vote may be written back: the settings name the own row.
-pub voteStored : (rec bytes : List ℕ) (k p : ℕ) → LeftBy (some (cast k p)) rec bytes → {set : Settings} → set ≡ decodeRecord rec .set
+pub voteStored : (rec bytes : List ℕ) (k p : ℕ) → ActLeft (some (cast k p)) rec bytes → {set : Settings} → set ≡ decodeRecord rec .set
     → BytesBut (AtVote (set .id) k) rec bytes × (set .id < rows) × (k ≤ 4)
 voteStored rec bytes k p h own =
     let id : _ ≡ decodeRecord rec .set .id = ap (λ (x : Settings). x .id) own in
@@ -215,7 +215,7 @@ voteStored rec bytes k p h own =
     (subst (λ (j : ℕ). BytesBut (AtVote j k) rec bytes) back (leftVote rec bytes k p h), subst (λ (j : ℕ). j < rows) back (readyRow (h .ready)), h .votes)
 
 -- The slot of a decision is all that is to be written back.
-pub decisionStored : (rec bytes : List ℕ) (p : ℕ) → LeftBy (some (decide p)) rec bytes
+pub decisionStored : (rec bytes : List ℕ) (p : ℕ) → ActLeft (some (decide p)) rec bytes
     → {left : List ℕ} → HoldsRecord left (slotFrom (decodeRecord rec) (decodeRecord bytes) decisionSlot) → HoldsRecord left (decodeRecord bytes)
 decisionStored rec bytes p h {left} = subst (HoldsRecord left) (leftDecision rec bytes p h)
 
@@ -250,7 +250,7 @@ module _ (k : ℕ) (c : protocol.Record) (a : acts.Act) (e : asAct a ≡ actAt k
 
 -- So a step's bytes are those that its act leaves.
 pub leftStep : (k : ℕ) (a : acts.Act) {rec : List ℕ} (t : by.Record) → Ready rec → asAct a ≡ actAt k (contentsIn rec)
-    → Took (stepAt k (contentsIn rec)) t → LeftBy (asAct a) rec (t .bytes)
+    → Took (stepAt k (contentsIn rec)) t → ActLeft (asAct a) rec (t .bytes)
 leftStep k a {rec} t h e took = record {
   votes = voteFits k (contentsIn rec) a e;
   ready = h;

@@ -23,7 +23,7 @@ ghost use Rattle.acts.specs.inside.Acts.{asAct, actAt};
 ghost use Rattle.steps.specs.inside.Steps.{listOf};
 ghost use Rattle.steps.specs.inside.Order.{stepAt};
 ghost use Rattle.pass.specs.inside.Steps.{Room, Ran};
-ghost use Rattle.pass.specs.inside.Stored.{slotFrom, AtPrevious, AtVote, BytesBut, LeftBy};
+ghost use Rattle.pass.specs.inside.Stored.{slotFrom, AtPrevious, AtVote, BytesBut, ActLeft};
 ghost use Rattle.pass.specs.inside.Passes.{stepsFrom};
 
 // ---- the record by value, and back
@@ -77,7 +77,7 @@ fn store_vote(bytes: &[u8], id: u8, k: u8, rec: &mut [u8])
 
 // What an act changed back: the slots of a vote or of a decision, or all of the record by one copy.
 fn store(bytes: &[u8], act: Act, rec: &mut [u8])
-    requires { ⌜ LeftBy (asAct act) (now rec) (now bytes) ⌝ }
+    requires { ⌜ ActLeft (asAct act) (now rec) (now bytes) ⌝ }
     ensures { λ _. ⌜ HoldsRecord (now (rec .exit)) (decodeRecord (now (bytes .entry))) ⌝ }
 {
     match act {

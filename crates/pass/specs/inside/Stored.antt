@@ -48,7 +48,7 @@ VoteFits (some (cast k p)) = k ≤ 4
 VoteFits (some (decide p)) = Unit {0}
 
 -- Bytes that an act leaves of a record's.
-pub record LeftBy (act : Option Act) (rec bytes : List ℕ) : Type 0 where
+pub record ActLeft (act : Option Act) (rec bytes : List ℕ) : Type 0 where
   pub votes : VoteFits act
   pub ready : Ready rec
   pub after : Ready bytes
