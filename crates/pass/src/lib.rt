@@ -41,7 +41,7 @@ fn load(rec: &[u8]) -> Record
     Record { bytes, wrote }
 }
 
-// One slot back.
+// Writes back one slot.
 fn store_slot(bytes: &[u8], i: usize, rec: &mut [u8])
     requires { ⌜ (length (now rec) ≡ recordSize) × (length (now bytes) ≡ recordSize) × (i < slotCount) ⌝ }
     ensures { λ _. ⌜ HoldsRecord (now (rec .exit)) (slotFrom (decodeRecord (now (rec .entry))) (decodeRecord (now (bytes .entry))) i) ⌝ }
@@ -50,7 +50,7 @@ fn store_slot(bytes: &[u8], i: usize, rec: &mut [u8])
     record::put_slot(rec, i, slot);
 }
 
-// The previous vote-k back, where that vote has one.
+// Writes back the previous vote-k, where that vote has one.
 fn store_previous(bytes: &[u8], k: u8, rec: &mut [u8])
     requires { ⌜ BytesBut (AtPrevious k) (now rec) (now bytes) ⌝ }
     ensures { λ _. ⌜ HoldsRecord (now (rec .exit)) (decodeRecord (now (bytes .entry))) ⌝ }
@@ -65,7 +65,7 @@ fn store_previous(bytes: &[u8], k: u8, rec: &mut [u8])
     store_slot(bytes, at, rec);
 }
 
-// What sending vote-k changed back.
+// Writes back what sending vote-k changed.
 fn store_vote(bytes: &[u8], id: u8, k: u8, rec: &mut [u8])
     requires { ⌜ BytesBut (AtVote id k) (now rec) (now bytes) × (id < rows) × (k ≤ 4) ⌝ }
     ensures { λ _. ⌜ HoldsRecord (now (rec .exit)) (decodeRecord (now (bytes .entry))) ⌝ }
@@ -75,7 +75,7 @@ fn store_vote(bytes: &[u8], id: u8, k: u8, rec: &mut [u8])
     store_previous(bytes, k, rec);
 }
 
-// What an act changed back: the slots of a vote or of a decision, or all of the record by one copy.
+// Writes back what an act changed: the slots of a vote or of a decision; after A and B all of the record, by one copy.
 fn store(bytes: &[u8], act: Act, rec: &mut [u8])
     requires { ⌜ ActLeft (asAct act) (now rec) (now bytes) ⌝ }
     ensures { λ _. ⌜ HoldsRecord (now (rec .exit)) (decodeRecord (now (bytes .entry))) ⌝ }
