@@ -6,7 +6,7 @@
  * refusal. What is lent to one call must not overlap. Calls on different records may run at the same time.
  *
  * Answers of vault_start, vault_frame and vault_timer
- *   1 to 19                   a refusal, by enum vault_refusal: record and output are unchanged
+ *   1 to 19, 21, 22           a refusal, by enum vault_refusal: record and output are unchanged
  *   VAULT_ACCEPTED + count    accepted: the record is the new one, and the first count bytes of the output hold the entries; count is
  *                             at most VAULT_LONGEST_OUTPUT, may be 0, and the bytes beyond it keep their contents
  *
@@ -60,7 +60,7 @@ extern "C" {
 #endif
 
 #define VAULT_VERSION_MAJOR 1
-#define VAULT_VERSION_MINOR 0
+#define VAULT_VERSION_MINOR 1
 #define VAULT_VERSION_PATCH 0
 #define VAULT_VERSION (VAULT_VERSION_MAJOR * 10000 + VAULT_VERSION_MINOR * 100 + VAULT_VERSION_PATCH)
 
@@ -75,7 +75,7 @@ extern "C" {
 #define VAULT_FEWEST 4            /* n is at least this */
 #define VAULT_MOST 64             /* and at most this */
 
-/* Refusals, in the order in which they are tested. */
+/* Refusals. They are tested in the order of their numbers, but 21 and 22 between 14 and 15. */
 enum vault_refusal {
     VAULT_REFUSED_OUTPUT = 1,     /* the output has fewer than VAULT_OUTPUT_SIZE bytes, or two numbers for a question */
     VAULT_REFUSED_BLANK = 2,      /* not start: a blank record, the vault has not been started */
@@ -90,12 +90,14 @@ enum vault_refusal {
     VAULT_REFUSED_LINK = 11,      /* frame: the link's sender is n or more, or this vault itself */
     VAULT_REFUSED_SENDER = 12,    /* frame: the sender byte is not the link's sender */
     VAULT_REFUSED_VIEW_0 = 13,    /* frame: view 0 in a view-change, suggest or proof */
-    VAULT_REFUSED_REPORT = 14,    /* frame: a bad report (mark, view, or previous vote) */
+    VAULT_REFUSED_REPORT = 14,    /* frame: a report's mark is not 0 or 1, or it is absent (mark 0) and another byte of it is not 0 */
     VAULT_REFUSED_LEADER = 15,    /* frame: a proposal not from its view's leader, or a suggest for a view that this vault does not lead */
     VAULT_REFUSED_OVER = 16,      /* frame: its view is over */
     VAULT_REFUSED_KEPT = 17,      /* frame: one of the same sender and kind is kept, at this view or a higher one */
     VAULT_REFUSED_TIMER = 18,     /* timer: the view is not the current one */
-    VAULT_REFUSED_LAST_VIEW = 19  /* timer: the current view is the last one, 4294967295 */
+    VAULT_REFUSED_LAST_VIEW = 19, /* timer: the current view is the last one, 4294967295 */
+    VAULT_REFUSED_REPORT_VIEW = 21, /* frame: a report that is present, the lock too, is for the frame's view or a higher one */
+    VAULT_REFUSED_PREVIOUS = 22   /* frame: previous is present and highest is not, or previous is not below it or for the same plan */
 };
 
 /* Kinds of frames, byte 0 of a frame, and what follows kind, sender and view. */
@@ -135,7 +137,7 @@ uint32_t vault_start(uint8_t *record, size_t record_length, uint8_t n, uint8_t f
                      uint8_t *output, size_t output_length);
 
 /* Takes one frame that came from vault `sender`. The host vouches for the sender: it is the one at the other end of the link, and not a
- * byte of the frame. Refusals: 1 to 3, 9 to 17. */
+ * byte of the frame. Refusals: 1 to 3, 9 to 17, 21, 22. */
 uint32_t vault_frame(uint8_t *record, size_t record_length, uint8_t sender, const uint8_t *frame, size_t frame_length,
                      uint8_t *output, size_t output_length);
 

@@ -1,4 +1,5 @@
-//! Frames (01, "Frames"): their contents, the reader with refusals 9 to 15, and the writer.
+//! Frames (01, "Frames"): their contents, the reader with refusals 9 to 15, among them 21 and 22
+//! (document 02, wish 1), and the writer.
 
 pub const PROPOSAL: u8 = 1;
 pub const VOTE_1: u8 = 2;
@@ -71,13 +72,13 @@ impl Frame {
     }
 
     /// The frame passes 9 to 15 for the row `row` of vault `id`, with the vault's own row
-    /// excused from the own-number half of 11.
+    /// excused from the own-number half of 11. A frame by its contents has passed 9, 10 and 14.
     pub fn fits_row(&self, row: u8, n: u8, id: u8) -> bool {
         self.body_fits_kind()
             && row < n
             && self.sender == row
             && !view_zero_barred(self.kind, self.view)
-            && !bad_reports(self)
+            && check_reports(self).is_ok()
             && !misplaced(self, n, id)
     }
 
@@ -107,8 +108,8 @@ pub fn length(kind: u8) -> Option<usize> {
     }
 }
 
-/// Refusals 9 to 15, checked downwards: a frame that came over the link from vault `link`
-/// to vault `id` of n vaults.
+/// Refusals 9 to 15, checked downwards, with 21 and 22 "in that order between 14 and 15": a frame
+/// that came over the link from vault `link` to vault `id` of n vaults.
 pub fn read(bytes: &[u8], link: u8, n: u8, id: u8) -> Result<Frame, u8> {
     // 9: empty, or kind not 1 to 8
     let Some(right_length) = bytes.first().and_then(|&kind| length(kind)) else {
@@ -130,14 +131,12 @@ pub fn read(bytes: &[u8], link: u8, n: u8, id: u8) -> Result<Frame, u8> {
     if view_zero_barred(bytes[0], number4(&bytes[2..6])) {
         return Err(13);
     }
-    // 14: bad report (mark not 0 or 1; absent with a nonzero byte)
+    // 14: bad mark, or a nonzero byte in an absent report; nothing else is left that fails to parse
     let Some(frame) = parse(bytes) else {
         return Err(14);
     };
-    // 14: bad report (its view and its place among the three)
-    if bad_reports(&frame) {
-        return Err(14);
-    }
+    // 21: report view; 22: previous vote
+    check_reports(&frame)?;
     // 15: proposal not from its view's leader; suggest for a view this vault does not lead
     if misplaced(&frame, n, id) {
         return Err(15);
@@ -150,17 +149,30 @@ fn view_zero_barred(kind: u8, view: u32) -> bool {
     view == 0 && matches!(kind, VIEW_CHANGE | SUGGEST | PROOF)
 }
 
-/// 14: "view not below the frame's; previous without highest, not below it, or for its plan".
-fn bad_reports(frame: &Frame) -> bool {
+/// Refusals 21 and 22 of reports that passed 14: "All three reports are tested for the first fault,
+/// then all for the second, then all for the third."
+fn check_reports(frame: &Frame) -> Result<(), u8> {
     let Body::Reports(reports) = frame.body else {
-        return false;
+        return Ok(());
     };
+    if bad_view(&reports, frame.view) {
+        return Err(21);
+    }
     let [highest, previous, _lock] = reports;
-    reports.iter().flatten().any(|report| report.view >= frame.view)
-        || bad_previous(previous, highest)
+    if bad_previous(previous, highest) {
+        return Err(22);
+    }
+    Ok(())
 }
 
-/// 14: "previous without highest, not below it, or for its plan".
+/// 21, in a frame of this view: "Tell a report whose view is not below the frame's by one number"
+/// (document 02, wish 1). An absent report has no view.
+pub fn bad_view(reports: &[Option<Report>], view: u32) -> bool {
+    reports.iter().flatten().any(|report| report.view >= view)
+}
+
+/// 22: "a previous vote at odds with its highest by another" (document 02, wish 1); it is so when
+/// "previous without highest, not below it, or for its plan" (01, in the row of 14).
 pub fn bad_previous(previous: Option<Report>, highest: Option<Report>) -> bool {
     match (previous, highest) {
         (None, _) => false,
@@ -196,12 +208,18 @@ pub fn parse_body(kind: u8, rest: &[u8]) -> Option<Body> {
     match kind {
         PROPOSAL..=VOTE_4 => Some(Body::Plan(number8(rest))),
         VIEW_CHANGE => Some(Body::Empty),
-        _ => Some(Body::Reports([
-            parse_report(&rest[..13])?,
-            parse_report(&rest[13..26])?,
-            parse_report(&rest[26..39])?,
-        ])),
+        _ => parse_reports(rest).map(Body::Reports),
     }
+}
+
+/// Refusal 14, where it gives None: "Keep 14 for a bad mark or a nonzero byte in an absent report"
+/// (document 02, wish 1). The bytes are the 39 of a suggest's or a proof's three reports.
+pub fn parse_reports(bytes: &[u8]) -> Option<[Option<Report>; 3]> {
+    Some([
+        parse_report(&bytes[..13])?,
+        parse_report(&bytes[13..26])?,
+        parse_report(&bytes[26..39])?,
+    ])
 }
 
 /// "A report is a mark, a view and a plan. Absent means all 13 bytes zero." None: not a report.

@@ -1,5 +1,6 @@
-//! An independent reference vault. Every function renders a sentence of document 01;
-//! where 01 is silent the reading taken is in READINGS.md.
+//! An independent reference vault. Every function renders a sentence of document 01, or of those
+//! wishes of document 02 that were made (so far wish 1); where they are silent the reading taken is
+//! in READINGS.md.
 
 pub mod calls;
 pub mod entry;
@@ -7,6 +8,7 @@ pub mod frame;
 pub mod lines;
 pub mod literal;
 pub mod record;
+pub mod report_faults;
 pub mod rng;
 pub mod rules;
 pub mod scripts;

@@ -110,7 +110,8 @@ impl Record {
 
     /// "It is sound when its settings pass 5 to 8, every kept frame passes 9 to 15 for its row ...,
     /// no frame in its own row but the view-change is above the current view, and each previous
-    /// vote stands to its highest as in 14."
+    /// vote stands to its highest as in" 22, which is where document 02, wish 1 has put it; 01 says
+    /// 14. "A sound record passes these as well", so 21 and 22 are among 9 to 15.
     pub fn sound(&self) -> bool {
         self.settings.check().is_ok()
             && self.kept_frames_fit()
@@ -119,7 +120,7 @@ impl Record {
             && !bad_previous(self.previous_vote2, self.own_vote(frame::VOTE_2))
     }
 
-    /// "every kept frame passes 9 to 15 for its row"
+    /// "every kept frame passes 9 to 15 for its row", 21 and 22 with them
     fn kept_frames_fit(&self) -> bool {
         let Settings { n, id, .. } = self.settings;
         self.rows.iter().enumerate().all(|(row, frames)| {

@@ -1,11 +1,14 @@
 //! Random input scripts for the line program, and a count of what they reach.
 //! The generator runs the vault alongside, so that it knows the state which it drives.
 
+use std::collections::BTreeMap;
+
 use crate::entry::Entry;
 use crate::frame::{
     self, leader, Body, Frame, Report, PROOF, PROPOSAL, SUGGEST, VIEW_CHANGE, VOTE_1, VOTE_4,
 };
 use crate::record::Record;
+use crate::report_faults::{faults_of, wanted_faults, Carrier, Place, ReportFault};
 use crate::rng::Rng;
 use crate::rules::{Clause, Reports};
 use crate::sim::{below, chance, false_reports, kept_reports, lower_report, shuffle};
@@ -13,6 +16,9 @@ use crate::vault::{self, Done, Step};
 
 /// The longest line that may be read, in digits.
 const MOST_DIGITS: usize = 90;
+/// How many frames with faults in their reports come one after the other. They are refused, so the
+/// vault stays as it is and they cost little.
+const DAMAGED_AT_ONCE: usize = 5;
 
 // ---------------------------------------------------------------------------------------------
 // Lines.
@@ -106,7 +112,7 @@ pub struct Coverage {
     /// Steps A to H that acted.
     pub steps: [u64; 8],
     /// By refusal number; 0 is not used.
-    pub refusals: [u64; 21],
+    pub refusals: [u64; 23],
     /// What made the proposal safe where step D voted.
     pub view_zero: u64,
     pub no_lock: u64,
@@ -128,11 +134,46 @@ pub struct Coverage {
     pub last_views: u64,
     /// Decisions among 64 vaults.
     pub decisions_of_64: u64,
+    /// Suggests and proofs that were refused for the first of their reports' faults, by what they
+    /// were and by all of these faults.
+    pub report_faults: BTreeMap<(Carrier, Vec<ReportFault>), u64>,
+    /// Suggests and proofs of which 14, 21 and 22 said something else than their bytes show.
+    pub misjudged: u64,
 }
 
 impl Coverage {
     pub fn step(&self, step: Step) -> u64 {
         self.steps[step as usize]
+    }
+
+    /// The faults in reports that were not reached, and whether any was refused with a wrong number.
+    pub fn missing(&self) -> Vec<String> {
+        let mut missing = Vec::new();
+        for carrier in Carrier::ALL {
+            for faults in wanted_faults() {
+                let names: Vec<String> = faults.iter().map(ToString::to_string).collect();
+                if !self.report_faults.contains_key(&(carrier, faults)) {
+                    missing.push(format!("{carrier}: {}", names.join(", ")));
+                }
+            }
+        }
+        if self.misjudged > 0 {
+            missing.push(format!("the right refusal of {} suggests or proofs", self.misjudged));
+        }
+        missing
+    }
+
+    /// Counts the faults in a line's reports, given how the vault in this state answered.
+    fn count_faults(&mut self, line: &Line, settled: Settled, refusal: Option<u8>) {
+        let Line::Frame(bytes) = line else { return };
+        let Some(carrier) = Carrier::of(bytes, settled.n, settled.id) else { return };
+        let faults = faults_of(bytes);
+        let called_for = faults.first().map(|fault| fault.refusal());
+        if refusal.filter(|number| matches!(number, 14 | 21 | 22)) != called_for {
+            self.misjudged += 1;
+        } else if called_for.is_some() {
+            *self.report_faults.entry((carrier, faults)).or_default() += 1;
+        }
     }
 }
 
@@ -144,7 +185,12 @@ pub fn cover(script: &[u8], coverage: &mut Coverage) {
         coverage.lines += 1;
         let line = read_line(text);
         let ahead = vault.record.as_deref().map_or(0, view_change_ahead);
-        match vault.apply(&line) {
+        let settled = vault.record.as_deref().map(Settled::of);
+        let result = vault.apply(&line);
+        if let Some(settled) = settled {
+            coverage.count_faults(&line, settled, result.as_ref().err().copied());
+        }
+        match result {
             Err(refusal) => coverage.refusals[usize::from(refusal)] += 1,
             Ok(done) => {
                 if matches!(line, Line::Timer { .. }) {
@@ -335,6 +381,12 @@ impl Writer {
         senders
     }
 
+    /// How many views from this one on are led by others, before this vault leads.
+    fn until_led(&self, view: u32) -> u32 {
+        let Settled { n, id, .. } = self.settled();
+        (u32::from(id) + u32::from(n) - view % u32::from(n)) % u32::from(n)
+    }
+
     /// A view around the current one, or one from the ends of 32 bits.
     fn any_view(&mut self) -> u32 {
         let view = self.view();
@@ -466,16 +518,11 @@ impl Writer {
     /// The next views mostly; now and then one that this vault leads, or one of the last of all.
     fn next_view(&mut self) -> u32 {
         let view = self.view();
-        let Settled { n, id, .. } = self.settled();
         match self.rng.below(48) {
             0 => u32::MAX - self.rng.below(6) as u32,
             1 => u32::MAX,
             2 => (1 << 31) - 2 + self.rng.below(4) as u32,
-            3..=8 => {
-                let ahead =
-                    (u32::from(id) + u32::from(n) - view % u32::from(n) - 1) % u32::from(n) + 1;
-                view.saturating_add(ahead)
-            }
+            3..=8 => view.saturating_add(1 + self.until_led(view.wrapping_add(1))),
             9..=14 => view.saturating_add(1 + self.rng.below(5) as u32),
             15..=17 => view,
             // The two-set clause wants at least three views below.
@@ -624,7 +671,8 @@ impl Writer {
 
     // ----- Damage.
 
-    /// One frame with one or two faults in its bytes, so that the order of 9 to 15 matters.
+    /// One frame with one or two faults in its bytes, so that the order of 9 to 15, with 21 and 22
+    /// before 15, matters.
     fn damaged(&mut self) {
         let mut frame = self.draw_frame();
         // Frames that would pass otherwise show best what the damage does.
@@ -642,16 +690,51 @@ impl Writer {
         self.bytes_line(&bytes);
     }
 
-    /// Reports that would be kept, but for one fault in them.
+    /// Suggests and proofs that are right but for the faults in their reports.
     fn damaged_reports(&mut self) {
-        let Settled { n, id, .. } = self.settled();
-        let view = self.view().saturating_add(self.rng.below(3) as u32).max(1);
-        let kind = if leader(view, n) == id { SUGGEST } else { PROOF };
-        let reports = false_reports(&mut self.rng, view, self.plans[0], &self.plans);
-        let sender = self.other();
-        let mut bytes = frame::write(&Frame { kind, sender, view, body: Body::Reports(reports) });
-        self.damage_report(&mut bytes);
-        self.bytes_line(&bytes);
+        let wanted = wanted_faults();
+        for _ in 0..DAMAGED_AT_ONCE {
+            let carrier = self.rng.pick(&Carrier::ALL);
+            let faults = &wanted[self.rng.below(wanted.len() as u64) as usize];
+            let bytes = self.faulty_reports(carrier, faults);
+            self.bytes_line(&bytes);
+        }
+    }
+
+    /// A frame whose reports have these faults and no others, drawn until it is found. Not every
+    /// view has room for all of them, so in the end any faults will do.
+    fn faulty_reports(&mut self, carrier: Carrier, faults: &[ReportFault]) -> Vec<u8> {
+        let (kind, sender) = (carrier.kind(), self.other());
+        let mut bytes = Vec::new();
+        for _ in 0..20 {
+            let view = self.report_view(carrier);
+            let reports = false_reports(&mut self.rng, view, self.plans[0], &self.plans);
+            bytes = frame::write(&Frame::with_reports(kind, sender, view, reports));
+            // The ways of 22 may bring other views and marks, so they come first.
+            for &fault in faults.iter().rev() {
+                self.spoil(&mut bytes, fault);
+            }
+            if faults_of(&bytes) == faults {
+                break;
+            }
+        }
+        bytes
+    }
+
+    /// A view for such a frame, mostly one in which it would be kept; led by this vault or not.
+    fn report_view(&mut self, carrier: Carrier) -> u32 {
+        let near = self.view().saturating_add(self.rng.below(3) as u32);
+        let view = if self.rng.one_in(4) { self.any_view() } else { near }.max(1);
+        let n = u32::from(self.settled().n);
+        let until_led = self.until_led(view);
+        match carrier {
+            // Near the last view of all there may be none ahead that it leads.
+            Carrier::Suggest => {
+                view.checked_add(until_led).unwrap_or_else(|| view - (n - until_led))
+            }
+            Carrier::StraySuggest if until_led == 0 => view.checked_add(1).unwrap_or(view - 1),
+            Carrier::StraySuggest | Carrier::Proof => view,
+        }
     }
 
     fn damage(&mut self, bytes: &mut Vec<u8>) {
@@ -679,46 +762,58 @@ impl Writer {
         }
     }
 
-    /// Each way of 14, in a frame with reports.
+    /// One fault of any kind, in a frame with reports.
     fn damage_report(&mut self, bytes: &mut [u8]) {
-        let (highest, previous, lock) = (6, 19, 32);
-        let at = self.rng.pick(&[highest, previous, lock]);
-        match self.rng.below(6) {
-            // A mark that is neither 0 nor 1.
-            0 => bytes[at] = self.rng.pick(&[2, 128, 255]),
-            // Absent with one byte that is not zero.
-            1 => {
+        let fault = self.rng.pick(&ReportFault::ALL);
+        self.spoil(bytes, fault);
+    }
+
+    /// Brings a fault into a frame with reports.
+    fn spoil(&mut self, bytes: &mut [u8], fault: ReportFault) {
+        let (highest, previous) = (Place::Highest.start(), Place::Previous.start());
+        match fault {
+            ReportFault::Mark(place) => bytes[place.start()] = self.rng.pick(&[2, 128, 255]),
+            ReportFault::Nonzero(place) => {
+                let at = place.start();
                 bytes[at..at + 13].fill(0);
                 bytes[at + 1 + self.rng.below(12) as usize] = 1 << self.rng.below(8);
             }
-            // A report of the frame's own view or of a higher one.
-            2 => {
-                bytes[at] = 1;
-                bytes.copy_within(2..6, at + 1);
-                if self.rng.one_in(2) {
-                    bytes[at + 1..at + 5].fill(0xff);
-                }
-            }
-            // A previous vote without a highest one.
-            3 => {
+            ReportFault::View(place) => self.raise(bytes, place.start()),
+            ReportFault::WithoutHighest => {
                 bytes[previous] = 1;
                 bytes[highest..highest + 13].fill(0);
             }
-            // A previous vote at the highest one's view.
-            4 => {
-                bytes[highest] = 1;
-                bytes[previous] = 1;
-                bytes.copy_within(highest + 1..highest + 5, previous + 1);
-                bytes[previous + 12] = !bytes[highest + 12];
-            }
-            // A previous vote for the highest one's plan.
-            _ => {
+            ReportFault::NotBelow => self.lift_previous(bytes),
+            // A previous vote that is there already keeps its view.
+            ReportFault::SamePlan => {
                 bytes[highest] = 1;
                 bytes[previous] = 1;
                 bytes.copy_within(highest + 5..highest + 13, previous + 5);
-                bytes[previous + 1..previous + 5].fill(0);
             }
         }
+    }
+
+    /// A report of the frame's own view or of a higher one.
+    fn raise(&mut self, bytes: &mut [u8], at: usize) {
+        let ahead = self.rng.pick(&[0, 0, 0, 1, 2, u32::MAX]);
+        let view = frame::number4(&bytes[2..6]).saturating_add(ahead);
+        bytes[at] = 1;
+        bytes[at + 1..at + 5].copy_from_slice(&view.to_be_bytes());
+    }
+
+    /// A previous vote at the highest one's view, or the views of the two exchanged.
+    fn lift_previous(&mut self, bytes: &mut [u8]) {
+        let (highest, previous) = (Place::Highest.start(), Place::Previous.start());
+        if bytes[previous] == 0 {
+            bytes[previous + 12] = !bytes[highest + 12];
+        } else if self.rng.one_in(2) {
+            let (one, other) = bytes.split_at_mut(previous);
+            one[highest + 1..highest + 5].swap_with_slice(&mut other[1..5]);
+            return;
+        }
+        bytes[highest] = 1;
+        bytes[previous] = 1;
+        bytes.copy_within(highest + 1..highest + 5, previous + 1);
     }
 
     // ----- Lines that are no frames.

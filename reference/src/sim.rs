@@ -1403,7 +1403,7 @@ fn palette(rng: &mut Rng) -> Vec<u64> {
     plans
 }
 
-/// Made-up reports for a view above 0 that still pass refusal 14.
+/// Made-up reports for a view above 0 that still pass refusals 14, 21 and 22.
 /// A liar says what helps the plan it backs, or what stands in another's way.
 pub(crate) fn false_reports(rng: &mut Rng, view: u32, backed: u64, plans: &[u64]) -> Reports {
     let view = view.max(1);
@@ -1429,7 +1429,7 @@ pub(crate) fn below(rng: &mut Rng, view: u32, plans: &[u64]) -> Report {
     Report { view: view - 1 - back as u32, plan: rng.pick(plans) }
 }
 
-/// A previous vote that stands to this highest vote as refusal 14 wants it, where there can be one.
+/// A previous vote that stands to this highest vote as refusal 22 wants it, where there can be one.
 pub(crate) fn lower_report(rng: &mut Rng, highest: Report, plans: &[u64]) -> Option<Report> {
     let others: Vec<u64> = plans.iter().copied().filter(|&plan| plan != highest.plan).collect();
     if highest.view == 0 || others.is_empty() || rng.one_in(4) {

@@ -62,7 +62,7 @@ pub fn start(n: u8, f: u8, id: u8, class: u8, plan: u64) -> Result<Done, u8> {
     start_with(Fault::None, n, f, id, class, plan)
 }
 
-/// A frame's bytes over the link from a sender, on a sound record. Err: 9 to 17.
+/// A frame's bytes over the link from a sender, on a sound record. Err: 9 to 17, 21, 22.
 pub fn frame(record: &Record, link: u8, bytes: &[u8]) -> Result<Done, u8> {
     frame_with(Fault::None, record, link, bytes)
 }
@@ -120,7 +120,8 @@ pub fn timer_on(record: &mut Record, fault: Fault, view: u32) -> Result<Acts, u8
     Ok(accepted_timer(record, fault))
 }
 
-/// Refusals 9 to 17: the frame is read, then checked against the record.
+/// Refusals 9 to 17, with 21 and 22 in their place: the frame is read, then checked against the
+/// record.
 fn check_frame(record: &Record, link: u8, bytes: &[u8]) -> Result<Frame, u8> {
     let frame = frame::read(bytes, link, record.settings.n, record.settings.id)?;
     // 16: view below current (kind 6: at or below)

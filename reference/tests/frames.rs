@@ -2,8 +2,11 @@
 mod common;
 use common::*;
 use reference::entry::{parse_entries, Entry};
-use reference::frame::{self, leader, parse, read, write, Body, Frame};
+use reference::frame::{
+    self, bad_previous, bad_view, leader, parse, parse_reports, read, write, Body, Frame,
+};
 use reference::rng::Rng;
+use std::collections::BTreeMap;
 
 /// A frame that vault `id` of n accepts the bytes of, over the link of its sender.
 fn acceptable(rng: &mut Rng, n: u8, id: u8) -> Frame {
@@ -93,7 +96,7 @@ fn accepted_bytes_are_the_only_spelling() {
             }
             Err(number) => {
                 refused += 1;
-                assert!((9..=15).contains(&number));
+                assert!(matches!(number, 9..=15 | 21 | 22));
                 // what does not read does not stand in the row either
                 if let Some(frame) = parse(&bytes) {
                     assert!(link == id || !frame.fits_row(link, n, id));
@@ -102,6 +105,59 @@ fn accepted_bytes_are_the_only_spelling() {
         }
     }
     assert!(accepted > 20_000 && refused > 20_000, "{accepted} accepted, {refused} refused");
+}
+
+/// The tests of 14, 21 and 22, each by itself.
+#[test]
+fn the_tests_of_reports_apart() {
+    let bytes = write(&proof(2, 5, [rep(3, 4), None, rep(9, 1)]));
+    // 14 asks nothing of the views
+    assert_eq!(parse_reports(&bytes[6..]), Some([rep(3, 4), None, rep(9, 1)]));
+    for (at, byte) in [(6, 2), (6, 0), (19, 2), (31, 1), (32, 255), (32, 0)] {
+        let mut bytes = bytes.clone();
+        bytes[at] = byte;
+        assert_eq!(parse_reports(&bytes[6..]), None, "byte {at} is {byte}");
+    }
+    // 21 asks nothing of the previous vote
+    assert!(!bad_view(&NONE, 1) && !bad_view(&NONE, 0));
+    assert!(!bad_view(&[None, rep(4, 1), None], 5));
+    for place in 0..3 {
+        let mut reports = NONE;
+        reports[place] = rep(4, 1);
+        assert!(!bad_view(&reports, 5) && bad_view(&reports, 4) && bad_view(&reports, 3));
+    }
+    // 22 asks nothing of the frame
+    assert!(!bad_previous(None, None) && !bad_previous(None, rep(3, 1)));
+    assert!(!bad_previous(rep(2, 1), rep(3, 2)) && !bad_previous(rep(0, 1), rep(u32::MAX, 2)));
+    assert!(bad_previous(rep(2, 1), None) && bad_previous(rep(0, 0), None));
+    assert!(bad_previous(rep(3, 1), rep(3, 2)) && bad_previous(rep(4, 1), rep(3, 2)));
+    assert!(bad_previous(rep(2, 1), rep(3, 1)) && bad_previous(rep(3, 1), rep(3, 1)));
+}
+
+/// Of reports damaged anyhow the reader gives the number of the first test that they fail.
+#[test]
+fn the_tests_of_reports_in_their_order() {
+    let mut rng = Rng(6);
+    let mut seen = BTreeMap::new();
+    for _ in 0..100_000 {
+        let view = 1 + rng.below(5) as u32;
+        let mut bytes = write(&proof(2, view, valid_reports(&mut rng, view, 3)));
+        for _ in 0..1 + rng.below(6) {
+            let at = 6 + rng.below(39) as usize;
+            // bytes that count: marks, the last of a view, the last of a plan
+            let at = if rng.one_in(8) { at } else { at - (at - 6) % 13 + rng.pick(&[0, 4, 12]) };
+            bytes[at] =
+                if rng.one_in(9) { rng.next() as u8 } else { rng.pick(&[0, 1, 1, 1, 2, 3]) };
+        }
+        let expected = match parse_reports(&bytes[6..]) {
+            None => Some(14),
+            Some(reports) if bad_view(&reports, view) => Some(21),
+            Some([highest, previous, _]) => bad_previous(previous, highest).then_some(22),
+        };
+        assert_eq!(read(&bytes, 2, 4, 1).err(), expected);
+        *seen.entry(expected).or_insert(0) += 1;
+    }
+    assert!(seen.len() == 4 && seen.values().all(|&count| count > 2_000), "{seen:?}");
 }
 
 #[test]

@@ -124,6 +124,26 @@ fn a_call_without_entries_prints_nothing() {
     assert_eq!(run_lines(input.as_bytes()), "fe0b0000000000000384\n");
 }
 
+/// The worked lines of the readings of wish 1 (document 02), as they are printed there, at vault 3 of
+/// 4: a view in the first report and a bad mark in the third; previous alone, and the lock at 4;
+/// previous alone, and so in a suggest to a vault that does not lead; that suggest without a fault;
+/// previous alone in view 0.
+#[test]
+fn the_worked_lines_of_wish_1() {
+    let worked = "\
+080100000004010000000400000000000000050000000000000000000000000002000000000000000000000000 fd0e
+080100000004000000000000000000000000000100000002000000000000000601000000040000000000000001 fd15
+080100000004000000000000000000000000000100000002000000000000000600000000000000000000000000 fd16
+070100000004000000000000000000000000000100000002000000000000000600000000000000000000000000 fd16
+070100000004000000000000000000000000000000000000000000000000000000000000000000000000000000 fd0f
+080100000000000000000000000000000000000100000002000000000000000600000000000000000000000000 fd0d";
+    let pairs = worked.lines().map(|line| line.split_once(' ').expect("a line and its answer"));
+    let (lines, answers): (Vec<&str>, Vec<&str>) = pairs.unzip();
+    let input = format!("00040103020000000000000007\n{}\n", lines.join("\n"));
+    let output = format!("fe0b0000000000000384\n{}\n", answers.join("\n"));
+    assert_eq!(run_lines(input.as_bytes()), output);
+}
+
 #[test]
 fn a_timer_and_a_longest_line() {
     // vault 0 of 4 in view 0; its timer; then two view-changes enter view 1

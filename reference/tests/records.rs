@@ -144,9 +144,11 @@ fn sound_rows_pass_9_to_15() {
     assert!(!with(view_change(2, 0)));
     assert!(!with(proof(2, 0, NONE)));
     assert!(!with(view_change(1, 0)));
-    // 14
+    // 21
     assert!(with(proof(2, 5, [rep(4, 1), rep(3, 2), rep(4, 3)])));
     assert!(!with(proof(2, 5, [rep(5, 1), None, None])));
+    assert!(!with(proof(2, 5, [None, None, rep(5, 1)])));
+    // 22
     assert!(!with(proof(2, 5, [None, rep(3, 1), None])));
     assert!(!with(proof(2, 5, [rep(4, 1), rep(3, 1), None])));
     assert!(!with(proof(1, 5, [rep(4, 1), rep(4, 2), None])));
@@ -161,6 +163,41 @@ fn sound_rows_pass_9_to_15() {
     assert!(with(vote(1, 3, 10, 0)));
     assert!(with(vote(1, 3, 0, 0)));
     assert!(with(view_change(3, 1)));
+}
+
+/// The row of 14 as it stood before wish 1, for reports that can be spelled.
+fn bad_before_wish_1(view: u32, [highest, previous, lock]: [Option<Report>; 3]) -> bool {
+    let not_below = |report: Option<Report>| report.is_some_and(|report| report.view >= view);
+    let at_odds = match (highest, previous) {
+        (_, None) => false,
+        (None, Some(_)) => true,
+        (Some(high), Some(low)) => low.view >= high.view || low.plan == high.plan,
+    };
+    not_below(highest) || not_below(previous) || not_below(lock) || at_odds
+}
+
+/// Which suggests and proofs a sound record may keep has not changed with wish 1. Vault v of 4 leads
+/// view v, and keeps them in its own row or in another's.
+#[test]
+fn sound_reports_are_those_of_before() {
+    let one: Vec<Option<Report>> =
+        (0..4).flat_map(|view| [rep(view, 1), rep(view, 2)]).chain([None]).collect();
+    let mut sound = 0;
+    for case in 0..one.len().pow(3) {
+        let reports = [0, 1, 2].map(|place| one[case / one.len().pow(place) % one.len()]);
+        for view in 1..4 {
+            let expected = !bad_before_wish_1(view, reports);
+            for frame in
+                [proof(3, view, reports), proof(0, view, reports), suggest(3, view, reports)]
+            {
+                let record = record_with(4, 1, view as u8, 0, 3, &[frame]);
+                assert_eq!(is_sound(&record), expected, "{frame:?}");
+                sound += u32::from(expected);
+            }
+        }
+    }
+    // of locks, and of votes, in views 1, 2 and 3
+    assert_eq!(sound, 3 * (3 * 3 + 5 * 7 + 7 * 13));
 }
 
 #[test]
@@ -203,6 +240,10 @@ fn sound_previous_votes_stand_to_their_highest() {
         assert!(!with(rep(5, 1), rep(6, 2)), "not below it");
         assert!(!with(rep(5, 1), rep(4, 1)), "for its plan");
     }
+    // 21 is not asked of it: it may be above the vault's own last proof
+    let mut record = record_with(4, 1, 1, 0, 8, &[vote(1, 1, 8, 1), proof(1, 2, NONE)]);
+    record.previous_vote1 = rep(7, 2);
+    assert!(is_sound(&record));
     // previous vote-1 stands to vote-1, not to vote-2
     let mut record = record_with(4, 1, 1, 0, 8, &[vote(2, 1, 5, 1)]);
     record.previous_vote1 = rep(4, 2);

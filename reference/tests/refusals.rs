@@ -3,9 +3,11 @@
 mod common;
 use common::*;
 use reference::calls;
-use reference::frame::write;
+use reference::frame::{parse, read, write, Report};
 use reference::record::{encode, Record, RECORD_LEN};
+use reference::report_faults::{faults_of, wanted_faults, Place, ReportFault};
 use reference::rng::Rng;
+use std::collections::BTreeSet;
 
 /// Sound records to be refused on, and bytes that are unsound.
 fn sound() -> Vec<u8> {
@@ -191,8 +193,18 @@ fn reported(bytes: &[u8]) -> Option<u8> {
     Vault::started(4, 1, 1, 7).bytes(2, bytes).err()
 }
 
+/// All of these reports give the same, in a suggest and in a proof.
+fn all_reported(cases: &[[Option<Report>; 3]], expected: Option<u8>) {
+    for write_frame in [suggest, proof] {
+        for &reports in cases {
+            let bytes = write(&write_frame(2, 9, reports));
+            assert_eq!(reported(&bytes), expected, "{reports:?}");
+        }
+    }
+}
+
 #[test]
-fn refusal_14_reports() {
+fn reports_that_pass() {
     let good = [
         NONE,
         [rep(8, 5), None, None],
@@ -201,29 +213,100 @@ fn refusal_14_reports() {
         [rep(8, 0), rep(0, 6), rep(0, 0)],
         // lock and votes are not compared
         [rep(3, 5), rep(2, 6), rep(8, 7)],
+        [rep(3, 5), rep(2, 6), rep(3, 5)],
+        [rep(3, 5), rep(2, 6), rep(1, 6)],
     ];
+    all_reported(&good, None);
+}
+
+#[test]
+fn refusal_21_report_view() {
     let bad = [
-        // view not below the frame's
         [rep(9, 5), None, None],
+        [rep(10, 5), None, None],
         [rep(u32::MAX, 5), None, None],
-        [None, None, rep(9, 5)],
         [rep(9, 5), rep(8, 6), None],
+        [rep(10, 5), rep(9, 6), None],
+        // the lock too
+        [None, None, rep(9, 5)],
+        [None, None, rep(u32::MAX, 5)],
+        [rep(8, 5), rep(7, 6), rep(9, 5)],
+    ];
+    all_reported(&bad, Some(21));
+}
+
+#[test]
+fn refusal_22_previous_vote() {
+    let bad = [
         // previous without highest
         [None, rep(3, 5), None],
+        [None, rep(0, 0), None],
         [None, rep(3, 5), rep(4, 5)],
-        // previous not below highest
+        // not below it
         [rep(5, 5), rep(5, 6), None],
         [rep(5, 5), rep(6, 6), None],
-        // previous for highest's plan
+        [rep(0, 5), rep(0, 6), None],
+        // for its plan
         [rep(5, 5), rep(4, 5), None],
+        [rep(1, 0), rep(0, 0), None],
+        // highest once more
+        [rep(5, 5), rep(5, 5), rep(5, 5)],
     ];
+    all_reported(&bad, Some(22));
+}
+
+/// "All three reports are tested for the first fault, then all for the second, then all for the
+/// third": the fault of the later number stands in the earlier report, or in the pair.
+#[test]
+fn refusal_14_before_21_before_22() {
+    // 21 and 22 each alone are further up
+    let at_21 = [[rep(9, 5), None, None], [rep(10, 5), rep(9, 6), None]];
+    let at_22 =
+        [[None, rep(3, 5), None], [rep(5, 5), rep(5, 6), None], [rep(5, 5), rep(4, 5), None]];
+    let at_both = [
+        [None, rep(9, 5), None],
+        [rep(8, 5), rep(9, 6), None],
+        [rep(9, 5), rep(10, 6), None],
+        [rep(9, 5), rep(8, 5), None],
+        [rep(10, 5), rep(9, 5), None],
+    ];
+    all_reported(&at_both, Some(21));
+    for [highest, previous, _] in at_22 {
+        all_reported(&[[highest, previous, rep(9, 5)]], Some(21));
+    }
     for write_frame in [suggest, proof] {
-        for reports in good {
-            assert_eq!(reported(&write(&write_frame(2, 9, reports))), None);
+        for reports in at_21.into_iter().chain(at_22).chain(at_both) {
+            for (place, byte) in [(0, 2), (0, 255), (1, 1), (12, 1)] {
+                let mut bytes = write(&write_frame(2, 9, reports));
+                bytes[32 + place] = byte;
+                assert_eq!(reported(&bytes), Some(14), "{reports:?}");
+            }
         }
-        for reports in bad {
-            assert_eq!(reported(&write(&write_frame(2, 9, reports))), Some(14));
+        for (place, byte) in [(0, 2), (1, 1)] {
+            let mut bytes = write(&write_frame(2, 9, [rep(9, 5), None, None]));
+            bytes[19 + place] = byte;
+            assert_eq!(reported(&bytes), Some(14));
         }
+    }
+}
+
+/// All three come before 15, 16 and 17, and after 13.
+#[test]
+fn refusals_14_21_and_22_stand_between_13_and_15() {
+    let faults = [(14, NONE), (21, [None, None, rep(9, 5)]), (22, [None, rep(3, 5), None])];
+    for (number, reports) in faults {
+        let spelled = |view: u32| {
+            let mut bytes = write(&suggest(2, view, reports));
+            bytes[6] = if number == 14 { 2 } else { bytes[6] };
+            bytes
+        };
+        // view 8 is not led, and gone by in view 9; in view 9 a suggest is kept already
+        assert_eq!(Vault::started(4, 1, 1, 7).bytes(2, &spelled(8)), Err(number));
+        let mut vault = Vault::of(&record_with(4, 1, 1, 7, 9, &[suggest(2, 9, NONE)]));
+        assert_eq!(vault.bytes(2, &spelled(8)), Err(number));
+        assert_eq!(vault.bytes(2, &spelled(9)), Err(number));
+        assert_eq!(vault.bytes(2, &write(&suggest(2, 9, NONE))), Err(17));
+        assert_eq!(vault.bytes(2, &spelled(0)), Err(13));
     }
 }
 
@@ -240,6 +323,81 @@ fn refusal_14_marks_and_bytes_of_absent_reports() {
             }
         }
     }
+}
+
+/// A report as it is spelled: mark, view and plan.
+type Raw = (u8, u32, u64);
+
+/// 14, 21 and 22, written down once more.
+fn refused_reports(view: u32, reports: [Raw; 3]) -> Option<u8> {
+    let [highest, previous, _] = reports;
+    let present = |report: Raw| report.0 == 1;
+    let misspelled = |&(mark, at, plan): &Raw| mark > 1 || (mark == 0 && (at, plan) != (0, 0));
+    first(&[
+        (14, reports.iter().any(misspelled)),
+        (21, reports.iter().any(|&report| present(report) && report.1 >= view)),
+        (
+            22,
+            present(previous)
+                && (!present(highest) || previous.1 >= highest.1 || previous.2 == highest.2),
+        ),
+    ])
+}
+
+fn spell(kind: u8, sender: u8, view: u32, reports: &[Raw; 3]) -> Vec<u8> {
+    let mut bytes = vec![kind, sender];
+    bytes.extend(view.to_be_bytes());
+    for (mark, at, plan) in reports {
+        bytes.push(*mark);
+        bytes.extend(at.to_be_bytes());
+        bytes.extend(plan.to_be_bytes());
+    }
+    bytes
+}
+
+/// Three reports each, of three marks, views 0 to 3 and two plans.
+fn small_reports() -> Vec<[Raw; 3]> {
+    let one: Vec<Raw> = (0..3)
+        .flat_map(|mark| (0..4).flat_map(move |at| (0..2).map(move |plan| (mark, at, plan))))
+        .collect();
+    let mut all = Vec::new();
+    for &highest in &one {
+        for &previous in &one {
+            all.extend(one.iter().map(|&lock| [highest, previous, lock]));
+        }
+    }
+    all
+}
+
+/// Every small set of reports, in views 1 to 3, from vault 3 of 4: a suggest to the vault that leads
+/// and to one that does not, a proof to both.
+#[test]
+fn small_reports_exhaustively() {
+    let mut seen = BTreeSet::new();
+    for reports in small_reports() {
+        for view in 1..4u32 {
+            let expected = refused_reports(view, reports);
+            let bytes = spell(8, 3, view, &reports);
+            for id in [1, 2] {
+                let stray = u32::from(id) != view;
+                let suggested = expected.or(stray.then_some(15));
+                assert_eq!(read(&bytes, 3, 4, id).err(), expected, "{reports:?} in {view}");
+                let suggest = spell(7, 3, view, &reports);
+                assert_eq!(read(&suggest, 3, 4, id).err(), suggested, "{reports:?} in {view}");
+                // what stands in a record passes just these
+                let fits = parse(&suggest).is_some_and(|frame| frame.fits_row(3, 4, id));
+                assert_eq!(fits, suggested.is_none());
+            }
+            let faults = faults_of(&bytes);
+            assert_eq!(faults.first().map(|fault| fault.refusal()), expected);
+            seen.insert(faults);
+        }
+    }
+    // what scripts are to bring can come, and 21 of previous never comes by itself
+    for wanted in wanted_faults() {
+        assert!(seen.contains(&wanted), "{wanted:?}");
+    }
+    assert!(!seen.contains(&vec![ReportFault::View(Place::Previous)]));
 }
 
 #[test]
@@ -368,15 +526,18 @@ fn lent(record: &Record) -> [(Vec<u8>, Option<u8>); 3] {
     [(sound, None), (blank, Some(2)), (unsound, Some(3))]
 }
 
-/// A frame call with any of the faults 1 and 9 to 17, at vault 1 of 4. It is in view 6, and keeps a
-/// suggest of vault 2 for view 9, which it leads. Bit i stands for refusal i; bit 0 tells two wrong
-/// links apart, and two wrong views.
+/// The refusals of a frame's bytes and against the record, in the order in which they are asked.
+const FRAME_ORDER: [u8; 11] = [9, 10, 11, 12, 13, 14, 21, 22, 15, 16, 17];
+
+/// A frame call with any of the faults 1, 9 to 17, 21 and 22, at vault 1 of 4. It is in view 6, and
+/// keeps a suggest of vault 2 for view 9, which it leads. Bit i stands for refusal i; bit 0 tells two
+/// wrong links apart, and two wrong views.
 #[derive(Clone, Copy)]
 struct Faulty(u32);
 
 impl Faulty {
     fn every() -> impl Iterator<Item = Faulty> {
-        (0..1 << 11).map(|bits| Faulty(bits & 3 | bits >> 2 << 9))
+        (0..1 << 13).map(|bits| Faulty(bits & 3 | (bits >> 2 & 511) << 9 | bits >> 11 << 21))
     }
 
     fn has(self, refusal: u8) -> bool {
@@ -397,10 +558,19 @@ impl Faulty {
         views.into_iter().find(|&(refusal, _)| self.has(refusal)).map_or(13, |(_, view)| view)
     }
 
+    /// Highest below the frame's view or at it; previous for the same plan.
+    fn reports(self) -> [Option<Report>; 3] {
+        let highest = rep(if self.has(21) { self.view() } else { 3 }, 5);
+        let previous = if self.has(22) { rep(0, 5) } else { rep(0, 6) };
+        [highest, previous, None]
+    }
+
     fn bytes(self) -> Vec<u8> {
-        let mut bytes = write(&suggest(if self.has(12) { 3 } else { 2 }, self.view(), NONE));
+        let sender = if self.has(12) { 3 } else { 2 };
+        let mut bytes = write(&suggest(sender, self.view(), self.reports()));
+        // the last of the three
         if self.has(14) {
-            bytes[6] = 2;
+            bytes[32] = 2;
         }
         if self.has(10) {
             bytes.push(0);
@@ -421,7 +591,7 @@ fn order_of_frame() {
         for (rec, refusal) in &lent {
             let mut faults =
                 vec![(1, faulty.has(1)), (2, *refusal == Some(2)), (3, *refusal == Some(3))];
-            faults.extend((9..=17).map(|number| (number, faulty.has(number))));
+            faults.extend(FRAME_ORDER.map(|number| (number, faulty.has(number))));
             let number = refused(rec, out_len, |r, o| calls::frame(r, link, &bytes, o));
             assert_eq!(number, first(&faults), "{faults:?}");
         }
@@ -444,11 +614,11 @@ fn order_of_timer() {
     }
 }
 
-/// A random frame with any faults against refusals 9 to 17 stated one by one.
+/// A random frame with any faults against the refusals of a frame stated one by one.
 #[test]
 fn frames_against_the_table_as_a_list() {
     let mut rng = Rng(2024);
-    let mut seen = [0u32; 18];
+    let mut seen = [0u32; 23];
     for _ in 0..400 {
         let vault = wandered(&mut rng, 30);
         let record = vault.record();
@@ -468,19 +638,20 @@ fn frames_against_the_table_as_a_list() {
                     _ => {}
                 }
             }
-            let expected = table_9_to_17(&record, link, &bytes);
+            let expected = frame_table(&record, link, &bytes);
             let result = Vault { rec: vault.rec.clone() }.bytes(link, &bytes);
             assert_eq!(result.err(), expected);
             seen[usize::from(expected.unwrap_or(0))] += 1;
         }
     }
-    for number in (9..18).chain([0]) {
-        assert!(seen[number] > 0, "refusal {number} never came up");
+    for number in FRAME_ORDER.into_iter().chain([0]) {
+        assert!(seen[usize::from(number)] > 0, "refusal {number} never came up");
     }
 }
 
-/// The rows 9 to 17 of the table, written down once more over bytes alone.
-fn table_9_to_17(record: &Record, link: u8, bytes: &[u8]) -> Option<u8> {
+/// The rows 9 to 17 of the table, 21 and 22 between 14 and 15, written down once more over bytes
+/// alone.
+fn frame_table(record: &Record, link: u8, bytes: &[u8]) -> Option<u8> {
     let (n, id) = (record.settings.n, record.settings.id);
     let lengths = [0, 14, 14, 14, 14, 14, 6, 45, 45];
     let kind = usize::from(*bytes.first().unwrap_or(&0));
@@ -494,31 +665,15 @@ fn table_9_to_17(record: &Record, link: u8, bytes: &[u8]) -> Option<u8> {
         bytes[from..to].iter().fold(0u64, |sum, &b| sum * 256 + u64::from(b))
     };
     let view = number(2, 6);
-    let report = |i: usize| {
-        let at = 6 + 13 * i;
-        (bytes[at], number(at + 1, at + 5), number(at + 5, at + 13))
-    };
-    let bad_report = kind >= 7 && {
-        let [highest, previous, lock] = [report(0), report(1), report(2)];
-        [highest, previous, lock].iter().any(|&(mark, at, plan)| {
-            mark > 1 || (mark == 0 && (at, plan) != (0, 0)) || (mark == 1 && at >= view)
-        }) || (previous.0 == 1
-            && (highest.0 != 1 || previous.1 >= highest.1 || previous.2 == highest.2))
-    };
+    let report = |at: usize| (bytes[at], number(at + 1, at + 5) as u32, number(at + 5, at + 13));
+    let reports = (kind >= 7).then(|| [6, 19, 32].map(report));
     let leader = view % u64::from(n);
-    let kept_view =
-        |sender: u8| record.rows[usize::from(sender)][kind - 1].map(|frame| u64::from(frame.view));
-    let conditions = [
-        (11, link >= n || link == id),
-        (12, bytes[1] != link),
-        (13, kind >= 6 && view == 0),
-        (14, bad_report),
-        (
-            15,
-            (kind == 1 && leader != u64::from(bytes[1])) || (kind == 7 && leader != u64::from(id)),
-        ),
-        (16, view < u64::from(record.view) || (kind == 6 && view <= u64::from(record.view))),
-    ];
-    let found = conditions.iter().find(|condition| condition.1).map(|condition| condition.0);
-    found.or_else(|| if kept_view(link).is_some_and(|kept| kept >= view) { Some(17) } else { None })
+    let misplaced =
+        (kind == 1 && leader != u64::from(bytes[1])) || (kind == 7 && leader != u64::from(id));
+    let below = view < u64::from(record.view) || (kind == 6 && view <= u64::from(record.view));
+    let kept = |sender: u8| record.rows[usize::from(sender)][kind - 1];
+    first(&[(11, link >= n || link == id), (12, bytes[1] != link), (13, kind >= 6 && view == 0)])
+        .or_else(|| reports.and_then(|reports| refused_reports(view as u32, reports)))
+        .or_else(|| first(&[(15, misplaced), (16, below)]))
+        .or_else(|| kept(link).filter(|frame| u64::from(frame.view) >= view).map(|_| 17))
 }

@@ -23,7 +23,7 @@ impl Case {
         Question { n: self.n, f: self.f, v: self.v, reports: &self.reports }
     }
 
-    fn assert_passes_14(&self) {
+    fn assert_passes_14_21_and_22(&self) {
         for (sender, reports) in (0u8..).zip(&self.reports) {
             if let Some(reports) = reports {
                 let id = (sender + 1) % self.n as u8;
@@ -66,7 +66,8 @@ fn within(rng: &mut Rng, range: &RangeInclusive<u32>) -> u32 {
     range.start() + rng.below(u64::from(range.end() - range.start()) + 1) as u32
 }
 
-/// A report set that passes refusal 14, of n vaults and for view v, with few views and few plans.
+/// A report set that passes refusals 14, 21 and 22, of n vaults and for view v, with few views and
+/// few plans.
 fn random_case(
     rng: &mut Rng,
     n: RangeInclusive<u32>,
@@ -144,7 +145,7 @@ impl Counts {
 
 /// 4 to 7 vaults. One set in 50 is for view 0, where nobody reports.
 fn small_case(rng: &mut Rng, set: usize) -> Case {
-    if set % 50 == 0 {
+    if set % 50 == 49 {
         let n = within(rng, &(4..=7)) as usize;
         return Case { n, f: 1, v: 0, reports: vec![None; n] };
     }
@@ -158,7 +159,7 @@ fn counting_agrees_with_every_set() {
     for set in 0..SETS {
         let case = small_case(&mut rng, set);
         if set < 5_000 {
-            case.assert_passes_14();
+            case.assert_passes_14_21_and_22();
         }
         let question = case.question();
         // plans 0 to 3 may be named; 4 and above never are

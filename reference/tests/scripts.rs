@@ -1,10 +1,11 @@
 //! Random scripts for the line program: what they reach, and that the line program, the calls by
-//! contents and a second vault, written here from document 01 alone, give the same output.
+//! contents and a second vault, written here from documents 01 and 02 alone, give the same output.
 
 use std::collections::{BTreeMap, BTreeSet};
 
 use reference::lines;
 use reference::record::Record;
+use reference::report_faults::wanted_faults;
 use reference::scripts::{cover, script, Coverage};
 use reference::vault::{self, Step};
 
@@ -53,6 +54,28 @@ fn scripts_reach_every_step_refusal_and_clause() {
     assert!(coverage.decisions_of_64 > 0);
     assert!(coverage.timer_repeats > coverage.far_repeats && coverage.far_repeats > 0);
     assert!(coverage.last_views > 0);
+    assert_eq!(coverage.missing(), Vec::<String>::new(), "faults in reports");
+}
+
+/// `missing` names each fault until it was reached, and a wrong number wherever it comes.
+#[test]
+fn missing_names_what_was_not_reached() {
+    let mut coverage = Coverage::default();
+    let wanted = 3 * wanted_faults().len();
+    assert_eq!(coverage.missing().len(), wanted);
+    // at vault 3 of 4, which does not lead view 4: 21 in the lock with 22, first in a proof
+    let reports = "00000000000000000000000000\
+        0100000002000000000000000601000000040000000000000001";
+    cover(format!("00040103020000000000000007\n080100000004{reports}").as_bytes(), &mut coverage);
+    let fault = "21 by the view of lock, 22 without highest";
+    assert!(!coverage.missing().contains(&format!("proof: {fault}")));
+    assert!(coverage.missing().contains(&format!("suggest: {fault}")));
+    assert_eq!(coverage.missing().len(), wanted - 1);
+    // a frame that 13 refuses shows nothing of 21
+    cover(format!("00040103020000000000000007\n080100000000{reports}").as_bytes(), &mut coverage);
+    assert_eq!((coverage.missing().len(), coverage.misjudged), (wanted - 1, 0));
+    coverage.misjudged = 1;
+    assert_eq!(coverage.missing().len(), wanted);
 }
 
 /// Which refusals lines can reach.
@@ -69,13 +92,15 @@ fn reachable(number: usize) -> bool {
         11 => true, // byte 1, taken as the link's sender, is n or more, or the vault's own number
         12 => false, // byte 1 is also the link's sender, so the two never differ
         13 => true, // view 0 in kinds 6, 7 and 8
-        14 => true, // a bad report
+        14 => true, // a report's mark, or a byte of an absent one
         15 => true, // a proposal from the wrong vault, a suggest for the wrong view
         16 => true, // a view gone by
         17 => true, // a frame kept already
         18 => true, // a timer of another view
         19 => true, // a timer in the last view, which a quorum of view-changes reaches at once
         20 => true, // text that is no line of digits
+        21 => true, // a report at or above the frame's view
+        22 => true, // a previous vote at odds with its highest
         _ => unreachable!("no such number"),
     }
 }
@@ -338,7 +363,7 @@ impl Second {
         Ok(self.take_out())
     }
 
-    /// 9 to 15, without 12, which lines cannot reach.
+    /// 9 to 15, without 12, which lines cannot reach, and with 21 and 22 before 15.
     fn read(&self, bytes: &[u8]) -> Result<(u8, u8, Kept), u8> {
         let kind = *bytes.first().unwrap_or(&0);
         let length = match kind {
@@ -358,15 +383,7 @@ impl Second {
         if view == 0 && kind >= 6 {
             return Err(13);
         }
-        let mut reports = [None; 3];
-        if kind >= 7 {
-            for (report, bytes) in reports.iter_mut().zip(bytes[6..].chunks(13)) {
-                *report = read_report(bytes, view).ok_or(14)?;
-            }
-            if !previous_is_right(reports[0], reports[1]) {
-                return Err(14);
-            }
-        }
+        let reports = if kind >= 7 { read_reports(&bytes[6..], view)? } else { [None; 3] };
         if (kind == 1 && sender != self.leader(view)) || (kind == 7 && self.id != self.leader(view))
         {
             return Err(15);
@@ -555,11 +572,26 @@ impl Second {
     }
 }
 
-fn read_report(bytes: &[u8], view: u64) -> Option<Option<Vote>> {
+/// 14 of all three reports, then 21 of all, then 22 of the first two.
+fn read_reports(bytes: &[u8], view: u64) -> Result<[Option<Vote>; 3], u8> {
+    let mut reports = [None; 3];
+    for (report, bytes) in reports.iter_mut().zip(bytes.chunks(13)) {
+        *report = read_report(bytes).ok_or(14)?;
+    }
+    for (at, _) in reports.into_iter().flatten() {
+        if at >= view {
+            return Err(21);
+        }
+    }
+    let [highest, previous, _] = reports;
+    previous_is_right(highest, previous).then_some(reports).ok_or(22)
+}
+
+fn read_report(bytes: &[u8]) -> Option<Option<Vote>> {
     let vote = (number(&bytes[1..5]), number(&bytes[5..13]));
     match bytes[0] {
         0 if vote == (0, 0) => Some(None),
-        1 if vote.0 < view => Some(Some(vote)),
+        1 => Some(Some(vote)),
         _ => None,
     }
 }

@@ -1,5 +1,5 @@
 //! The calls to time and to measure: of every kind, accepted and refused, with nothing kept and with all.
-use reference::frame::{Frame, PROOF, PROPOSAL, SUGGEST, VOTE_1, VOTE_2, VOTE_3, VOTE_4};
+use reference::frame::{self, Frame, PROOF, PROPOSAL, SUGGEST, VOTE_1, VOTE_2, VOTE_3, VOTE_4};
 use reference::record::Settings;
 use reference::rules::Clause;
 use reference::vault::Step;
@@ -85,8 +85,12 @@ fn refusals(n: u8, f: u8) -> Vec<Case> {
     let vote = |sender, view| heard(Frame::with_plan(VOTE_1, sender, view, 5));
     let empty = || Call::Frame { link: 0, bytes: Vec::new() };
     let short = Call::Frame { link: 0, bytes: vec![VOTE_1, 0] };
-    let same_plan = [report(5, 1), report(4, 1), report(3, 2)];
-    let bad_report = heard(Frame::with_reports(PROOF, 0, 20_000, same_plan));
+    let proof = |reports| Frame::with_reports(PROOF, 0, 20_000, reports);
+    let same_plan = heard(proof([report(5, 1), report(4, 1), report(3, 2)]));
+    let lock_too_high = heard(proof([report(5, 1), report(4, 2), report(20_000, 2)]));
+    let mut bad_mark = frame::write(&proof([report(5, 1), report(4, 2), report(3, 2)]));
+    bad_mark[32] = 2;
+    let bad_mark = Call::Frame { link: 0, bytes: bad_mark };
     let not_leader = heard(Frame::with_plan(PROPOSAL, 0, 20_000 * u32::from(n) + 1, 5));
     let refused = Expected::Refused;
     let none = || Expected::Steps(&[]);
@@ -103,7 +107,9 @@ fn refusals(n: u8, f: u8) -> Vec<Case> {
         full(n, f).case("frame refused 9 (empty), all kept", empty(), refused(9)),
         full(n, f).case("frame refused 10 (length), all kept", short, refused(10)),
         full(n, f).case("frame refused 11 (sender n), all kept", vote(n, 20_000), refused(11)),
-        full(n, f).case("frame refused 14 (previous), all kept", bad_report, refused(14)),
+        full(n, f).case("frame refused 14 (mark of the lock), all kept", bad_mark, refused(14)),
+        full(n, f).case("frame refused 21 (view of the lock), all kept", lock_too_high, refused(21)),
+        full(n, f).case("frame refused 22 (previous), all kept", same_plan, refused(22)),
         full(n, f).case("frame refused 15 (leader), all kept", not_leader, refused(15)),
         full(n, f).case("frame refused 16 (view over), all kept", vote(0, 1), refused(16)),
         full(n, f).case("frame refused 17 (kept), all kept", vote(0, 10_000), refused(17)),

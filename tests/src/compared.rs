@@ -27,7 +27,7 @@ pub struct Seen {
     pub calls: u64,
     pub accepted: u64,
     /// By number; 20 is for lines only.
-    pub refusals: [u64; 21],
+    pub refusals: [u64; 23],
     /// By letter, as the entries tell.
     pub steps: [u64; 8],
     /// Calls on records of n vaults.
@@ -36,7 +36,7 @@ pub struct Seen {
 
 impl Default for Seen {
     fn default() -> Seen {
-        Seen { calls: 0, accepted: 0, refusals: [0; 21], steps: [0; 8], sizes: [0; 65] }
+        Seen { calls: 0, accepted: 0, refusals: [0; 23], steps: [0; 8], sizes: [0; 65] }
     }
 }
 

@@ -1,5 +1,5 @@
 //! Random frames: valid ones of each kind, damaged ones, and random bytes.
-use reference::frame::{write, Body, Frame, Report};
+use reference::frame::{number4, write, Body, Frame, Report};
 use reference::rng::Rng;
 
 /// A view from the places where mistakes show: small ones, the ends of 32 bits, anything.
@@ -33,7 +33,7 @@ fn report_below(rng: &mut Rng, limit: u32) -> Option<Report> {
     Some(Report { view, plan: plan(rng) })
 }
 
-/// Three reports that pass 14 in a frame of this view.
+/// Three reports that pass 14, 21 and 22 in a frame of this view.
 pub fn reports(rng: &mut Rng, view: u32) -> [Option<Report>; 3] {
     let highest = report_below(rng, view);
     let previous = highest.and_then(|h| report_below(rng, h.view).filter(|p| p.plan != h.plan));
@@ -85,6 +85,28 @@ fn damage(rng: &mut Rng, bytes: &mut Vec<u8>) {
     }
 }
 
+/// One fault in the reports of a suggest or a proof, or a step towards one.
+fn spoil(rng: &mut Rng, bytes: &mut [u8]) {
+    let (highest, previous) = (6, 19);
+    let at = highest + 13 * rng.below(3) as usize;
+    match rng.below(8) {
+        0 => bytes[at] = rng.pick(&[2, 3, 255]),
+        1 => {
+            bytes[at..at + 13].fill(0);
+            bytes[at + 1 + rng.below(12) as usize] = 1;
+        }
+        2..=4 => {
+            let view = number4(&bytes[2..6]).saturating_add(rng.below(3) as u32);
+            bytes[at] = 1;
+            bytes[at + 1..at + 5].copy_from_slice(&view.to_be_bytes());
+        }
+        // Previous gets highest's view, or its plan, or there is no highest.
+        5 => bytes.copy_within(highest + 1..highest + 5, previous + 1),
+        6 => bytes.copy_within(highest + 5..highest + 13, previous + 5),
+        _ => bytes[highest..highest + 13].fill(0),
+    }
+}
+
 /// Random bytes of any length up to 60, with a kind byte that is often one of the eight.
 fn noise(rng: &mut Rng) -> Vec<u8> {
     let mut bytes: Vec<u8> = (0..rng.below(61)).map(|_| rng.next() as u8).collect();
@@ -101,6 +123,9 @@ pub fn offered(rng: &mut Rng, n: u8, own: u8) -> Vec<u8> {
     }
     let kind = 1 + rng.below(8) as u8;
     let mut bytes = write(&valid(rng, kind, n, own));
+    if kind >= 7 && rng.below(2) == 0 {
+        (0..1 + rng.below(3)).for_each(|_| spoil(rng, &mut bytes));
+    }
     if rng.below(3) == 0 {
         damage(rng, &mut bytes);
     }

@@ -54,7 +54,7 @@ fn below(rng: &mut Rng, top: u32) -> u32 {
     }
 }
 
-/// Three reports of a frame that pass 14: each a mark, a view and a plan.
+/// Three reports of a frame that pass 14, 21 and 22: each a mark, a view and a plan.
 fn reports(rng: &mut Rng, view: u32) -> [(u8, u32, u64); 3] {
     let mut reports = [(0, 0, 0); 3];
     if !rng.one_in(4) && view > 0 {
@@ -70,14 +70,16 @@ fn reports(rng: &mut Rng, view: u32) -> [(u8, u32, u64); 3] {
     reports
 }
 
-/// The 39 bytes of three reports, now and then with a fault.
+/// The 39 bytes of three reports, now and then with up to three faults.
 fn report_bytes(rng: &mut Rng, view: u32) -> Vec<u8> {
     let mut reports = reports(rng, view);
-    if rng.one_in(30) {
+    let faults = if rng.one_in(30) { 1 + rng.below(3) } else { 0 };
+    for _ in 0..faults {
         let which = rng.below(3) as usize;
-        match rng.below(3) {
+        match rng.below(4) {
             0 => reports[which].1 = view,
             1 => reports[1] = reports[0],
+            2 => reports[0] = (0, 0, 0),
             _ => reports[which].0 = rng.below(3) as u8,
         }
     }

@@ -31,7 +31,7 @@ pub fn table_of(rng: &mut Rng, v: u32, reports: &Reports) -> Table {
     table
 }
 
-/// Reports that pass 14 in view v, with views below v and plans below `plans`, so that all clauses occur.
+/// Reports that pass 14, 21 and 22 in view v, with views below v and plans below `plans`, so that all clauses occur.
 pub fn random(rng: &mut Rng, n: usize, v: u32, plans: u64) -> Reports {
     let silent = rng.below(4);
     let locks = rng.below(4);

@@ -11,7 +11,7 @@ mod sys {
 /// A refusal's number as itself; 256 and the byte count for an accepted call.
 fn answer(code: u32) -> Result<usize, u8> {
     match code {
-        1..=19 => Err(code as u8),
+        1..=19 | 21 | 22 => Err(code as u8),
         256..=512 => Ok(code as usize - 256),
         _ => panic!("no such answer: {code}"),
     }

@@ -93,7 +93,7 @@ fn every_byte_is_as_document_01_says() {
     let all = reached(7, 60);
     let mut rng = Rng(11);
     let mut records: Vec<Record> = (0..POOL).map(|_| all[rng.below(all.len() as u64) as usize].clone()).collect();
-    let mut refusals = [0u32; 20];
+    let mut refusals = [0u32; 23];
     let mut steps = [0u32; 8];
     let mut accepted = 0u32;
     for _ in 0..ROUNDS {
@@ -120,7 +120,8 @@ fn every_byte_is_as_document_01_says() {
     println!("accepted {accepted}, steps {steps:?}, refusals {refusals:?}");
     assert!(accepted > ROUNDS / 20);
     assert!(steps.iter().all(|&count| count > 0), "{steps:?}");
-    assert!(refusals[1..].iter().all(|&count| count > 0), "{refusals:?}");
+    // 20 is a line's.
+    assert!((1..=22).all(|number| (refusals[number] > 0) == (number != 20)), "{refusals:?}");
 }
 
 #[test]

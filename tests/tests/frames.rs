@@ -1,10 +1,13 @@
 //! The Rattle reader, writer and entries against the reference, on seeded random, valid and damaged frames.
+use std::collections::BTreeSet;
+
 use comparison::{frame_echo, frames};
 use reference::entry::Entry;
 use reference::frame::read;
+use reference::report_faults::{faults_of, wanted_faults};
 use reference::rng::Rng;
 
-const FRAMES: u64 = 400_000;
+const FRAMES: u64 = 2_000_000;
 
 /// What frame_echo is to write for an accepted frame.
 fn echoed(frame: reference::frame::Frame) -> Vec<u8> {
@@ -17,7 +20,8 @@ fn echoed(frame: reference::frame::Frame) -> Vec<u8> {
 fn reader_and_writer_agree_with_the_reference() {
     let mut rng = Rng(20_261_115);
     let mut kinds = [0u32; 9];
-    let mut refusals = [0u32; 16];
+    let mut refusals = [0u32; 23];
+    let mut faults = BTreeSet::new();
     let mut lengths = [0u32; 61];
     for _ in 0..FRAMES {
         let n = match rng.below(8) {
@@ -39,6 +43,9 @@ fn reader_and_writer_agree_with_the_reference() {
             _ if space < 256 => 1,
             Err(number) => {
                 refusals[usize::from(number)] += 1;
+                if [14, 21, 22].contains(&number) {
+                    faults.insert((bytes[0], faults_of(&bytes)));
+                }
                 u32::from(number)
             }
             Ok(frame) => {
@@ -53,6 +60,11 @@ fn reader_and_writer_agree_with_the_reference() {
     }
     println!("accepted by kind {kinds:?}\nrefused by number {refusals:?}");
     assert!(kinds[1..].iter().all(|&count| count > 1000), "{kinds:?}");
-    assert!(refusals[9..].iter().all(|&count| count > 1000), "{refusals:?}");
+    assert!((9..=15).chain(21..=22).all(|number| refusals[number] > 1000), "{refusals:?}");
+    // Each fault of a report alone, and each pair of which the later number stands in the earlier report.
+    for kind in [7, 8] {
+        let missing: Vec<_> = wanted_faults().into_iter().filter(|wanted| !faults.contains(&(kind, wanted.clone()))).collect();
+        assert!(missing.is_empty(), "kind {kind}: {missing:?}");
+    }
     assert!(lengths.iter().all(|&count| count > 0), "{lengths:?}");
 }

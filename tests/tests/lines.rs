@@ -30,7 +30,9 @@ fn random_scripts_print_the_same() {
     println!("{coverage:?}");
     assert!(coverage.steps.iter().all(|&count| count > 0));
     // Lines can't reach 1, 3 and 12.
-    assert!((1..=20).all(|number| (coverage.refusals[number] > 0) != [1, 3, 12].contains(&number)));
+    assert!((1..=22).all(|number| (coverage.refusals[number] > 0) != [1, 3, 12].contains(&number)));
+    // Each fault of a report alone, and each pair of which the later number stands in the earlier report.
+    assert_eq!(coverage.missing(), [String::new(); 0]);
     assert!(coverage.one_set > 0 && coverage.two_sets > 0 && coverage.last_views > 0 && coverage.decisions_of_64 > 0);
     assert!([4, 7, 64].iter().all(|&n| sizes[n] > 20), "{sizes:?}");
 }
@@ -39,6 +41,27 @@ fn random_scripts_print_the_same() {
 fn the_example_prints_its_five_lines() {
     let input = Input::new("example", include_bytes!("../example.in"));
     assert_eq!(printed(&mut Command::new(PROGRAM), &input), include_bytes!("../example.out"));
+}
+
+/// Document 02, wish 1, at vault 3 of 4, which does not lead view 4: each line and what is printed for it.
+#[test]
+fn a_bad_report_is_told_by_its_part() {
+    let absent = "0".repeat(26);
+    let (highest, previous, lock) = ("01000000040000000000000005", "01000000020000000000000006", "01000000040000000000000001");
+    let bad_mark = format!("02{}", "0".repeat(24));
+    let talk = [
+        ("00040103020000000000000007".into(), "fe0b0000000000000384"),
+        (format!("080100000004{highest}{absent}{bad_mark}"), "fd0e"),
+        (format!("080100000004{absent}{previous}{lock}"), "fd15"),
+        (format!("080100000004{absent}{previous}{absent}"), "fd16"),
+        (format!("070100000004{absent}{previous}{absent}"), "fd16"),
+        (format!("070100000004{absent}{absent}{absent}"), "fd0f"),
+        (format!("080100000000{absent}{previous}{absent}"), "fd0d"),
+    ];
+    let [said, answers] =
+        [talk.clone().map(|(line, _)| line), talk.map(|(_, answer)| answer.into())].map(|lines: [String; 7]| lines.join("\n") + "\n");
+    let input = Input::new("wish 1", said.as_bytes());
+    assert_eq!(String::from_utf8_lossy(&printed(&mut Command::new(PROGRAM), &input)), answers);
 }
 
 /// "A line ends at byte 0a or at the input's end; after a final 0a there is no further line, and an empty line is an empty frame."

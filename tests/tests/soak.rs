@@ -51,10 +51,10 @@ fn another_byte_in_random_calls_is_found() {
     assert!(script[0].starts_with("call ") && script.len() < 70, "{script:?}");
 }
 
-/// The start, the votes that a quorum needs, and nothing else.
+/// The start, the view-changes and votes that a quorum needs, and nothing else.
 #[test]
 fn another_byte_in_lines_is_found() {
-    let script = finds("6", "other-byte", "difference: ");
+    let script = finds("8", "other-byte", "difference: ");
     assert!(script[0] == "lines" && script.len() < 12, "{script:?}");
 }
 

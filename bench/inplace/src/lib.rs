@@ -32,18 +32,27 @@ fn lent<'a>(rec: &'a mut [u8], out: &'a mut [u8]) -> Result<Vault<'a>, u8> {
     Ok(Vault::new(rec, out, present))
 }
 
-/// Refusal 14.
+/// Refusals 14, 21 and 22, in this order: all forms, all views, previous against highest.
 #[inline(always)]
-fn bad_reports(view: u32, [high, previous, lock]: &[Slot; 3]) -> bool {
-    let bad = |report: &Slot| match report.mark {
+fn check_reports(view: u32, reports: &[Slot; 3]) -> Result<(), u8> {
+    let bad_form = |report: &Slot| match report.mark {
         0 => report.raw_view() != 0 || report.raw_plan() != 0,
-        1 => report.view() >= view,
-        _ => true,
+        mark => mark != 1,
     };
+    if reports.iter().any(bad_form) {
+        return Err(14);
+    }
+    if reports.iter().any(|report| report.mark == 1 && report.view() >= view) {
+        return Err(21);
+    }
+    let [high, previous, _] = reports;
     let out_of_order = || {
         high.mark == 0 || previous.view() >= high.view() || previous.raw_plan() == high.raw_plan()
     };
-    bad(high) || bad(previous) || bad(lock) || previous.mark == 1 && out_of_order()
+    if previous.mark == 1 && out_of_order() {
+        return Err(22);
+    }
+    Ok(())
 }
 
 pub fn start(rec: &mut [u8], settings: [u8; 4], plan: u64, out: &mut [u8]) -> Answer {
@@ -105,15 +114,17 @@ pub fn frame(rec: &mut [u8], link: u8, bytes: &[u8], out: &mut [u8]) -> Answer {
     Ok(vault.count)
 }
 
-/// Refusals 13 to 17, or the frame is kept.
+/// Refusals 13 to 17, 21 and 22, or the frame is kept.
 #[inline(always)]
 fn keep(vault: &mut Vault, kind: u8, s: usize, at: u32, body: &Body) -> Result<(), u8> {
     if kind >= 6 && at == 0 {
         return Err(13);
     }
     let row = match body {
-        Body::Reports(reports) if bad_reports(at, reports) => return Err(14),
-        Body::Reports(_) => usize::from(kind) - 7,
+        Body::Reports(reports) => {
+            check_reports(at, reports)?;
+            usize::from(kind) - 7
+        }
         Body::Plan(_) => usize::from(kind) + PROPOSALS - 1,
         Body::Nothing => return keep_change(vault, s, at),
     };

@@ -17,7 +17,9 @@ use Rattle.record.proofs.Laws.{fitsDecoded}
 use Rattle.sound.specs.declared.Lent.the-variants.{Blank, Unsound, Sound}
 use Rattle.sound.specs.inside.Sound.{sound, lentIs}
 use Rattle.sound.proofs.Laws.{lentBlank}
+use Rattle.frame.proofs.Faults.{faultless}
 use Rattle.contents.specs.Lent.{IsSound, LentIsSaid}
+use Rattle.contents.specs.Faultless.{SoundHasNoFaults}
 use Rattle.contents.proofs.Widths.{rangedFits}
 use Rattle.contents.proofs.Ready.{readyLent, lentReady}
 
@@ -48,3 +50,9 @@ soundIsLent s bytes = (
 -- The calls' test on a lent record is what document 01 says of it.
 pub lentIsSaid : LentIsSaid
 lentIsSaid = record { blank = blankIsLent; sound = soundIsLent }
+
+-- What the test takes for a sound record has none of the faults 14, 21 and 22.
+pub soundHasNoFaults : SoundHasNoFaults
+soundHasNoFaults s bytes e =
+    let sound = soundIsLent s bytes .1 e .sound in
+    record { kept = λ k j x is. faultless x (sound .kept k j x is .content); own = sound .previous }

@@ -1,6 +1,6 @@
 -- The test of soundness on slots is soundness by contents, of slots that hold just their contents (document 01, 'It is sound when
 -- its settings pass 5 to 8, every kept frame passes 9 to 15 for its row .., no frame in its own row but the view-change is above
--- the current view, and each previous vote stands to its highest as in 14'). So what a call leaves is sound when it is lent again.
+-- the current view, and each previous vote stands to its highest as in 14', which is 22 now). So what a call leaves is sound when it is lent again.
 -- Assumes nothing.
 use Prim.Native.Nat.{ℕ, suc, _+_, _-_, _≤_, _<_}
 use mathlib.Core.Path.{_≡_, refl, sym, _∙_, ap, subst}
@@ -201,7 +201,7 @@ module _ (r : slots.Record) (z : layout.FitsBytes r) (h : sound r ≡ true) wher
       go (inl e) = subst (λ (k : ℕ). previousSound s (r .set .id) (suc k) ≡ true) (sym (eqb-true k 1 e)) (votesPass .0)
       go (inr e) = subst (λ (k : ℕ). previousSound s (r .set .id) (suc k) ≡ true) (sym (eqb-true k 2 e)) (votesPass .1)
 
-  -- 'each previous vote stands to its highest as in 14'.
+  -- 'each previous vote stands to its highest as in 14' (22 now).
   standsPass : (k : ℕ) → hasPrevious k ≡ true → (badForm (s (previousSlot (suc k))) ≡ false)
       × (badPrevious (s (frameSlot (suc k) (r .set .id))) (s (previousSlot (suc k))) ≡ false)
   unfolding previousSound stands
@@ -219,7 +219,7 @@ module _ (r : slots.Record) (z : layout.FitsBytes r) (h : sound r ≡ true) wher
     decision = formedIs (s decisionSlot) (votesPass .2);
   })
 
-  -- Each kept frame passes 9 to 15 for its row.
+  -- Each kept frame passes 9 to 15, 21 and 22 for its row.
   inRow : (k j : ℕ) (x : Frame) → There r k j x → InRow (r .set) k j x
   unfolding frameHeld
   inRow k j x t =

@@ -110,29 +110,41 @@ const NOT_BELOW_HIGHEST: u8 = 5;
 
 const HIGHEST_PLAN: u8 = 6;
 
-// What is wrong with a report of a frame for a view.
-fn form_fault(view: u32, r: Report) -> u8
-    ensures { λ w. ⌜ w ≤ 3 ⌝ }
+// What is wrong with a report's form, for 14.
+fn form_fault(r: Report) -> u8
+    ensures { λ w. ⌜ w ≤ 2 ⌝ }
 {
     if numbers::PRESENT < r.mark {
         return BAD_MARK;
     }
-    if r.mark == numbers::PRESENT {
-        if view <= r.view {
-            return VIEW_TOO_HIGH;
-        }
-        return NOTHING;
-    }
-    if r.view != 0 {
-        return NOT_ALL_ZERO;
-    }
-    if r.plan != 0 {
+    if frame::bad_form(r) {
         return NOT_ALL_ZERO;
     }
     NOTHING
 }
 
-// What is wrong with a previous vote beside the highest.
+// What is wrong with a report's view, for 21.
+fn view_fault(view: u32, r: Report) -> u8
+    ensures { λ w. ⌜ w ≤ 3 ⌝ }
+{
+    if frame::too_high(view, r) {
+        return VIEW_TOO_HIGH;
+    }
+    NOTHING
+}
+
+// What a refusal's number finds wrong with one report of a frame for a view.
+fn report_alone(number: u8, view: u32, r: Report) -> u8
+    ensures { λ w. ⌜ w ≤ 3 ⌝ }
+{
+    match number {
+        numbers::REFUSED_REPORT => form_fault(r),
+        numbers::REFUSED_REPORT_VIEW => view_fault(view, r),
+        _ => NOTHING,
+    }
+}
+
+// What is wrong with a previous vote beside the highest, for 22.
 fn previous_fault(highest: Report, previous: Report) -> u8
     ensures { λ w. ⌜ w ≤ 6 ⌝ }
 {
@@ -170,7 +182,8 @@ fn report_fault(name: &[u8], vote: u8, why: u8) {
     say_wrong(why);
 }
 
-fn reports_fault(kind: u8, view: u32, r: Reports) {
+// The reports that 14 and 21 are given for: each that has the fault.
+fn reports_fault(number: u8, kind: u8, view: u32, r: Reports) {
     let highest = r.highest;
     let previous = r.previous;
     let lock = r.lock;
@@ -178,33 +191,36 @@ fn reports_fault(kind: u8, view: u32, r: Reports) {
     report_fault(
         b"        at fault: highest vote-",
         vote,
-        form_fault(view, highest),
+        report_alone(number, view, highest),
     );
     report_fault(
         b"        at fault: previous vote-",
         vote,
-        form_fault(view, previous),
-    );
-    report_fault(
-        b"        at fault: previous vote-",
-        vote,
-        previous_fault(highest, previous),
+        report_alone(number, view, previous),
     );
     report_fault(
         b"        at fault: highest vote-",
         lock_of(kind),
-        form_fault(view, lock),
+        report_alone(number, view, lock),
     );
 }
 
 // ---- frames at fault
 
-fn body_fault(f: Frame) {
+fn body_fault(number: u8, f: Frame) {
     let body = f.body;
     let Body::Told(r) = body else {
         return;
     };
-    reports_fault(f.kind, f.view, r);
+    if number == numbers::REFUSED_PREVIOUS {
+        report_fault(
+            b"        at fault: previous vote-",
+            vote_of(f.kind),
+            previous_fault(r.highest, r.previous),
+        );
+        return;
+    }
+    reports_fault(number, f.kind, f.view, r);
 }
 
 // A frame that was refused for what came before it: what it says of itself.
@@ -238,7 +254,8 @@ fn frame_fault(number: u8, s: &[u8]) {
             b"the view, bytes 2 to 5: ",
             f.view as u64,
         ),
-        numbers::REFUSED_REPORT => body_fault(f),
+        numbers::REFUSED_REPORT | numbers::REFUSED_REPORT_VIEW | numbers::REFUSED_PREVIOUS =>
+            body_fault(number, f),
         numbers::REFUSED_LEADER => sender_and_view(f),
         numbers::REFUSED_KEPT => say_repeat(f),
         _ => (),
@@ -252,7 +269,9 @@ fn bytes_fault(number: u8, s: &[u8]) {
         numbers::REFUSED_N..=numbers::REFUSED_CLASS => start_fault(number, s),
         numbers::REFUSED_KIND => kind_fault(s),
         numbers::REFUSED_LENGTH => length_fault(s),
-        numbers::REFUSED_LINK..=numbers::REFUSED_KEPT => frame_fault(number, s),
+        numbers::REFUSED_LINK..=numbers::REFUSED_KEPT
+        | numbers::REFUSED_REPORT_VIEW
+        | numbers::REFUSED_PREVIOUS => frame_fault(number, s),
         numbers::REFUSED_TIMER | numbers::REFUSED_LAST_VIEW => timer_fault(s),
         _ => (),
     }

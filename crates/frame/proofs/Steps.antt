@@ -29,7 +29,7 @@ module _ (s : List ℕ) (link n own : ℕ) where
       (firstSome (formRows s) (linkRows (getD s 1 0) link n own ++ (contentRows (decode s) ++ leaderRows (decode s) n own)) (λ y. z (e ∙ y)) ∙ sym e)
 
   module _ (form : first (formRows s) ≡ 0) where
-    -- where rows 9 and 10 give nothing, rows 11 to 15 decide
+    -- where rows 9 and 10 give nothing, rows 11 to 15, 21 and 22 decide
     afterForm : refusal s link n own ≡ first (linkRows (getD s 1 0) link n own ++ (contentRows (decode s) ++ leaderRows (decode s) n own))
     unfolding refusal
     afterForm = firstNone (formRows s) (linkRows (getD s 1 0) link n own ++ (contentRows (decode s) ++ leaderRows (decode s) n own)) (omega arith) form
@@ -41,12 +41,12 @@ module _ (s : List ℕ) (link n own : ℕ) where
         (afterForm ∙ (firstSome (linkRows (getD s 1 0) link n own) (contentRows (decode s) ++ leaderRows (decode s) n own) (λ y. z (e ∙ y)) ∙ sym e))
 
     module _ (linked : first (linkRows (getD s 1 0) link n own) ≡ 0) (f : Frame) (said : f ≡ decode s) where
-      -- where rows 9 to 12 give nothing, rows 13 to 15 decide, on the frame that the bytes say
+      -- where rows 9 to 12 give nothing, rows 13 to 15, 21 and 22 decide, on the frame that the bytes say
       afterLink : refusal s link n own ≡ first (contentRows f ++ leaderRows f n own)
       afterLink =
           rw said (afterForm ∙ firstNone (linkRows (getD s 1 0) link n own) (contentRows (decode s) ++ leaderRows (decode s) n own) (omega arith) linked)
 
-      -- a number given by rows 13 to 15 is the reader's answer
+      -- a number given by rows 13 to 15, 21 and 22 is the reader's answer
       pub byTheFrame : (k : ℕ) → (k ≡ 0 → ⊥) → k ≡ first (contentRows f ++ leaderRows f n own) → Refused k ≡ readFrame s link n own
       byTheFrame k z e = refused k z (afterLink ∙ sym e)
 

@@ -37,7 +37,7 @@ accepted : (b : Bool) (k : ℕ) (g f : Frame) → eqb k 0 ≡ b → cond b (Acce
 accepted true k g f t h = (eqb-true k 0 t, cc)
 accepted false k g f t h = let z : _≡_ {A = ℕ} 0 1 = cc in absurd (omega arith)
 
--- An accepted reading is of the frame that the bytes say, and no row of 9 to 15 is given.
+-- An accepted reading is of the frame that the bytes say, and no row of 9 to 15, 21 and 22 is given.
 pub passed : (s : List ℕ) (link n own : ℕ) (f : Frame) → readFrame s link n own ≡ Accepted f → Passed s link n own f
 unfolding readFrame refusal
 passed s link n own f e =

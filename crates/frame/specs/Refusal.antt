@@ -1,4 +1,5 @@
--- Refusals 9 to 15 of document 01 ('Checked downwards'), in the four groups that callers use apart, and what reading a frame answers.
+-- Refusals 9 to 15 of document 01 ('Checked downwards'), with 21 and 22 of document 02, wish 1, between 14 and 15, in the four groups that
+-- callers use apart, and what reading a frame answers.
 -- Assumes nothing.
 use Prim.Native.Nat.{ℕ, _%_}
 use mathlib.Core.Bool.{Bool, false, not, _&&_, _||_, cond}
@@ -82,15 +83,23 @@ linkRows sender link n own =
     ∷ row 12 (not (eqb sender link))
     ∷ []
 
--- 'bad report', in three rows: the form of every report, the view of every report, previous against highest
-abbrev pub reportRows : ℕ → List Report → List Row
-reportRows view rs =
-    row 14 (any badForm rs)
-    ∷ row 14 (any (tooHigh view) rs)
-    ∷ row 14 (badPreviousOf rs)
-    ∷ []
+-- 02, wish 1: 'Keep 14 for a bad mark or a nonzero byte in an absent report'
+abbrev pub reportFormRow : List Report → Row
+reportFormRow rs = row 14 (any badForm rs)
 
--- 'view 0 in kind 6, 7 or 8'; 'bad report'
+-- 'a report whose view is not below the frame's by one number' (21)
+abbrev pub reportViewRow : ℕ → List Report → Row
+reportViewRow view rs = row 21 (any (tooHigh view) rs)
+
+-- 'a previous vote at odds with its highest by another' (22)
+abbrev pub previousRow : List Report → Row
+previousRow rs = row 22 (badPreviousOf rs)
+
+-- 'All three reports are tested for the first fault, then all for the second, then all for the third.'
+abbrev pub reportRows : ℕ → List Report → List Row
+reportRows view rs = reportFormRow rs ∷ reportViewRow view rs ∷ previousRow rs ∷ []
+
+-- 'view 0 in kind 6, 7 or 8'; the reports
 abbrev pub contentRows : Frame → List Row
 contentRows f = row 13 (viewMissing (f .kind) (f .view)) ∷ reportRows (f .view) (reportsOf (f .body))
 
@@ -98,7 +107,7 @@ contentRows f = row 13 (viewMissing (f .kind) (f .view)) ∷ reportRows (f .view
 abbrev pub leaderRows : Frame → ℕ → ℕ → List Row
 leaderRows f n own = row 15 (misled (f .kind) (f .sender) (f .view) n own) ∷ []
 
--- The place 'frame bytes', whole: rows 9 to 15, for bytes that came over a link to vault own of n.
+-- The place 'frame bytes', whole: rows 9 to 14, 21, 22 and 15, for bytes that came over a link to vault own of n.
 unfoldable pub refusal : List ℕ → ℕ → ℕ → ℕ → ℕ
 refusal s link n own =
     first (formRows s ++ (linkRows (getD s 1 0) link n own ++ (contentRows (decode s) ++ leaderRows (decode s) n own)))

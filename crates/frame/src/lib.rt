@@ -1,4 +1,4 @@
-// Frames by value, and the tests of refusals 9 to 15 in the four groups that callers use apart.
+// Frames by value, and the tests of refusals 9 to 15, 21 and 22 in the four groups that callers use apart.
 ghost use mathlib.Core.Path.{_≡_};
 ghost use mathlib.Core.Bool.{false, _||_};
 ghost use mathlib.Core.List.{_++_};
@@ -119,7 +119,7 @@ pub fn link_refusal(sender: u8, link: u8, n: u8, own: u8) -> u8
     0
 }
 
-// Refusal 14 of a report's form: a mark that is neither 0 nor 1, or an absent report with a byte that is not 0.
+// A report's form is bad: a mark that is neither 0 nor 1, or an absent report with a byte that is not 0.
 pub fn bad_form(r: Report) -> bool
     ensures { λ b. ⌜ b ≡ badForm r ⌝ }
 {
@@ -135,7 +135,8 @@ pub fn bad_form(r: Report) -> bool
     r.plan != 0
 }
 
-fn too_high(view: u32, r: Report) -> bool
+// A report that is present has a view at or above the frame's.
+pub fn too_high(view: u32, r: Report) -> bool
     ensures { λ b. ⌜ b ≡ tooHigh view r ⌝ }
 {
     if r.mark != numbers::PRESENT {
@@ -144,7 +145,7 @@ fn too_high(view: u32, r: Report) -> bool
     view <= r.view
 }
 
-// Refusal 14 of a previous vote against its highest.
+// Refusal 22: a previous vote without highest, not below it, or for its plan.
 pub fn bad_previous(highest: Report, previous: Report) -> bool
     ensures { λ b. ⌜ b ≡ badPrevious highest previous ⌝ }
 {
@@ -172,7 +173,8 @@ fn any_of(a: bool, b: bool, c: bool) -> bool
     c
 }
 
-fn any_bad_form(r: Reports) -> bool
+// Refusal 14, of any of the three reports.
+pub fn any_bad_form(r: Reports) -> bool
     ensures { λ b. ⌜ b ≡ any badForm (threeReports r) ⌝ }
 {
     let highest = r.highest;
@@ -181,7 +183,8 @@ fn any_bad_form(r: Reports) -> bool
     any_of(bad_form(highest), bad_form(previous), bad_form(lock))
 }
 
-fn any_too_high(view: u32, r: Reports) -> bool
+// Refusal 21, of any of the three reports.
+pub fn any_too_high(view: u32, r: Reports) -> bool
     ensures { λ b. ⌜ b ≡ any (tooHigh view) (threeReports r) ⌝ }
 {
     let highest = r.highest;
@@ -194,20 +197,21 @@ fn any_too_high(view: u32, r: Reports) -> bool
     )
 }
 
-// Refusal 14 of three reports: all are tested for their form, then all for their view, then previous against highest.
+// Refusals 14, 21 and 22 of three reports: all are tested for their form, then all for their view, then previous against highest.
 fn reports_refusal(view: u32, r: Reports) -> u8
     ensures { λ b. ⌜ b ≡ first (reportRows view (threeReports r)) ⌝ }
 {
-    if any_bad_form(r) {
+    let form = any_bad_form(r);
+    let high = any_too_high(view, r);
+    let at_odds = bad_previous(r.highest, r.previous);
+    if form {
         return numbers::REFUSED_REPORT;
     }
-    if any_too_high(view, r) {
-        return numbers::REFUSED_REPORT;
+    if high {
+        return numbers::REFUSED_REPORT_VIEW;
     }
-    let highest = r.highest;
-    let previous = r.previous;
-    if bad_previous(highest, previous) {
-        return numbers::REFUSED_REPORT;
+    if at_odds {
+        return numbers::REFUSED_PREVIOUS;
     }
     0
 }
@@ -221,7 +225,7 @@ fn view_missing(kind: u8, view: u32) -> bool
     }
 }
 
-// Refusals 13 and 14, of a frame alone; 0 where neither is given.
+// Refusals 13, 14, 21 and 22, of a frame alone; 0 where none is given.
 pub fn content_refusal(f: Frame) -> u8
     ensures { λ r. ⌜ r ≡ first (contentRows f) ⌝ }
 {
@@ -258,7 +262,7 @@ pub fn leader_refusal(f: Frame, n: u8, own: u8) -> u8
     0
 }
 
-// Refusals 13 to 15, of a frame at vault own of n; 0 where none is given.
+// Refusals 13, 14, 21, 22 and 15, of a frame at vault own of n; 0 where none is given.
 pub fn frame_refusal(f: Frame, n: u8, own: u8) -> u8
     requires { ⌜ 0 < n ⌝ }
     ensures { λ r. ⌜ r ≡ first (contentRows f ++ leaderRows f n own) ⌝ }

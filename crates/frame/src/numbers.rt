@@ -20,7 +20,7 @@ pub const PROOF: u8 = 8;
 // The mark of a report that is present.
 pub const PRESENT: u8 = 1;
 
-// The refusals: of every call, then of start, of a frame, of the timer and of a line.
+// The refusals: of every call, then of start, of a frame, of the timer and of a line; then of a frame's reports, tested between 14 and 15.
 pub const REFUSED_OUTPUT: u8 = 1;
 
 pub const REFUSED_BLANK: u8 = 2;
@@ -60,6 +60,10 @@ pub const REFUSED_TIMER: u8 = 18;
 pub const REFUSED_LAST_VIEW: u8 = 19;
 
 pub const REFUSED_LINE: u8 = 20;
+
+pub const REFUSED_REPORT_VIEW: u8 = 21;
+
+pub const REFUSED_PREVIOUS: u8 = 22;
 
 // Recipients of an entry that are no vault's number: the host, and all vaults.
 pub const TO_HOST: u8 = 254;

@@ -1,5 +1,5 @@
 -- Each frame that an accepted call writes is accepted, as itself, by every vault that it is for (document 01, 'Refusals, place by
--- place', 9 to 15). Each act is looked at once: what it writes has bytes, is the vault's own, passes 13 and 14 (`Sendable`), and
+-- place', 9 to 15, and 21 and 22). Each act is looked at once: what it writes has bytes, is the vault's own, passes 13, 14, 21 and 22 (`Sendable`), and
 -- passes 15 at whom it is for, since a proposal is from its view's leader and a suggest goes only to its view's leader. The link is
 -- the own number, which is below n and not the reader's, so 11 and 12 pass too.
 -- Assumes nothing.
@@ -42,7 +42,7 @@ use Rattle.protocol.proofs.Proper.{freshWhole, heardWhole}
 
 -- ---- what is written
 
--- A frame of vault i of n that has bytes and passes 13 to 15 at vault j.
+-- A frame of vault i of n that has bytes and passes 13 to 15, 21 and 22 at vault j.
 pub record Goes (n i j : ℕ) (x : Frame) : Type 0 where
   pub below : i < n
   pub sender : x .sender ≡ i
@@ -77,7 +77,7 @@ module _ (n i : ℕ) where
   pub goesFor : (es : List Entry) → AllRight n i es → (j : ℕ) (x : Frame) → IsFor j x es → Goes n i j x
   goesFor es all j x for = ⊎-elim (λ at. rightAt es all (ForAll x) at j) (rightAt es all (ForOne j x)) for
 
--- ---- rows 11 to 15
+-- ---- rows 11 to 15, 21 and 22
 
 -- Row 15, where a proposal is from its view's leader and a suggest is for it.
 ledRight : (x : Frame) (n j : ℕ) → (x .kind ≡ 1 → leaderOf (x .view) n ≡ x .sender) → (x .kind ≡ 7 → leaderOf (x .view) n ≡ j)

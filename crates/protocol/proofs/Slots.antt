@@ -1,4 +1,4 @@
--- Frames that a vault sends pass rows 13 to 15 and have bytes, and what it reads off kept frames has their widths.
+-- Frames that a vault sends pass rows 13 to 15, 21 and 22 and have bytes, and what it reads off kept frames has their widths.
 -- Each is the table's row computed on the frame: a vote, a view-change, or a report of three votes below the frame's view.
 -- Assumes nothing.
 use Prim.Native.Nat.{ℕ, suc, _^_, _<_}
@@ -26,7 +26,7 @@ use Rattle.protocol.specs.Record.{reported, spelt, voteBy, reportBy, kin
 use Rattle.protocol.specs.Pass.{shift}
 use Rattle.protocol.specs.inside.Sound.{FitsVote}
 
--- ---- row 14 of spelt votes
+-- ---- rows 14, 21 and 22 of spelt votes
 
 -- The vote, if any, is below view w.
 abbrev pub Under : ℕ → Option Vote → Type 0
@@ -44,7 +44,7 @@ unfolding tooHigh
 underSpelt w none low = refl
 underSpelt w (some x) low = lt-leb w (x .view) (low x refl)
 
--- Row 14 passes three spelt votes below the frame's view, of which the previous one stands to the highest.
+-- Rows 14, 21 and 22 pass three spelt votes below the frame's view, of which the previous one stands to the highest.
 pub reportsPass : (w : ℕ) (h p l : Option Vote) → Under w h → Under w p → Under w l → badPrevious (spelt h) (spelt p) ≡ false
     → first (reportRows w (spelt h ∷ spelt p ∷ spelt l ∷ [])) ≡ 0
 reportsPass w h p l uh up ul stands = rw (formSpelt h, formSpelt p, formSpelt l, underSpelt w h uh, underSpelt w p up, underSpelt w l ul, stands)
@@ -53,7 +53,7 @@ reportsPass w h p l uh up ul stands = rw (formSpelt h, formSpelt p, formSpelt l,
 abbrev pub Stands : Option Vote → Option Vote → Type 0
 Stands top old = (x : Vote) → old ≡ some x → (y : Vote) × (top ≡ some y) × (x .view < y .view) × (y .plan ≢ x .plan)
 
--- What row 14 says of a previous vote that passes.
+-- What row 22 says of a previous vote that passes.
 pub standsOf : (top old : Option Vote) → badPrevious (spelt top) (spelt old) ≡ false → Stands top old
 unfolding badPrevious
 standsOf none none e x is = absurd (none≢some is)
@@ -102,7 +102,7 @@ shiftStands v p (some z) old low s x is = go (which (eqb (z .plan) p))
 
 -- ---- the frames sent
 
--- What a frame of sender i passes, at vault i of n: rows 13 to 15, and it has bytes.
+-- What a frame of sender i passes, at vault i of n: rows 13 to 15, 21 and 22, and it has bytes.
 pub record Sendable (n i : ℕ) (x : Frame) : Type 0 where
   pub valid : Valid x
   pub content : first (contentRows x) ≡ 0

@@ -99,7 +99,7 @@ module _ {r : Record} (w : Whole r) where
       go (inl same) le = let sent : sentNow r k ≡ true = rw (e, same) in absurd (clash sent new)
       go (inr other) le = let ne : x .view ≢ r .view = eqb-false (x .view) (r .view) other in omega arith
 
-  -- The previous vote stands to the highest one, as row 14 asks.
+  -- The previous vote stands to the highest one, as row 22 asks.
   previousStands : (k : ℕ) → hasPrevious k ≡ true → Stands (voteOf r k (r .set .id)) (r .previous k)
   previousStands k has = standsOf (voteOf r k (r .set .id)) (r .previous k) (w .sound .previous k has)
 

@@ -1,5 +1,5 @@
 -- Start, frame and timer, by contents (document 01, 'One pass' and 'Refusals, place by place').
--- Rows 9 to 15 are in frame's table, and 1 and 3 are tests on bytes; the rest is here.
+-- Rows 9 to 15, 21 and 22 are in frame's table, and 1 and 3 are tests on bytes; the rest is here.
 -- Assumes nothing.
 use Prim.Native.Nat.{ℕ, zero, suc}
 use mathlib.Core.Bool.{Bool, cond, not}

@@ -10,7 +10,7 @@ use Rattle.frame.specs.declared.Reading.the-variants.{Accepted, Refused}
 use Rattle.protocol.specs.Record.{Record}
 use Rattle.protocol.specs.Calls.{Call, start, frame, timer, short}
 
--- What the frame reader of vault i of n accepts: a frame that has bytes, to which no row from 11 to 15 applies.
+-- What the frame reader of vault i of n accepts: a frame that has bytes, to which no row from 11 to 15, 21 and 22 applies.
 pub record Readable (n i : ℕ) (x : Frame) : Type 0 where
   pub valid : Valid x
   pub link : first (linkRows (x .sender) (x .sender) n i) ≡ 0

@@ -1,5 +1,5 @@
 -- Each frame that an accepted call writes is accepted, as itself, by every vault that it is for (document 01, 'Refusals, place by
--- place', 9 to 15).
+-- place', 9 to 15, and 21 and 22).
 -- Assumes nothing.
 use Prim.Native.Nat.{ℕ, _<_}
 use mathlib.Core.Path.{_≡_}

@@ -13,7 +13,8 @@ use Rattle.settings.specs.declared.Settings.{Settings}
 use Rattle.protocol.specs.Pass.{hasPrevious}
 use Rattle.settings.specs.Settings.{settingRows}
 
--- 'every kept frame passes 9 to 15 for its row (its own row excused from the own-number half of 11)': x, of kind k, in row j.
+-- 'every kept frame passes 9 to 15 for its row (its own row excused from the own-number half of 11)', and 21 and 22 ('A sound record passes
+-- these as well', 02, wish 1): x, of kind k, in row j.
 pub record InRow (s : Settings) (k j : ℕ) (x : Frame) : Type 0 where
   pub row : j < s .n
   pub kind : x .kind ≡ k
@@ -23,7 +24,7 @@ pub record InRow (s : Settings) (k j : ℕ) (x : Frame) : Type 0 where
   pub leader : first (leaderRows x (s .n) (s .id)) ≡ 0
 
 -- 'It is sound when its settings pass 5 to 8, every kept frame passes 9 to 15 for its row .., no frame in its own row but the
--- view-change is above the current view, and each previous vote stands to its highest as in 14.'
+-- view-change is above the current view, and each previous vote stands to its highest as in 14' (22 now).
 pub record Sound (r : Record) : Type 0 where
   pub settings : first (settingRows (r .set)) ≡ 0
   pub kept : (k j : ℕ) (x : Frame) → r .kept k j ≡ some x → InRow (r .set) k j x

@@ -44,7 +44,7 @@ beyond (x ∷ l) zero h = absurd (omega arith)
 beyond (x ∷ l) (suc number) h = beyond l number (omega arith)
 
 -- Nor has 0 one.
-pub noNumber : (number : ℕ) → (0 < number → 20 < number) → sentenceOf number ≡ []
+pub noNumber : (number : ℕ) → (0 < number → 22 < number) → sentenceOf number ≡ []
 unfolding sentenceOf textBytes
 noNumber zero h = refl
 noNumber (suc k) h = ap textBytes (beyond sentences (suc k) (h (omega arith)))
@@ -59,9 +59,13 @@ beyondFour number k h r =
     let d = r .1 in
     omega arith
 
--- No number is above 8 and below 9.
-pub noneBetween : (number : ℕ) → 8 < number → number < 9 → ⊥
-noneBetween number a b = omega arith
+-- A number that is not the next one either is beyond that.
+pub beyondOne : (number k : ℕ) {A : Type 0} → k < number → A × (number ≡ k + 1 → ⊥) → k + 1 < number
+beyondOne number k h r = let a = r .1 in omega arith
+
+-- No number is above k and below k + 1: the arms before it have taken all that a function is asked for.
+pub noneBetween : (number k : ℕ) → k < number → number < k + 1 → ⊥
+noneBetween number k a b = omega arith
 
 -- A number that is no refusal's.
 pub noneSaid : (number : ℕ) (out : List ℕ) → sentenceOf number ≡ [] → Written (fitting (sentenceOf number) (length out)) out out 0

@@ -1,4 +1,4 @@
--- A sentence for each refusal of document 01's table, in ASCII, and what asking for one leaves.
+-- A sentence for each refusal of document 01's table and of document 02, wish 1, in ASCII, and what asking for one leaves.
 -- Assumes nothing.
 use Prim.Native.Nat.{ℕ, _≤_}
 use Prim.Native.Char.{code}
@@ -28,13 +28,15 @@ sentences =
     ∷ "the sender is no vault of this practice, or this vault itself"
     ∷ "the frame names another sender than the link it came by"
     ∷ "a view-change, suggest or proof for view 0"
-    ∷ "a report in the frame contradicts itself"
+    ∷ "a report's mark is neither 0 nor 1, or it is absent and not all of it is 0"
     ∷ "a proposal from a vault that does not lead the view, or a suggest that is not for this vault"
     ∷ "the frame's view is over"
     ∷ "the same frame, or a newer one of this kind, came from this sender already"
     ∷ "a timer of another view than the current one"
     ∷ "the last view of all is reached"
     ∷ "the line has no even count of lower-case digits, or more than 90"
+    ∷ "a report's view is not below the frame's"
+    ∷ "a previous vote without a highest one, not below it, or for the same plan"
     ∷ []
 
 -- The bytes of a text: a letter of ASCII is one byte.

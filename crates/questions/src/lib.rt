@@ -114,9 +114,9 @@ fn call_text(number: u32, out: &mut [u8]) -> usize
     }
 }
 
-// The sentences of a frame, a timer and a line.
+// The sentences of a frame, from 9 to 17.
 fn frame_text(number: u32, out: &mut [u8]) -> usize
-    requires { ⌜ 8 < number ⌝ }
+    requires { ⌜ (8 < number) × (number < 18) ⌝ }
     ensures { λ r. ⌜ Written (fitting (sentenceOf number) (length (now (out .entry)))) (now (out .entry)) (now (out .exit)) r ⌝ }
 {
     match number {
@@ -131,7 +131,10 @@ fn frame_text(number: u32, out: &mut [u8]) -> usize
             b"the frame names another sender than the link it came by",
         ),
         13 => put(out, b"a view-change, suggest or proof for view 0"),
-        14 => put(out, b"a report in the frame contradicts itself"),
+        14 => put(
+            out,
+            b"a report's mark is neither 0 nor 1, or it is absent and not all of it is 0",
+        ),
         15 => put(
             out,
             b"a proposal from a vault that does not lead the view, or a suggest that is not for this vault",
@@ -141,11 +144,26 @@ fn frame_text(number: u32, out: &mut [u8]) -> usize
             out,
             b"the same frame, or a newer one of this kind, came from this sender already",
         ),
+        _ => 0,
+    }
+}
+
+// The sentences of a timer and of a line, then those of a frame's reports.
+fn further_text(number: u32, out: &mut [u8]) -> usize
+    requires { ⌜ 17 < number ⌝ }
+    ensures { λ r. ⌜ Written (fitting (sentenceOf number) (length (now (out .entry)))) (now (out .entry)) (now (out .exit)) r ⌝ }
+{
+    match number {
         18 => put(out, b"a timer of another view than the current one"),
         19 => put(out, b"the last view of all is reached"),
         20 => put(
             out,
             b"the line has no even count of lower-case digits, or more than 90",
+        ),
+        21 => put(out, b"a report's view is not below the frame's"),
+        22 => put(
+            out,
+            b"a previous vote without a highest one, not below it, or for the same plan",
         ),
         _ => 0,
     }
@@ -158,5 +176,8 @@ pub fn refusal_text(number: u32, out: &mut [u8]) -> usize
     if number < 9 {
         return call_text(number, out);
     }
-    frame_text(number, out)
+    if number < 18 {
+        return frame_text(number, out);
+    }
+    further_text(number, out)
 }

@@ -1,5 +1,5 @@
--- Demand 3 of the exports. Their contracts say `numbered` of what the call leaves, and a number tells what that is: refusals are 1 to 19
--- and counts stand above 256. So a run by the exports is a run by what the paper fixes, and back.
+-- Demand 3 of the exports. Their contracts say `numbered` of what the call leaves, and a number tells what that is: refusals are 1 to 19,
+-- 21 and 22, and counts stand above 256. So a run by the exports is a run by what the paper fixes, and back.
 -- Assumes nothing.
 use Prim.Native.Nat.{ℕ, _+_, _-_}
 use mathlib.Core.Path.{_≡_, sym, ap, subst, _∙_}
@@ -9,6 +9,7 @@ use native.Mathlib.Omega.{arith}
 use lib.Dec.{ltb}
 use borrow.Author.Tests.{lt-ltb, le-ltb}
 use Rattle.vault_c.specs.Numbers.{Seen, seen, numbered}
+use Rattle.vault_c.proofs.Refusals.{refusalLow}
 use Rattle.vault_c.proofs.Small.{Small, smallStart, smallFrame, smallTimer}
 use Rattle.contents.specs.Left.{Left, wrote, gave}
 use Rattle.runs.specs.Runs.{ByteCall, start, frame, timer}
@@ -33,7 +34,7 @@ smallNumber : (left : Left) → Small left → InTable left
 smallNumber (wrote count rec out) small = tt
 smallNumber (gave number rec out) small = small
 
--- 'Each gives its number': each refusal has one from 1 to 19.
+-- 'Each gives its number': each refusal has one of the table.
 pub refusalNumbers : RefusalNumbers
 refusalNumbers rec a out = smallNumber (leaves rec a out) (smallLeft rec a out)
 
@@ -45,7 +46,7 @@ tellsLeft (wrote count rec out) small =
     let less : 256 + count - 256 ≡ count = omega arith in
     ap (λ (b : Bool). cond b (gave (256 + count) rec out) (wrote (256 + count - 256) rec out)) high ∙ ap (λ (k : ℕ). wrote k rec out) less
 tellsLeft (gave number rec out) small =
-    let low : ltb number 256 ≡ true = lt-ltb number 256 (omega arith) in
+    let low : ltb number 256 ≡ true = lt-ltb number 256 (refusalLow number small) in
     ap (λ (b : Bool). cond b (gave number rec out) (wrote (number - 256) rec out)) low
 
 -- A host can tell from its number what the call left.

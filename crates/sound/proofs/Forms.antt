@@ -88,9 +88,9 @@ bareRows set view head k below =
 
 -- ---- reports
 
--- the three rows of 14 give nothing just where each report fits and previous stands to highest
+-- the rows 14, 21 and 22 give nothing just where each report fits and previous stands to highest
 table : (a b c x y z w : Bool)
-    → eqb (cond (a || (b || (c || false))) 14 (cond (x || (y || (z || false))) 14 (cond w 14 0))) 0
+    → eqb (cond (a || (b || (c || false))) 14 (cond (x || (y || (z || false))) 21 (cond w 22 0))) 0
     ≡ ((not a && not x) && ((not b && not y) && ((not c && not z) && not w)))
 table true b c x y z w = refl
 table false true c true y z w = refl
@@ -114,16 +114,16 @@ module _ (view : ℕ) (t : Reports) where
       table (badForm (t .highest)) (badForm (t .previous)) (badForm (t .lock))
       (tooHigh view (t .highest)) (tooHigh view (t .previous)) (tooHigh view (t .lock)) (badPrevious (t .highest) (t .previous))
 
-  -- the highest does not fit: 14 is given
+  -- the highest does not fit: 14 or 21 is given
   pub fitsHighest : reportFits view (t .highest) ≡ false → eqb (first (reportRows view (threeReports t))) 0 ≡ false
   fitsHighest a = reportsTable ∙ rw a
 
-  -- the previous does not fit: 14 is given
+  -- the previous does not fit: 14 or 21 is given
   pub fitsPrevious : reportFits view (t .highest) ≡ true → reportFits view (t .previous) ≡ false
       → eqb (first (reportRows view (threeReports t))) 0 ≡ false
   fitsPrevious a b = reportsTable ∙ rw (a, b)
 
-  -- the lock does not fit: 14 is given
+  -- the lock does not fit: 14 or 21 is given
   pub fitsLock : reportFits view (t .highest) ≡ true → reportFits view (t .previous) ≡ true → reportFits view (t .lock) ≡ false
       → eqb (first (reportRows view (threeReports t))) 0 ≡ false
   fitsLock a b c = reportsTable ∙ rw (a, b, c)

@@ -170,7 +170,7 @@ fn report_fits(rec: &[u8], at: usize, view: u32) -> bool
     record::view_at(rec, at) < view
 }
 
-// The reports kept for a kind and a sender pass 14 for a view.
+// The reports kept for a kind and a sender pass 14, 21 and 22 for a view.
 fn reports_fit(rec: &[u8], kind: u8, sender: u8, view: u32) -> bool
     requires { ⌜ (7 ≤ kind) × RowPlace kind sender × (length (now rec) ≡ recordSize) ⌝ }
     ensures { λ b. ⌜ b ≡ eqb (first (reportRows view (threeReports (reportsIn (slotOf (decodeRecord (now (rec .entry)))) kind sender)))) 0 ⌝ }

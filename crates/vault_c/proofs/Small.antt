@@ -1,4 +1,4 @@
--- No call counts more than 205 bytes, so a host's number is below 512; and a refusal's number is 1 to 19, so the number tells which it is. An
+-- No call counts more than 205 bytes, so a host's number is below 512; and a refusal's number is 1 to 19, 21 or 22, so the number tells which it is. An
 -- accepted call's entries are that short by contents (`outputShort`), and what a call leaves on lent bytes is a refusal or such an answer.
 -- Assumes nothing.
 use Prim.Native.Nat.{ℕ, _≤_}
@@ -14,6 +14,7 @@ use Rattle.record.specs.Layout.{decodeRecord}
 use Rattle.sound.specs.declared.Lent.{Lent}
 use Rattle.sound.specs.declared.Lent.the-variants.{Blank, Unsound, Sound}
 use Rattle.sound.specs.inside.Sound.{lentIs}
+use Rattle.frame.specs.Format.{within}
 use Rattle.frame.specs.Refusal.{readFrame}
 use Rattle.protocol.specs.Record.{Record}
 use Rattle.protocol.specs.Calls.{Call, start, frame, timer, Answer, refused, accepted, answer}
@@ -50,30 +51,30 @@ module _ (rec out : List ℕ) (a : Call) (brings : Brings a) where
 
   -- And whatever the output space is.
   smallCalled : (k : ℕ) → Refusal k → Small (called k rec out a)
-  unfolding called
+  unfolding called within
   smallCalled k named = go (ltb (length out) 256)
     where
       go : (b : Bool) → Small (cond b (gave 1 rec out) (leftAfter rec out (onLent (lentIs rec) k (contents (decodeRecord rec)) a)))
-      go true = omega arith
+      go true = refl
       go false = smallLent (lentIs rec) k (contents (decodeRecord rec)) named
 
 -- So does start.
 pub smallStart : (rec : List ℕ) (set : Settings) (plan : ℕ) (out : List ℕ) → Small (startLeft rec set plan out)
-unfolding startLeft
-smallStart rec set plan out = smallCalled rec out (start set plan) tt 4 (omega arith)
+unfolding startLeft within
+smallStart rec set plan out = smallCalled rec out (start set plan) tt 4 refl
 
 -- So does frame.
 pub smallFrame : (rec : List ℕ) (link : ℕ) (bytes out : List ℕ) → Small (frameLeft rec link bytes out)
-unfolding frameLeft
+unfolding frameLeft within
 smallFrame rec link bytes out =
     let n = decodeRecord rec .set .n in
     let id = decodeRecord rec .set .id in
-    smallCalled rec out (frame (readFrame bytes link n id)) (readNamed bytes link n id) 3 (omega arith)
+    smallCalled rec out (frame (readFrame bytes link n id)) (readNamed bytes link n id) 3 refl
 
 -- So does timer.
 pub smallTimer : (rec : List ℕ) (view : ℕ) (out : List ℕ) → Small (timerLeft rec view out)
-unfolding timerLeft
-smallTimer rec view out = smallCalled rec out (timer view) tt 3 (omega arith)
+unfolding timerLeft within
+smallTimer rec view out = smallCalled rec out (timer view) tt 3 refl
 
 -- the answer of a call that leaves little is short
 pub shortBy : (a : Given) (rec out : List ℕ) (l : Left) → leftBy a rec out ≡ l → Small l → Short a

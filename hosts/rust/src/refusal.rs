@@ -6,7 +6,7 @@ use crate::sys;
 /// No sentence is longer.
 const LONGEST_TEXT: usize = 120;
 
-/// A refusal: the call changed nothing. In the order in which they are tested.
+/// A refusal: the call changed nothing. They are tested in the order of their numbers, but 21 and 22 between 14 and 15.
 #[derive(Debug, Clone, Copy, PartialEq, Eq, PartialOrd, Ord, Hash)]
 #[repr(u8)]
 pub enum Refusal {
@@ -36,7 +36,7 @@ pub enum Refusal {
     Sender = 12,
     /// 13: frame: view 0 in a view-change, suggest or proof.
     View0 = 13,
-    /// 14: frame: a bad report.
+    /// 14: frame: a report's mark is not 0 or 1, or it is absent and not all of it is 0.
     Report = 14,
     /// 15: frame: a proposal not from its view's leader, or a suggest for a view that this vault does not lead.
     Leader = 15,
@@ -48,16 +48,23 @@ pub enum Refusal {
     Timer = 18,
     /// 19: timer: the current view is the last one, 4294967295.
     LastView = 19,
+    /// 21: frame: a report that is present, the lock too, is for the frame's view or a higher one.
+    ReportView = 21,
+    /// 22: frame: a previous vote without a highest one, not below it, or for the same plan.
+    Previous = 22,
 }
 
 impl Refusal {
     /// Each refusal, in the order of the numbers.
-    pub const ALL: [Refusal; 19] = {
+    pub const ALL: [Refusal; 21] = {
         use Refusal::*;
-        [Output, Blank, Unsound, Started, N, F, Id, Class, Kind, Length, Link, Sender, View0, Report, Leader, Over, Kept, Timer, LastView]
+        [
+            Output, Blank, Unsound, Started, N, F, Id, Class, Kind, Length, Link, Sender, View0, Report, Leader, Over, Kept, Timer, LastView,
+            ReportView, Previous,
+        ]
     };
 
-    /// The refusal of a number, 1 to 19.
+    /// The refusal of a number: 1 to 19, 21 or 22.
     pub fn from_number(number: u32) -> Option<Refusal> {
         Refusal::ALL.into_iter().find(|refusal| u32::from(refusal.number()) == number)
     }

@@ -42,6 +42,21 @@ fn refusals_change_nothing() {
     assert!(vault.record() == &before);
 }
 
+/// 14, 21 and 22, in this order, whichever report has the fault.
+#[test]
+fn a_bad_report_is_told_by_its_part() {
+    let report = |mark, view, plan| [mark, 0, 0, 0, view, 0, 0, 0, 0, 0, 0, 0, plan];
+    let (absent, bad_mark) = (report(0, 0, 0), report(2, 0, 0));
+    let (high, low) = (report(1, 4, 5), report(1, 2, 6));
+    let proof = |reports: [[u8; 13]; 3]| [&[8, 1, 0, 0, 0, 4][..], &reports.concat()].concat();
+    let mut vault = started();
+    for (reports, refusal) in
+        [([high, absent, bad_mark], Refusal::Report), ([absent, low, high], Refusal::ReportView), ([absent, low, absent], Refusal::Previous)]
+    {
+        assert_eq!(vault.frame(1, &proof(reports)), Err(refusal));
+    }
+}
+
 #[test]
 fn entries_wait_until_the_record_is_stored() {
     let mut vault = started();

@@ -180,8 +180,8 @@ pub fn record_with(n: u8, f: u8, id: u8, plan: u64, view: u32, frames: &[Frame])
     record
 }
 
-/// Three reports that pass refusal 14 in a frame of view v (v above 0), with views below v and a
-/// few plans.
+/// Three reports that pass refusals 14, 21 and 22 in a frame of view v (v above 0), with views below
+/// v and a few plans.
 pub fn valid_reports(rng: &mut Rng, v: u32, plans: u64) -> [Option<Report>; 3] {
     let views = u64::from(v).min(5);
     let view = |rng: &mut Rng| v - 1 - rng.below(views) as u32;

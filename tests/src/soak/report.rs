@@ -18,6 +18,6 @@ pub fn counts(when: &str) {
         let decisions: u64 = counts.decisions[sizes.clone()].iter().sum();
         println!("    n = {} to {}: runs {runs}, some decided in {some}, all in {all}, decisions {decisions}", sizes.start(), sizes.end());
     }
-    println!("    refusals met, 1 to 20: {:?}", &seen.refusals[1..]);
+    println!("    refusals met, 1 to 22: {:?}", &seen.refusals[1..]);
     println!("    steps met, A to H: {:?}", seen.steps);
 }

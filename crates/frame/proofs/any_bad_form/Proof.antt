@@ -1,6 +1,8 @@
--- `frame::any_bad_form` meets its contract. 'bad report: mark not 0 or 1; absent with a nonzero byte', of any of the three (01, Refusal 14).
+-- `frame::any_bad_form` meets its contract: 14 is told of any of the three reports (02, wish 1).
 -- `any` over three reports is the three flags joined.
 -- Assumes nothing.
+use mathlib.Core.Path.{_∙_}
+use mathlib.Core.Bool.{false, _||_}
 use borrow.Author.Needs.{needs}
 use Rattle.frame.proofs.any_bad_form.Statement.{statement}
 use Rattle.frame.proofs.any_bad_form.Tie as tie
@@ -18,7 +20,11 @@ any-of-requires : tie.Need-any-of-requires
 any-of-requires c κs = search needs
 
 returns : tie.Need-returns
-returns c = cc
+returns c =
+    let a = c .before .before .before .bad-form .ensures in
+    let b = c .before .before .bad-form2 .ensures in
+    let d = c .before .bad-form3 .ensures in
+    c .any-of .ensures ∙ (λ i. a i || (b i || (d i || false)))
 
 pub any-bad-form-spec : {M : Type 1} → statement M
 any-bad-form-spec =

@@ -1,4 +1,4 @@
--- `frame::any_of` meets its contract. 'bad report' is said of three reports (01, Refusal 14).
+-- `frame::any_of` meets its contract. 'All three reports are tested' (02, wish 1).
 -- Where two flags are false, the third is left.
 -- Assumes nothing.
 use mathlib.Core.Bool.{or-false}

@@ -1,6 +1,8 @@
--- `frame::any_too_high` meets its contract. 'bad report: .. view not below the frame's', of any of the three (01, Refusal 14).
+-- `frame::any_too_high` meets its contract: 21 is told of any of the three reports (02, wish 1).
 -- `any` over three reports is the three flags joined.
 -- Assumes nothing.
+use mathlib.Core.Path.{_∙_}
+use mathlib.Core.Bool.{false, _||_}
 use borrow.Author.Needs.{needs}
 use Rattle.frame.proofs.any_too_high.Statement.{statement}
 use Rattle.frame.proofs.any_too_high.Tie as tie
@@ -18,7 +20,11 @@ any-of-requires : tie.Need-any-of-requires
 any-of-requires c κs = search needs
 
 returns : tie.Need-returns
-returns c = cc
+returns c =
+    let a = c .before .before .before .too-high .ensures in
+    let b = c .before .before .too-high2 .ensures in
+    let d = c .before .too-high3 .ensures in
+    c .any-of .ensures ∙ (λ i. a i || (b i || (d i || false)))
 
 pub any-too-high-spec : {M : Type 1} → statement M
 any-too-high-spec =

@@ -1,4 +1,4 @@
--- `frame::bad_form` meets its contract. 'mark not 0 or 1; absent with a nonzero byte' (01, Refusal 14).
+-- `frame::bad_form` meets its contract. 'a bad mark or a nonzero byte in an absent report' (02, wish 1: 14).
 -- Each return is decided by the tests that led to it.
 -- Assumes nothing.
 use mathlib.Core.Path.{refl}

@@ -1,4 +1,4 @@
--- `frame::bad_previous` meets its contract. 'previous without highest, not below it, or for its plan' (01, Refusal 14).
+-- `frame::bad_previous` meets its contract. 'a previous vote at odds with its highest' (02, wish 1: 22).
 -- Each return is decided by the tests that led to it.
 -- Assumes nothing.
 use mathlib.Core.Path.{refl}

@@ -1,5 +1,5 @@
--- `frame::content_refusal` meets its contract. 'view 0 in kind 6, 7 or 8'; 'bad report' (01, Refusals 13 and 14).
--- Row 13 by the flag, the rows of 14 by the call; a body without reports gives none.
+-- `frame::content_refusal` meets its contract. 'view 0 in kind 6, 7 or 8' (01, Refusal 13), then 14, 21 and 22.
+-- Row 13 by the flag, the rows on the reports by the call; a body without reports gives none.
 -- Assumes nothing.
 use Rattle.frame.proofs.Laws.{told}
 use borrow.Author.Needs.{needs}

@@ -1,4 +1,4 @@
--- `frame::frame_refusal` meets its contract. 'Checked downwards' (01, Refusals): 13 and 14 come before 15.
+-- `frame::frame_refusal` meets its contract. 'Checked downwards' (01, Refusals): 13, 14, 21 and 22 come before 15.
 -- The first table gives a number, or the second decides.
 -- Assumes nothing.
 use mathlib.Core.Path.{sym, _∙_}

@@ -1,4 +1,4 @@
--- `frame::too_high` meets its contract. 'view not below the frame's' (01, Refusal 14).
+-- `frame::too_high` meets its contract. 'a report whose view is not below the frame's' (02, wish 1: 21).
 -- Each return is decided by the tests that led to it.
 -- Assumes nothing.
 use mathlib.Core.Path.{refl}

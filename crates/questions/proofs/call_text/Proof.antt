@@ -1,4 +1,4 @@
--- `texts::call_text` meets its contract: each arm copies the sentence of its number. 0 has none.
+-- `questions::call_text` meets its contract: each arm copies the sentence of its number. 0 has none.
 -- Assumes nothing.
 use Prim.Native.Nat.{_<_}
 use mathlib.Core.Path.{refl}
@@ -117,9 +117,9 @@ returns-9 c =
     let number = c .before .before .args .number in
     let to-8 = c .match .rest in
     let to-4 = to-8 .0 .0 .0 .0 in
-    let high : 0 < number → 20 < number = λ (h : 0 < number).
+    let high : 0 < number → 22 < number = λ (h : 0 < number).
     let past : 8 < number = beyondFour number 4 (beyondFour number 0 h to-4) to-8 in
-    absurd (noneBetween number past (c .before .before .pre)) in
+    absurd (noneBetween number 8 past (c .before .before .pre)) in
     noneSaid number _ (noNumber number high)
 
 pub call-text-spec : {M : Type 1} → statement M

@@ -1,9 +1,9 @@
--- `texts::frame_text` meets its contract: each arm copies the sentence of its number. Beyond 20 there is none.
+-- `questions::frame_text` meets its contract: each arm copies the sentence of its number, and there is no other number.
 -- Assumes nothing.
 use Prim.Native.Nat.{_<_}
 use mathlib.Core.Path.{refl}
 use Rattle.questions.specs.Texts.{textBytes, sentenceOf}
-use Rattle.questions.proofs.Sentences.{said, noNumber, beyondFour, noneSaid}
+use Rattle.questions.proofs.Sentences.{said, beyondOne, beyondFour, noneBetween}
 use borrow.Author.Needs.{needs}
 use Rattle.questions.proofs.frame_text.Statement.{statement}
 use Rattle.questions.proofs.frame_text.Tie as tie
@@ -61,24 +61,6 @@ slice-aggregate-put-9 c = search needs
 
 put-requires-9 : tie.Need-put-requires-9
 put-requires-9 c κs = search needs
-
-slice-aggregate-put-10 : tie.Need-slice-aggregate-put-10
-slice-aggregate-put-10 c = search needs
-
-put-requires-10 : tie.Need-put-requires-10
-put-requires-10 c κs = search needs
-
-slice-aggregate-put-11 : tie.Need-slice-aggregate-put-11
-slice-aggregate-put-11 c = search needs
-
-put-requires-11 : tie.Need-put-requires-11
-put-requires-11 c κs = search needs
-
-slice-aggregate-put-12 : tie.Need-slice-aggregate-put-12
-slice-aggregate-put-12 c = search needs
-
-put-requires-12 : tie.Need-put-requires-12
-put-requires-12 c κs = search needs
 
 same-length : tie.Need-same-length
 same-length c = search needs
@@ -143,35 +125,14 @@ returns-9 : tie.Need-returns-9
 unfolding sentenceOf textBytes
 returns-9 c = said _ 17 _ _ _ _ (c .before .before .put9 .ensures) (c .before .before .before .before .before .match .keys9) refl
 
-same-length-10 : tie.Need-same-length-10
-same-length-10 c = search needs
-
 returns-10 : tie.Need-returns-10
-unfolding sentenceOf textBytes
-returns-10 c = said _ 18 _ _ _ _ (c .before .before .put10 .ensures) (c .before .before .before .before .before .match .keys10) refl
-
-same-length-11 : tie.Need-same-length-11
-same-length-11 c = search needs
-
-returns-11 : tie.Need-returns-11
-unfolding sentenceOf textBytes
-returns-11 c = said _ 19 _ _ _ _ (c .before .before .put11 .ensures) (c .before .before .before .before .before .match .keys11) refl
-
-same-length-12 : tie.Need-same-length-12
-same-length-12 c = search needs
-
-returns-12 : tie.Need-returns-12
-unfolding sentenceOf textBytes
-returns-12 c = said _ 20 _ _ _ _ (c .before .before .put12 .ensures) (c .before .before .before .before .before .match .keys12) refl
-
-returns-13 : tie.Need-returns-13
-returns-13 c =
+returns-10 c =
     let number = c .before .before .args .number in
-    let to-20 = c .match .rest in
-    let to-16 = to-20 .0 .0 .0 .0 in
+    let to-17 = c .match .rest in
+    let to-16 = to-17 .0 in
     let to-12 = to-16 .0 .0 .0 .0 in
-    let past : 20 < number = beyondFour number 16 (beyondFour number 12 (beyondFour number 8 (c .before .before .pre) to-12) to-16) to-20 in
-    noneSaid number _ (noNumber number (λ h. past))
+    let past : 17 < number = beyondOne number 16 (beyondFour number 12 (beyondFour number 8 (c .before .before .pre .0) to-12) to-16) to-17 in
+    absurd (noneBetween number 17 past (c .before .before .pre .1))
 
 pub frame-text-spec : {M : Type 1} → statement M
 frame-text-spec =
@@ -195,12 +156,6 @@ frame-text-spec =
     put-requires-8
     slice-aggregate-put-9
     put-requires-9
-    slice-aggregate-put-10
-    put-requires-10
-    slice-aggregate-put-11
-    put-requires-11
-    slice-aggregate-put-12
-    put-requires-12
     same-length
     returns
     same-length-2
@@ -219,10 +174,4 @@ frame-text-spec =
     returns-8
     same-length-9
     returns-9
-    same-length-10
-    returns-10
-    same-length-11
-    returns-11
-    same-length-12
-    returns-12
-    returns-13)
+    returns-10)

@@ -1,4 +1,4 @@
--- `texts::put` meets its contract: the text is copied whole, or nothing is written.
+-- `questions::put` meets its contract: the text is copied whole, or nothing is written.
 -- Assumes nothing.
 use native.Mathlib.Omega.{arith}
 use Rattle.questions.proofs.Sentences.{noneFits, allFit}

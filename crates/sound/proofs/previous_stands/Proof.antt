@@ -1,4 +1,4 @@
--- `sound::previous_stands` meets its contract: its form, then the rest of 14.
+-- `sound::previous_stands` meets its contract: its form, then 22.
 -- Assumes nothing.
 use mathlib.Core.Path.{refl, sym, _∙_}
 use Rattle.sound.specs.inside.Sound.{stands}

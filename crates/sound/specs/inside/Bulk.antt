@@ -71,6 +71,6 @@ bareFrame head = record { kind = head .kind; sender = head .sender; view = head 
 abbrev pub toldFrame : Head → Reports → Frame
 toldFrame head told = record { kind = head .kind; sender = head .sender; view = head .view; body = Told told }
 
--- 'bad report': a report of a frame of a view has its form, and is below it.
+-- 14 and 21 of one report: it has its form, and is below the view of its frame.
 unfoldable pub reportFits : ℕ → Report → Bool
 reportFits view r = not (badForm r) && not (tooHigh view r)

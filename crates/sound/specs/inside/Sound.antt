@@ -44,8 +44,8 @@ noPlan kind plan = ltb kind 6 || eqb plan 0
 unfoldable pub ahead : Settings → ℕ → Frame → Bool
 ahead set view f = eqb (f .sender) (set .id) && (not (eqb (f .kind) 6) && ltb view (f .view))
 
--- 'every kept frame passes 9 to 15 for its row (its own row excused from the own-number half of 11)': 9, 10 and 12 are passed by
--- place, and of 11 the half is left that the sender is below n.
+-- 'every kept frame passes 9 to 15 for its row (its own row excused from the own-number half of 11)', and 21 and 22 ('A sound record passes these
+-- as well'): 9, 10 and 12 are passed by place, and of 11 the half is left that the sender is below n.
 unfoldable pub frameSound : Settings → ℕ → Frame → Bool
 frameSound set view f =
     ltb (f .sender) (set .n) && (not (ahead set view f) && eqb (first (contentRows f ++ leaderRows f (set .n) (set .id))) 0)
@@ -67,7 +67,7 @@ rowsSound slots set view = all (λ k. kindSound slots set view (k + 1)) kinds
 
 -- ---- the own votes
 
--- 'each previous vote stands to its highest as in 14'
+-- 'each previous vote stands to its highest as in 14', which is 22 since wish 1 of document 02
 unfoldable pub stands : Report → Report → Bool
 stands highest previous = not (badForm previous) && not (badPrevious highest previous)
 
@@ -82,7 +82,7 @@ votesSound slots id =
 
 -- ---- the record
 
--- 'It is sound when its settings pass 5 to 8, every kept frame passes .., and each previous vote stands to its highest as in 14.'
+-- 'It is sound when its settings pass 5 to 8, every kept frame passes .., and each previous vote stands to its highest as in 14.' (22 now)
 unfoldable pub soundIn : (ℕ → Report) → Settings → ℕ → Bool
 soundIn slots set view =
     eqb (first (settingRows set)) 0 && (rowsSound slots set view && votesSound slots (set .id))

@@ -4,7 +4,7 @@ use Prim.Native.Nat.{ℕ, _+_, _≤_}
 use Rattle.vault.specs.declared.Answer.{Answer}
 use Rattle.vault.specs.declared.Answer.the-variants.{Written, Refused}
 
--- A refusal's number, 1 to 19, as itself; 256 and the count of bytes written for an accepted call.
+-- A refusal's number as itself; 256 and the count of bytes written for an accepted call.
 abbrev pub code : Answer → ℕ
 code (Written count) = 256 + count
 code (Refused number) = number

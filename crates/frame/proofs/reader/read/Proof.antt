@@ -1,4 +1,4 @@
--- `reader::read` meets its contract. 'Checked downwards' (01, Refusals): the rows 9 to 15, in four groups.
+-- `reader::read` meets its contract. 'Checked downwards' (01, Refusals): the rows 9 to 15, 21 and 22, in four groups.
 -- Each answer cites the law of its group, by what the calls before it gave.
 -- Assumes nothing.
 use mathlib.Core.Path.{_≡_}

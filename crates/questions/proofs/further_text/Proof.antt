@@ -1,0 +1,108 @@
+-- `questions::further_text` meets its contract: each arm copies the sentence of its number. Beyond 22 there is none.
+-- Assumes nothing.
+use Prim.Native.Nat.{_<_}
+use mathlib.Core.Path.{refl}
+use Rattle.questions.specs.Texts.{textBytes, sentenceOf}
+use Rattle.questions.proofs.Sentences.{said, noNumber, beyondOne, beyondFour, noneSaid}
+use borrow.Author.Needs.{needs}
+use Rattle.questions.proofs.further_text.Statement.{statement}
+use Rattle.questions.proofs.further_text.Tie as tie
+
+slice-aggregate-put : tie.Need-slice-aggregate-put
+slice-aggregate-put c = search needs
+
+put-requires : tie.Need-put-requires
+put-requires c κs = search needs
+
+slice-aggregate-put-2 : tie.Need-slice-aggregate-put-2
+slice-aggregate-put-2 c = search needs
+
+put-requires-2 : tie.Need-put-requires-2
+put-requires-2 c κs = search needs
+
+slice-aggregate-put-3 : tie.Need-slice-aggregate-put-3
+slice-aggregate-put-3 c = search needs
+
+put-requires-3 : tie.Need-put-requires-3
+put-requires-3 c κs = search needs
+
+slice-aggregate-put-4 : tie.Need-slice-aggregate-put-4
+slice-aggregate-put-4 c = search needs
+
+put-requires-4 : tie.Need-put-requires-4
+put-requires-4 c κs = search needs
+
+slice-aggregate-put-5 : tie.Need-slice-aggregate-put-5
+slice-aggregate-put-5 c = search needs
+
+put-requires-5 : tie.Need-put-requires-5
+put-requires-5 c κs = search needs
+
+same-length : tie.Need-same-length
+same-length c = search needs
+
+returns : tie.Need-returns
+unfolding sentenceOf textBytes
+returns c = said _ 18 _ _ _ _ (c .before .before .put .ensures) (c .before .before .before .before .before .match .keys1) refl
+
+same-length-2 : tie.Need-same-length-2
+same-length-2 c = search needs
+
+returns-2 : tie.Need-returns-2
+unfolding sentenceOf textBytes
+returns-2 c = said _ 19 _ _ _ _ (c .before .before .put2 .ensures) (c .before .before .before .before .before .match .keys2) refl
+
+same-length-3 : tie.Need-same-length-3
+same-length-3 c = search needs
+
+returns-3 : tie.Need-returns-3
+unfolding sentenceOf textBytes
+returns-3 c = said _ 20 _ _ _ _ (c .before .before .put3 .ensures) (c .before .before .before .before .before .match .keys3) refl
+
+same-length-4 : tie.Need-same-length-4
+same-length-4 c = search needs
+
+returns-4 : tie.Need-returns-4
+unfolding sentenceOf textBytes
+returns-4 c = said _ 21 _ _ _ _ (c .before .before .put4 .ensures) (c .before .before .before .before .before .match .keys4) refl
+
+same-length-5 : tie.Need-same-length-5
+same-length-5 c = search needs
+
+returns-5 : tie.Need-returns-5
+unfolding sentenceOf textBytes
+returns-5 c = said _ 22 _ _ _ _ (c .before .before .put5 .ensures) (c .before .before .before .before .before .match .keys5) refl
+
+returns-6 : tie.Need-returns-6
+returns-6 c =
+    let number = c .before .before .args .number in
+    let to-22 = c .match .rest in
+    let to-21 = to-22 .0 in
+    let past : 22 < number = beyondOne number 21 (beyondFour number 17 (c .before .before .pre) to-21) to-22 in
+    noneSaid number _ (noNumber number (λ h. past))
+
+pub further-text-spec : {M : Type 1} → statement M
+further-text-spec =
+    tie.close
+    (tie.spec
+    slice-aggregate-put
+    put-requires
+    slice-aggregate-put-2
+    put-requires-2
+    slice-aggregate-put-3
+    put-requires-3
+    slice-aggregate-put-4
+    put-requires-4
+    slice-aggregate-put-5
+    put-requires-5
+    same-length
+    returns
+    same-length-2
+    returns-2
+    same-length-3
+    returns-3
+    same-length-4
+    returns-4
+    same-length-5
+    returns-5
+    returns-6)
