@@ -1,4 +1,6 @@
--- Which fault of a report each number tells (02, wish 1): where 9 to 13 give nothing, the rows 14, 21, 22 and 15 are left, in this order.
+-- Which fault of a report each number tells (document 02, wish 1: 'All three reports are tested for the first fault, then all for the second, then all
+-- for the third'). Where 9 to 13 give nothing, the rows 14, 21, 22 and 15 are left, over four flags: each of the five answers is told apart from
+-- the others by its number. A frame that passes the rows on its content has none of the three faults.
 -- Assumes nothing.
 use Prim.Native.Nat.{ℕ, _≤_}
 use mathlib.Core.Path.{_≡_, refl, sym, ap, _∙_}

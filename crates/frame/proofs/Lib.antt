@@ -1,3 +1,4 @@
+pub mod Examples
 pub mod Faults
 pub mod Laws
 pub mod Spelling
