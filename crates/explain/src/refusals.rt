@@ -1,5 +1,7 @@
 // Refusals: their sentences, and the part at fault of the line that was given.
 ghost use Prim.Native.Nat.{_≤_};
+ghost use mathlib.Core.Path.{_≡_};
+ghost use Rattle.explain.specs.inside.Faults.{formFault, viewFault, faultAlone, previousFault};
 use crate::frames::frame_in;
 use crate::frames::lock_of;
 use crate::frames::say_kind;
@@ -112,12 +114,12 @@ const HIGHEST_PLAN: u8 = 6;
 
 // What is wrong with a report's form, for 14.
 fn form_fault(r: Report) -> u8
-    ensures { λ w. ⌜ w ≤ 2 ⌝ }
+    ensures { λ w. ⌜ w ≡ formFault r ⌝ }
 {
-    if numbers::PRESENT < r.mark {
-        return BAD_MARK;
-    }
     if frame::bad_form(r) {
+        if numbers::PRESENT < r.mark {
+            return BAD_MARK;
+        }
         return NOT_ALL_ZERO;
     }
     NOTHING
@@ -125,7 +127,7 @@ fn form_fault(r: Report) -> u8
 
 // What is wrong with a report's view, for 21.
 fn view_fault(view: u32, r: Report) -> u8
-    ensures { λ w. ⌜ w ≤ 3 ⌝ }
+    ensures { λ w. ⌜ w ≡ viewFault view r ⌝ }
 {
     if frame::too_high(view, r) {
         return VIEW_TOO_HIGH;
@@ -135,7 +137,7 @@ fn view_fault(view: u32, r: Report) -> u8
 
 // What a refusal's number finds wrong with one report of a frame for a view.
 fn report_alone(number: u8, view: u32, r: Report) -> u8
-    ensures { λ w. ⌜ w ≤ 3 ⌝ }
+    ensures { λ w. ⌜ w ≡ faultAlone number view r ⌝ }
 {
     match number {
         numbers::REFUSED_REPORT => form_fault(r),
@@ -146,18 +148,15 @@ fn report_alone(number: u8, view: u32, r: Report) -> u8
 
 // What is wrong with a previous vote beside the highest, for 22.
 fn previous_fault(highest: Report, previous: Report) -> u8
-    ensures { λ w. ⌜ w ≤ 6 ⌝ }
+    ensures { λ w. ⌜ w ≡ previousFault highest previous ⌝ }
 {
-    if previous.mark != numbers::PRESENT {
-        return NOTHING;
-    }
-    if highest.mark != numbers::PRESENT {
-        return NO_HIGHEST;
-    }
-    if highest.view <= previous.view {
-        return NOT_BELOW_HIGHEST;
-    }
-    if highest.plan == previous.plan {
+    if frame::bad_previous(highest, previous) {
+        if highest.mark != numbers::PRESENT {
+            return NO_HIGHEST;
+        }
+        if highest.view <= previous.view {
+            return NOT_BELOW_HIGHEST;
+        }
         return HIGHEST_PLAN;
     }
     NOTHING

@@ -14,22 +14,8 @@ use Rattle.frame.specs.declared.Frame.{Frame}
 use Rattle.frame.specs.declared.Reading.{Reading}
 use Rattle.frame.specs.declared.Reading.the-variants.{Accepted, Refused}
 use Rattle.frame.specs.Format.{threeReports, reportsAt, reportsOf, bodyAs, decode}
-use Rattle.frame.specs.Refusal.{
-  first,
-  any,
-  badForm,
-  tooHigh,
-  badPreviousOf,
-  viewMissing,
-  misled,
-  formRows,
-  linkRows,
-  reportRows,
-  contentRows,
-  leaderRows,
-  refusal,
-  readFrame,
-}
+use Rattle.frame.specs.Refusal.{first, any, badForm, tooHigh, badPreviousOf, viewMissing, misled}
+use Rattle.frame.specs.Refusal.{formRows, linkRows, reportRows, contentRows, leaderRows, refusal, readFrame}
 use Rattle.frame.specs.Sentences.{FaultsTell, FaultsAreTold, Faultless}
 use Rattle.frame.specs.inside.Reading.{refusalOf}
 use Rattle.frame.proofs.Laws.{none, firstNone, bodyOfReports}

@@ -14,19 +14,8 @@ use Rattle.frame.specs.declared.Reading.{Reading}
 use Rattle.frame.specs.declared.Reading.the-variants.{Accepted, Refused}
 use Rattle.frame.specs.Format.{threeReports, reportsAt, encode, decode}
 use Rattle.frame.specs.Valid.{Valid}
-use Rattle.frame.specs.Refusal.{
-  first,
-  any,
-  badForm,
-  tooHigh,
-  badPreviousOf,
-  viewMissing,
-  formRows,
-  linkRows,
-  contentRows,
-  leaderRows,
-  readFrame,
-}
+use Rattle.frame.specs.Refusal.{first, any, badForm, tooHigh, badPreviousOf, viewMissing}
+use Rattle.frame.specs.Refusal.{formRows, linkRows, contentRows, leaderRows, readFrame}
 
 -- 'Byte 0 is the kind, byte 1 the sender, bytes 2 to 5 the view', and the table's column 'Rest': a frame that is written reads back as
 -- itself, wherever the rows on its link, its content and its leader, 11 to 15, 21 and 22, give nothing. Proved as `readBack` in proofs/Theorems.

@@ -20,6 +20,7 @@ use Rattle.protocol.specs.Record.{Record, when, each, highest, leads, ch
 use Rattle.protocol.specs.Pass.{Act, ask, enter, cast, decide, does, suggestEntry, writes, asked, isNews, actA, canEnter, actB, mayPropose}
 use Rattle.protocol.specs.Pass.{chosen, actC, approves, actD, agreed, actVote, actH, Out, Step, taken, pass, stepA, stepB, stepC, stepD}
 use Rattle.protocol.specs.Pass.{stepVote, stepH, fromC, fromA}
+use Rattle.protocol.specs.Short.{OutputIsShort}
 use Rattle.protocol.specs.Calls.{fresh, started, keep, heard, wanted, timedOut, Call, accepted, answer}
 use Rattle.protocol.proofs.Tables.{eachSome, whenSome}
 use Rattle.protocol.proofs.Went.{acceptedBy}
@@ -168,5 +169,5 @@ callSize =
     ))
 
 -- Every accepted call writes at most 205 bytes.
-pub outputShort : (b : Option Record) (a : Call) (o : Out) → answer b a ≡ accepted o → length (layout (o .wrote)) ≤ 205
+pub outputShort : OutputIsShort
 outputShort b a o e = omega (arith, layoutLength (o .wrote), callSize b a o e)

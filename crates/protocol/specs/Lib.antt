@@ -3,6 +3,7 @@ pub mod Pass
 pub mod OnePlan
 pub mod Calls
 pub mod Settled
+pub mod Short
 pub mod ReadsBack
 pub mod Fed
 pub mod Tables

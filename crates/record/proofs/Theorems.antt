@@ -24,6 +24,7 @@ use Rattle.record.specs.Layout.{headSize, slotSize, sharedSize, viewPlac
 use Rattle.record.specs.Layout.{encodeRecord, decodeRecord}
 use Rattle.record.specs.inside.Layout.{blockSize, Small, FitsBytes, HoldsRecord}
 use Rattle.record.specs.Size.{recordSize}
+use Rattle.record.specs.Sentences.{LayoutIsOneToOne}
 use Rattle.record.proofs.Laws.{placeShared, placeBlock, slotThere, slotBeyond, slotSpelt, lengthSlot}
 
 -- ---- lengths
@@ -255,6 +256,10 @@ module _ (s : List ℕ) (b : Bytes s) (l : length s ≡ recordSize) where
 -- 'each layout can spell .. every content': bytes that spell the same content are the same bytes
 pub oneSpelling : (s t : List ℕ) → Bytes s → Bytes t → length s ≡ recordSize → length t ≡ recordSize → decodeRecord s ≡ decodeRecord t → s ≡ t
 oneSpelling s t b c l m e = sym (encodeDecode s b l) ∙ ap encodeRecord e ∙ encodeDecode t c m
+
+-- The layout is one to one.
+pub layoutIsOneToOne : LayoutIsOneToOne
+layoutIsOneToOne = record { writtenBack = encodeDecode; once = oneSpelling }
 
 -- bytes that hold the same record are the same bytes, so a contract that says `HoldsRecord` fixes every byte
 pub holdsSame : {s t : List ℕ} {r : Record} → Bytes s → Bytes t → HoldsRecord s r → HoldsRecord t r → s ≡ t

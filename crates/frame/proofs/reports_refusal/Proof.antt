@@ -1,6 +1,9 @@
 -- `frame::reports_refusal` meets its contract: 14, 21 and 22, one row each (02, wish 1). Each return is decided by the flags that led to it.
 -- Assumes nothing.
-use mathlib.Core.Path.{refl}
+use mathlib.Core.Path.{_≡_, refl, sym, _∙_}
+use mathlib.Core.Bool.{cond}
+use Rattle.frame.specs.Format.{threeReports}
+use Rattle.frame.specs.Refusal.{first, reportRows}
 use borrow.Author.Needs.{needs}
 use Rattle.frame.proofs.reports_refusal.Statement.{statement}
 use Rattle.frame.proofs.reports_refusal.Tie as tie
@@ -24,29 +27,24 @@ returns-2 c =
     let b = c .before .before in
     rw (← b .before .before .any-bad-form .ensures, ← b .before .any-too-high .ensures, c .before .if1 .left, c .if2 .taken) refl
 
-returns-3 : tie.Need-returns-3
-returns-3 c =
-    let b = c .before .before .before in
+-- Where neither 14 nor 21 is given, the previous vote decides.
+previousLeft : (c : tie.Else2) → let a = c .before .before .before .before .before .args in
+    first (reportRows (a .view) (threeReports (a .r))) ≡ cond (c .before .before .bad-previous .result) 22 0
+previousLeft c =
+    let b = c .before .before in
     rw (
       ← b .before .before .any-bad-form .ensures,
       ← b .before .any-too-high .ensures,
       ← b .bad-previous .ensures,
-      c .before .before .if1 .left,
-      c .before .if2 .left,
-      c .if3 .taken,
+      c .before .if1 .left,
+      c .if2 .left,
     ) refl
 
+returns-3 : tie.Need-returns-3
+returns-3 c = sym (previousLeft (c .before) ∙ rw (c .if3 .taken) refl)
+
 returns-4 : tie.Need-returns-4
-returns-4 c =
-    let b = c .before .before .before in
-    rw (
-      ← b .before .before .any-bad-form .ensures,
-      ← b .before .any-too-high .ensures,
-      ← b .bad-previous .ensures,
-      c .before .before .if1 .left,
-      c .before .if2 .left,
-      c .if3 .left,
-    ) refl
+returns-4 c = sym (previousLeft (c .before) ∙ rw (c .if3 .left) refl)
 
 pub reports-refusal-spec : {M : Type 1} → statement M
 reports-refusal-spec =
