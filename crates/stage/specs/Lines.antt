@@ -5,7 +5,7 @@ use mathlib.Core.Bool.{Bool, not, _&&_, _||_, cond}
 use mathlib.Core.List.{List, [], _∷_, _++_}
 use mathlib.Core.Option.{Option, none, some}
 use lib.Dec.{ltb, eqb}
-use lib.ListN.{length, getD, take, drop, replicate}
+use lib.ListN.{length, getD, take, drop}
 use Rattle.wire.specs.Digits.{numberAt}
 use Rattle.frame.specs.Format.{within, encode}
 use Rattle.frame.specs.Refusal.{Row, row, first}
@@ -20,6 +20,7 @@ use Rattle.runs.specs.Runs.{ByteCall, start, frame, timer}
 use Rattle.runs.specs.Fixed.{leaves}
 use Rattle.lines.specs.Digits.{bytesOf, lineOf, refusalLine}
 use Rattle.lines.specs.Lines.{Program, answers}
+use Rattle.answers.specs.Lines.{zeroed}
 use Rattle.stage.specs.Stage.{placeCount, emptyStage, recordOf, withRecord, liarIn, isLiar, withLiar}
 use Rattle.stage.specs.Stage.{Waiting, isFree, placeOf, placeSize, part, waitingIn, withWaiting, withFree, firstFree}
 
@@ -153,11 +154,7 @@ lineMeant s text = spelledMeant s (bytesOf digitLimit text)
 
 -- ---- what it does
 
--- The output space of a call: 'Program and rehearsal keep a zeroed 256-byte output array'.
-unfoldable pub zeroed : List ℕ
-zeroed = replicate 256 0
-
--- 'Each step is the vault's own step': what a call at vault v leaves. A refused one leaves the record as it was.
+-- 'Each step is the vault's own step', with 'a zeroed 256-byte output array': what a call at vault v leaves. A refused one leaves the record as it was.
 abbrev pub answered : List ℕ → ℕ → Left → Done
 answered s v (wrote count rec out) = entriesDone v (withRecord s v rec) (entriesOf (take count out))
 answered s v (gave number rec out) = record { stage = withRecord s v rec; shown = refusalLine number }
