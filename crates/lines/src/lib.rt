@@ -6,7 +6,7 @@ ghost use Prim.Native.Nat.{_+_, _*_, _≤_, _<_};
 ghost use lib.ListN.{length, take, drop};
 ghost use Rattle.lines.specs.Digits.{valueOf, digitOf, lineOf, refusalLine, bytesOf};
 ghost use Rattle.lines.specs.inside.Lines.{firstLine};
-ghost use Rattle.lines.specs.inside.Steps.{spells, spellingCount, OnPage, KeptOf};
+ghost use Rattle.lines.specs.inside.Steps.{spells, spellingCount, digitsOf, OnPage, KeptOf};
 
 // 'A line ends at byte 0a'.
 const LINE_END: u8 = 10;
@@ -71,10 +71,10 @@ pub fn bytes_in(text: &[u8], limit: usize, bytes: &mut [u8]) -> Spelling
 
 // ---- pages
 
-// Puts bytes on the page as digits, and a line's end. Answers where the page then stands.
-pub fn put_line(page: &mut [u8], at: usize, s: &[u8]) -> usize
-    requires { ⌜ (at + 2 * length (now s)) + 1 ≤ length (now page) ⌝ }
-    ensures { λ r. ⌜ OnPage (lineOf (now (s .entry))) (now (page .entry)) at (now (page .exit)) r ⌝ }
+// Puts bytes on the page as digits, without a line's end. Answers where the page then stands.
+pub fn put_digits(page: &mut [u8], at: usize, s: &[u8]) -> usize
+    requires { ⌜ at + 2 * length (now s) ≤ length (now page) ⌝ }
+    ensures { λ r. ⌜ OnPage (digitsOf (now (s .entry))) (now (page .entry)) at (now (page .exit)) r ⌝ }
 {
     let mut to = at;
     let mut i = 0;
@@ -85,6 +85,15 @@ pub fn put_line(page: &mut [u8], at: usize, s: &[u8]) -> usize
         to += 2;
         i += 1;
     }
+    to
+}
+
+// Puts bytes on the page as digits, and a line's end. Answers where the page then stands.
+pub fn put_line(page: &mut [u8], at: usize, s: &[u8]) -> usize
+    requires { ⌜ (at + 2 * length (now s)) + 1 ≤ length (now page) ⌝ }
+    ensures { λ r. ⌜ OnPage (lineOf (now (s .entry))) (now (page .entry)) at (now (page .exit)) r ⌝ }
+{
+    let to = put_digits(page, at, s);
     page[to] = LINE_END;
     to + 1
 }

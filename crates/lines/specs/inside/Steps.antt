@@ -1,14 +1,15 @@
--- What the parts of a program over lines promise each other: the count of bytes that a text spells, what is kept of a line, lines put on a
--- page. And what follows for an input that is read in pieces (`AnySplit`).
+-- What the parts of a program over lines promise each other: the count of bytes that a text spells, what is kept of a line, digits and
+-- lines put on a page. And what follows for an input that is read in pieces (`AnySplit`).
 -- Assumes nothing.
-use Prim.Native.Nat.{ℕ, suc, _+_, _≤_}
+use Prim.Native.Nat.{ℕ, suc, _+_, _/_, _%_, _≤_}
 use mathlib.Core.Path.{_≡_}
-use mathlib.Core.List.{List, [], _++_}
+use mathlib.Core.List.{List, [], _∷_, _++_}
 use mathlib.Core.Option.{Option, none, some}
 use lib.ListN.{length, take}
 use Rattle.wire.specs.Placed.{placed}
 use Rattle.lines.specs.declared.Spelling.{Spelling}
 use Rattle.lines.specs.declared.Spelling.the-variants.{Count, Bad}
+use Rattle.lines.specs.Digits.{digitOf}
 use Rattle.lines.specs.Lines.{ended, begun, Program, after, prints, answers}
 use Rattle.lines.specs.Steps.{Finished, Reads}
 
@@ -21,6 +22,11 @@ spells Bad bytes = none
 abbrev pub spellingCount : Spelling → ℕ
 spellingCount (Count n) = n
 spellingCount Bad = 0
+
+-- Bytes as digits, two for each, without a line's end: the beginning of a line.
+unfoldable pub digitsOf : List ℕ → List ℕ
+digitsOf [] = []
+digitsOf (b ∷ s) = digitOf (b / 16) ∷ digitOf (b % 16) ∷ digitsOf s
 
 -- Lines put on the page: it holds them from a place on and is otherwise as it was; where they end.
 pub record OnPage (lines page : List ℕ) (at : ℕ) (page′ : List ℕ) (next : ℕ) : Type 0 where
