@@ -1,6 +1,7 @@
 pub mod Digits
 pub mod Feeding
 pub mod Lines
+pub mod Paged
 pub mod Spelled
 pub mod Taking
 pub mod Whole

@@ -1,19 +1,22 @@
--- `pieces::feed` meets its contract: a piece of input, line by line. The invariant is `FeedTo`; the measure is what is left of the piece.
+-- `answers::feed` meets its contract: a piece of input, line by line. The invariant is `FeedTo`; the measure is what is left of the piece.
 -- Assumes nothing.
 use Prim.Native.Nat.{_-_}
 use mathlib.Core.Path.{_≡_, refl, _∙_}
 use native.Mathlib.Omega.{arith}
 use denote.Ref.{now}
 use lib.ListN.{length, take}
-use Rattle.answers.specs.Lines.{keptSize}
+use Rattle.lines.proofs.Paged.{FeedTo, feedNone, feedEnd, feedLine, feedDone, roomThere, lineWithin}
+use Rattle.answers.specs.Lines.{vaultLines, keptSize}
 use Rattle.answers.specs.inside.Sizes.{pageSize}
-use Rattle.answers.proofs.Whole.{FeedTo, feedNone, feedEnd, feedLine, feedDone, roomThere, lineWithin}
+use Rattle.answers.proofs.Answers.{keptEnough}
+use Rattle.answers.proofs.Whole.{vaultSizes}
 use Rattle.answers.proofs.feed.Statement.{statement}
 use Rattle.answers.proofs.feed.Tie as tie
 
 abbrev Inv-loop : tie.InvT-loop
 Inv-loop rec₀ text₀ len page₀ piece kept₀ at₀ i₀ rec text page kept at i =
-    (length rec ≡ length rec₀) × (length text ≡ keptSize) × (length page ≡ pageSize) × FeedTo rec₀ (take len text₀) piece rec text page kept at i
+    (length rec ≡ length rec₀) × (length text ≡ keptSize) × (length page ≡ pageSize)
+    × FeedTo vaultLines vaultSizes rec₀ (take len text₀) piece rec text page kept at i
 
 abbrev μ-loop : tie.MeasureT-loop
 μ-loop rec₀ text₀ len page₀ piece kept₀ at₀ i₀ rec text page kept at i = length piece - i
@@ -24,7 +27,7 @@ loop-holds c =
       refl,
       s .pre .0,
       s .pre .2,
-      feedNone (now (s .args .rec)) (now (s .args .text)) (now (s .args .page)) (now (s .args .piece)) (s .args .len)
+      feedNone vaultLines vaultSizes (now (s .args .rec)) (now (s .args .text)) (now (s .args .page)) (now (s .args .piece)) (s .args .len)
           (s .pre .1) (s .pre .3),
     )
 
@@ -47,7 +50,7 @@ returns c =
     let taken = c .before .before .before in
     let l = taken .before .before .before .loop in
     let t = taken .take-line in
-    feedEnd (l .inv .3) (l .inv .1) (l .inv .2) (t .kept .0) (t .ensures .0) (t .ensures .1) (c .if1 .taken)
+    feedEnd vaultLines vaultSizes (l .inv .3) (l .inv .1) (l .inv .2) (t .kept .0) (t .ensures .0) (t .ensures .1) (c .if1 .taken)
 
 sub-answer-line : tie.Need-sub-answer-line Inv-loop μ-loop
 sub-answer-line c = omega arith
@@ -63,14 +66,14 @@ answer-line-requires c κs =
     let taken = c .before .before .before .before .before .before .before in
     let l = taken .before .before .before .loop in
     let t = taken .take-line in
-    roomThere (l .inv .3) (l .inv .1) (l .inv .2) (t .kept .0) (t .ensures .0) (t .ensures .1)
+    roomThere vaultLines vaultSizes (l .inv .3) (l .inv .1) (l .inv .2) (t .kept .0) (t .ensures .0) (t .ensures .1)
 
 add-i : tie.Need-add-i Inv-loop μ-loop
 add-i c =
     let ended = c .before .before .before .before .before .before .before .before in
     let l = ended .before .before .before .before .before .before .before .loop in
     let t = ended .before .before .before .before .take-line in
-    let low = lineWithin (l .inv .3) (l .inv .1) (l .inv .2) (t .kept .0) (t .ensures .0) (t .ensures .1) in
+    let low = lineWithin vaultLines vaultSizes (l .inv .3) (l .inv .1) (l .inv .2) (t .kept .0) (t .ensures .0) (t .ensures .1) in
     omega (arith, low, ended .before .if1 .left)
 
 loop-less : tie.Need-loop-less Inv-loop μ-loop
@@ -90,8 +93,8 @@ loop-again c =
       r .kept .0 ∙ l .inv .0,
       t .kept .0 ∙ l .inv .1,
       r .kept .1 .1 .0 ∙ l .inv .2,
-      feedLine (l .inv .3) (l .inv .1) (l .inv .2) (t .kept .0) (t .ensures .0) (t .ensures .1) (branch .if1 .left)
-          (r .last .0) (r .last .1 .1 .0) (r .result) (r .ensures .0) (r .ensures .1),
+      feedLine vaultLines vaultSizes (l .inv .3) (l .inv .1) (l .inv .2) (t .kept .0) (t .ensures .0) (t .ensures .1) keptEnough
+          (branch .if1 .left) (r .last .0) (r .last .1 .1 .0) (r .result) (r .ensures .0) (r .ensures .1),
     )
 
 same-length-4 : tie.Need-same-length-4 Inv-loop μ-loop
@@ -106,7 +109,7 @@ same-length-6 c = omega arith
 returns-2 : tie.Need-returns-2 Inv-loop μ-loop
 returns-2 c =
     let l = c .before .loop in
-    feedDone (l .inv .3) (l .inv .1) (l .inv .2) (c .loop-test .left)
+    feedDone vaultLines vaultSizes (l .inv .3) (l .inv .1) (l .inv .2) (c .loop-test .left)
 
 pub feed-spec : {M : Type 1} → statement M
 feed-spec =

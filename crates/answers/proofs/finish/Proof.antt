@@ -1,13 +1,18 @@
--- `pieces::finish` meets its contract: 'A line ends at byte 0a or at the input's end; after a final 0a there is no further line'.
+-- `answers::finish` meets its contract: 'A line ends at byte 0a or at the input's end; after a final 0a there is no further line'.
 -- Assumes nothing.
+use native.Mathlib.Omega.{arith}
 use denote.Ref.{now}
 use borrow.Author.Needs.{needs}
-use Rattle.answers.proofs.Whole.{finishNone, finishLine}
+use Rattle.lines.proofs.Paged.{finishNone, finishLine}
+use Rattle.answers.specs.Lines.{vaultLines}
+use Rattle.answers.proofs.Whole.{vaultSizes}
 use Rattle.answers.proofs.finish.Statement.{statement}
 use Rattle.answers.proofs.finish.Tie as tie
 
 returns : tie.Need-returns
-returns c = let a = c .before .before .before .before .args in finishNone (now (a .rec)) (now (a .text)) (now (a .page)) (a .len) (c .if1 .taken)
+returns c =
+    let a = c .before .before .before .before .args in
+    finishNone vaultLines vaultSizes (now (a .rec)) (now (a .text)) (now (a .page)) (a .len) (c .if1 .taken)
 
 sub-answer-line : tie.Need-sub-answer-line
 sub-answer-line c = search needs
@@ -32,8 +37,8 @@ returns-2 c =
     let r = c .before .before .before .before .answer-line in
     let e = c .before .before .before .before .before .before .before .before in
     let s = e .before .before .before .before in
-    finishLine (now (s .args .rec)) (now (s .args .text)) (now (s .args .page)) (s .args .len) (e .if1 .left) (s .pre .1) (s .pre .0) (r .last .0)
-    (r .last .1 .1 .0) (r .result) (r .ensures .0) (r .ensures .1)
+    finishLine vaultLines vaultSizes (omega arith) (now (s .args .rec)) (now (s .args .text)) (now (s .args .page)) (s .args .len) (e .if1 .left)
+    (s .pre .1) (s .pre .0) (r .last .0) (r .last .1 .1 .0) (r .result) (r .ensures .0) (r .ensures .1)
 
 pub finish-spec : {M : Type 1} → statement M
 finish-spec =
