@@ -2,17 +2,18 @@
 -- keeps that the bytes read so far, with what the rest spells, are what the whole spells, and that the rest is all digits where the whole
 -- is. So the first byte that is no digit decides, or the text's end.
 -- Assumes nothing.
-use Prim.Native.Nat.{ℕ, suc, _+_, _*_, _/_, _%_, _≤_, _<_}
+use Prim.Native.Nat.{ℕ, zero, suc, _+_, _*_, _/_, _%_, _≤_, _<_}
 use mathlib.Core.Path.{_≡_, refl, sym, ap, subst, _∙_}
-use mathlib.Core.Bool.{Bool, true, false, not, _&&_, cond, or-true, or-false}
+use mathlib.Core.Bool.{Bool, true, false, not, _&&_, _||_, cond, or-true, or-false}
 use mathlib.Core.List.{List, [], _∷_, _++_, append-assoc, append-nil}
 use mathlib.Core.Option.{none, some}
 use native.Mathlib.Decide.{decLe}
 use native.Mathlib.Omega.{arith}
-use borrow.Author.Tests.{eq-eqb, ne-eqb, lt-ltb, le-ltb}
-use lib.Dec.{ltb}
+use borrow.Author.Tests.{eq-eqb, ne-eqb, lt-ltb, le-ltb, ltb-true}
+use lib.Dec.{ltb, eqb}
 use lib.ListN.{length, getD, take, drop, set, length-set, drop-of-length-le}
 use lib.Seq.{drop-cons, take-suc-set, take-all, length-take-le}
+use Rattle.wire.specs.Fields.{Bytes}
 use Rattle.lines.specs.Digits.{valueOf, allDigits, badLine, spelled, bytesOf}
 
 module _ (limit : ℕ) (text : List ℕ) where
@@ -151,3 +152,43 @@ spelledShort limit text s is = go (badLine limit text) is
     go : (b : Bool) → cond b none (some (spelled text)) ≡ some s → 2 * length s ≤ length text
     go true e = let z : _≡_ {A = ℕ} 0 1 = cc in absurd (omega arith)
     go false e = let same : spelled text ≡ s = cc in subst (λ (l : List ℕ). 2 * length l ≤ length text) same (spelledLength text)
+
+-- ---- what digits spell
+
+-- Both of two tests hold.
+both : (a b : Bool) → (a && b) ≡ true → (a ≡ true) × (b ≡ true)
+both true b e = (refl, e)
+both false b e = let z : _≡_ {A = ℕ} 0 1 = cc in absurd (omega arith)
+
+-- Two digits spell a byte, so all that they spell are bytes.
+spelledBytes : (text : List ℕ) → allDigits text ≡ true → Bytes (spelled text)
+unfolding allDigits spelled
+spelledBytes [] all i = omega arith
+spelledBytes (high ∷ []) all i = omega arith
+spelledBytes (high ∷ low ∷ text) all i = go i (spelledBytes text (last .1))
+  where
+    first : (ltb (valueOf high) 16 ≡ true) × (allDigits (low ∷ text) ≡ true)
+    first = both (ltb (valueOf high) 16) (allDigits (low ∷ text)) all
+
+    last : (ltb (valueOf low) 16 ≡ true) × (allDigits text ≡ true)
+    last = both (ltb (valueOf low) 16) (allDigits text) (first .1)
+
+    go : (i : ℕ) → Bytes (spelled text) → getD ((valueOf high * 16 + valueOf low) ∷ spelled text) i 0 < 256
+    go zero rest = omega (arith, ltb-true (valueOf high) 16 (first .0), ltb-true (valueOf low) 16 (last .0))
+    go (suc i) rest = rest i
+
+-- What a line's text spells are bytes.
+pub spelledAreBytes : (limit : ℕ) (text s : List ℕ) → bytesOf limit text ≡ some s → Bytes s
+unfolding bytesOf badLine
+spelledAreBytes limit text s is = go (not (eqb (length text % 2) 0 && allDigits text) || ltb limit (length text)) refl is
+  where
+    go : (b : Bool) → (not (eqb (length text % 2) 0 && allDigits text) || ltb limit (length text)) ≡ b → cond b none (some (spelled text)) ≡ some s → Bytes s
+    go true bad is = let z : _≡_ {A = ℕ} 0 1 = cc in absurd (omega arith)
+    go false fine is =
+        let same : spelled text ≡ s = cc in
+        subst Bytes same (spelledBytes text (digitsAll (eqb (length text % 2) 0) (allDigits text) (ltb limit (length text)) fine))
+      where
+        digitsAll : (even all long : Bool) → (not (even && all) || long) ≡ false → all ≡ true
+        digitsAll true true long e = refl
+        digitsAll true false long e = let z : _≡_ {A = ℕ} 0 1 = cc in absurd (omega arith)
+        digitsAll false all long e = let z : _≡_ {A = ℕ} 0 1 = cc in absurd (omega arith)

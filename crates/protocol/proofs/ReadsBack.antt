@@ -50,10 +50,10 @@ pub record Goes (n i j : ℕ) (x : Frame) : Type 0 where
   pub content : first (contentRows x) ≡ 0
   pub leader : first (leaderRows x n j) ≡ 0
 
--- The frame of vault i's entry passes at whom it is for.
+-- The frame of vault i's entry passes at whom it is for; one for a single vault is a suggest, for its view's leader.
 abbrev pub Right : ℕ → ℕ → Entry → Type 0
 Right n i (ForAll x) = (j : ℕ) → Goes n i j x
-Right n i (ForOne j x) = Goes n i j x
+Right n i (ForOne j x) = Goes n i j x × ((x .kind ≡ 7) × (leaderOf (x .view) n ≡ j))
 Right n i (Timer v m) = Unit {0}
 Right n i (Decision v p) = Unit {0}
 
@@ -75,7 +75,11 @@ module _ (n i : ℕ) where
 
   -- A frame among them that is for vault j passes at j.
   pub goesFor : (es : List Entry) → AllRight n i es → (j : ℕ) (x : Frame) → IsFor j x es → Goes n i j x
-  goesFor es all j x for = ⊎-elim (λ at. rightAt es all (ForAll x) at j) (rightAt es all (ForOne j x)) for
+  goesFor es all j x for = ⊎-elim (λ at. rightAt es all (ForAll x) at j) (λ at. rightAt es all (ForOne j x) at .0) for
+
+  -- A frame among them for a single vault is a suggest, for its view's leader.
+  pub suggestFor : (es : List Entry) → AllRight n i es → (j : ℕ) (x : Frame) → ForOne j x ∈ es → (x .kind ≡ 7) × (leaderOf (x .view) n ≡ j)
+  suggestFor es all j x at = rightAt es all (ForOne j x) at .1
 
 -- ---- rows 11 to 15, 21 and 22
 
@@ -135,7 +139,7 @@ module _ {r : Record} (w : Whole r) where
 
       rest : (b : Bool) → OwnRight (r .set) (suggestEntry r v b)
       rest true = tt
-      rest false = (report rule1 (leader r v) (λ (e : 7 ≡ 1). absurd (omega arith)) (λ e. refl), tt)
+      rest false = ((report rule1 (leader r v) (λ (e : 7 ≡ 1). absurd (omega arith)) (λ e. refl), (refl, refl)), tt)
   actRight (cast k p) may = (
     λ j. goes (voteFrame r k p) j refl (voteGoes w k p may) (λ (e : suc k ≡ 1). leadsFirst w k p (may .2) (omega arith))
         (λ (e : suc k ≡ 7). absurd (omega (arith, may .0))),

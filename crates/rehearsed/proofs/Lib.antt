@@ -1,0 +1,5 @@
+pub mod Sent
+pub mod Means
+pub mod Calls
+pub mod Staged
+pub mod Agrees
