@@ -35,7 +35,7 @@ use Rattle.runs.specs.Fixed.{leaves, Fixed}
 use Rattle.runs.proofs.Demand.{demand3Fixed}
 use Rattle.answers.specs.Lines.{zeroed, blankRecord}
 use Rattle.lines.specs.Lines.{after}
-use Rattle.stage.proofs.Parts.{liarRecord, liarWaiting}
+use Rattle.stage.proofs.Apart.{liarRecord, liarWaiting}
 use Rattle.stage.specs.Stage.{emptyStage, recordOf, liarIn, Waiting}
 use Rattle.stage.specs.Lines.{Meant, refuse, call, free, declare, makeUp, lineMeant, done, rehearsal}
 use Rattle.rehearsed.specs.Agrees.{wroteAt, writtenAt, RehearsalAgrees}

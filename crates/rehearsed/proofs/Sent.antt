@@ -19,7 +19,7 @@ use Rattle.entry.specs.declared.Entry.{Entry}
 use Rattle.entry.specs.declared.Entry.the-variants.{ForAll, ForOne, Timer, Decision}
 use Rattle.stage.specs.Stage.{placeCount, placeOf, stageSize, recordOf, liarIn, Waiting, waitingBytes, waitingAt, withWaiting, isFree, freeFrom, firstFree}
 use Rattle.stage.specs.Lines.{Done, sentTo, sent, entryDone, entriesDone}
-use Rattle.stage.proofs.Parts.{placeSized, placeRecord, placeLiar, placeOther, waitingPut}
+use Rattle.stage.proofs.Apart.{placeSized, placeRecord, placeLiar, placeOther, waitingPut}
 
 -- It holds of each frame that waits.
 abbrev pub Waits : (Waiting → Type 0) → List ℕ → Type 0

@@ -30,8 +30,8 @@ use Rattle.runs.specs.Fixed.{leaves}
 use Rattle.runs.proofs.Carry.{said}
 use Rattle.answers.specs.Lines.{zeroed, blankRecord}
 use Rattle.lines.specs.Lines.{after}
-use Rattle.stage.proofs.Parts.{recordSized, recordPut, recordOther, recordWaiting, recordLiar, placeSized, placeRecord, placeLiar, placeOther, waitingFreed}
-use Rattle.stage.proofs.Parts.{liarSized, liarPut, liarRecord, liarWaiting}
+use Rattle.stage.proofs.Apart.{recordSized, recordPut, recordOther, recordWaiting, recordLiar, placeSized, placeRecord, placeLiar, placeOther, waitingFreed}
+use Rattle.stage.proofs.Apart.{liarSized, liarPut, liarRecord, liarWaiting}
 use Rattle.rules.proofs.Reports.{none≢some}
 use Rattle.stage.specs.Stage.{part, recordPlace, placeCount, placeOf, placeSize, stageSize, emptyStage, recordOf, withRecord}
 use Rattle.stage.specs.Stage.{liarIn, Waiting, waitingIn, waitingAt, isFree, withFree}

@@ -1,2 +1,5 @@
 pub mod Stage
 pub mod Lines
+pub mod Sentences
+pub mod Steps
+pub mod inside
