@@ -27,7 +27,7 @@ use Rattle.answers.specs.Lines.{entryLines}
 use Rattle.answers.specs.inside.Steps.{LaidOut}
 
 -- An entry has its recipient and at least the six bytes of a view-change.
-entryLeast : (e : Entry) → 7 ≤ length (entryBytes e)
+pub entryLeast : (e : Entry) → 7 ≤ length (entryBytes e)
 unfolding entryBytes
 entryLeast (ForAll f) = omega (arith, encodeHead f)
 entryLeast (ForOne to f) = omega (arith, encodeHead f)
@@ -37,12 +37,12 @@ entryLeast (Decision view plan) = omega (arith, lengthSpell (hostFields 10 view 
 -- ---- entries one after the other
 
 -- What is known of the first entry of some bytes.
-record First (s : List ℕ) (e : Entry) : Type 0 where
-  size : sizeIn s ≡ length (entryBytes e)
-  here : take (sizeIn s) s ≡ entryBytes e
-  rest : LaidOut (drop (sizeIn s) s)
-  entries : entriesOf s ≡ e ∷ entriesOf (drop (sizeIn s) s)
-  fits : sizeIn s ≤ length s
+pub record First (s : List ℕ) (e : Entry) : Type 0 where
+  pub size : sizeIn s ≡ length (entryBytes e)
+  pub here : take (sizeIn s) s ≡ entryBytes e
+  pub rest : LaidOut (drop (sizeIn s) s)
+  pub entries : entriesOf s ≡ e ∷ entriesOf (drop (sizeIn s) s)
+  pub fits : sizeIn s ≤ length s
 
 -- Bytes that are the entry e and then entries es.
 firstIs : (s : List ℕ) (e : Entry) (es : List Entry) → AllValid (e ∷ es) → s ≡ entryBytes e ++ layout es → entriesOf s ≡ e ∷ es → First s e
@@ -65,7 +65,7 @@ firstIs s e es v is read =
     }
 
 -- Bytes that are entries, and are not at their end, begin with an entry: there is a next line to print.
-first : (s : List ℕ) → LaidOut s → 0 < length s → (e : Entry) × First s e
+pub first : (s : List ℕ) → LaidOut s → 0 < length s → (e : Entry) × First s e
 first s laid there = go (entriesOf s) refl
   where
     go : (es : List Entry) → entriesOf s ≡ es → (e : Entry) × First s e
