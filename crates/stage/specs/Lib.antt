@@ -1,5 +1,4 @@
 pub mod Stage
 pub mod Lines
 pub mod Sentences
-pub mod Steps
 pub mod inside

@@ -53,7 +53,7 @@ entryDone v s (Decision view plan) = record { stage = s; shown = lineOf (entryBy
 abbrev pub andThen : Done → (List ℕ → Done) → Done
 andThen d more = record { stage = more (d .stage) .stage; shown = d .shown ++ more (d .stage) .shown }
 
--- The entries that vault v wrote, in their order: each takes 'the smallest number free at that moment'.
+-- The entries that vault v wrote, in their order: each frame takes the smallest number that is then free.
 unfoldable pub entriesDone : ℕ → List ℕ → List Entry → Done
 entriesDone v s [] = record { stage = s; shown = [] }
 entriesDone v s (e ∷ es) = andThen (entryDone v s e) (λ t. entriesDone v t es)

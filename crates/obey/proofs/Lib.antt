@@ -1,0 +1,5 @@
+pub mod Calls
+pub mod Sent
+pub mod Answers
+pub mod Kept
+pub mod Whole
