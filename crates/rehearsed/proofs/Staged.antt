@@ -217,12 +217,16 @@ pub blankHeld : (v : ℕ) → Holds v blankRecord none
 unfolding lentIs decodeRecord
 blankHeld v = record { spells = refl; fine = λ r e. absurd (none≢some e); own = λ r e. absurd (none≢some e) }
 
--- Nothing waits.
-pub nothingWaits : (P : Waiting → Type 0) → Waits P emptyStage
+-- Nothing waits at any number.
+pub noneAtFirst : (k : ℕ) → waitingAt emptyStage k ≡ none
 unfolding waitingAt isFree
-nothingWaits P k low w is =
-    absurd (none≢some (ap (λ (n : ℕ). cond {A = Option Waiting} (eqb n 0) none (some (waitingIn (part (placeOf k) placeSize emptyStage))))
-    (sym (partZero (placeOf k) placeSize 0 (omega arith))) ∙ is))
+noneAtFirst k =
+    ap (λ (n : ℕ). cond {A = Option Waiting} (eqb n 0) none (some (waitingIn (part (placeOf k) placeSize emptyStage))))
+    (partZero (placeOf k) placeSize 0 (omega arith))
+
+-- So anything holds of each frame that waits.
+pub nothingWaits : (P : Waiting → Type 0) → Waits P emptyStage
+nothingWaits P k low w is = absurd (none≢some (sym (noneAtFirst k) ∙ is))
 
 -- A rehearsal begins well.
 pub goodEmpty : Good emptyStage

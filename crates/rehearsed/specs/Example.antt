@@ -2,6 +2,7 @@
 -- Assumes nothing.
 use Prim.Native.String.{String}
 use mathlib.Core.Path.{_≡_}
+use mathlib.Core.List.{_++_}
 use Rattle.answers.specs.Example.{text}
 use Rattle.stage.specs.Lines.{rehearsalPrints}
 
@@ -9,8 +10,14 @@ use Rattle.stage.specs.Lines.{rehearsalPrints}
 abbrev pub input : String
 input = "0000020000000000000007\n0001020000000000000007\n010001\n010001\n010000\n"
 
--- Timer, proposal, vote-1; timer; vote-1; refusal 17; refusal 11. Each frame has the smallest number that is free. Proved as `document` in
--- proofs/Example.
+-- The starts: timer, proposal, vote-1; timer. Each frame has the smallest number that is free.
+abbrev pub started : String
+started = "fe0b0000000000000384\nfc00ff0100000000000000000000000007\nfc01ff0200000000000000000000000007\nfe0b0000000000000384\n"
+
+-- The deliveries: vote-1; refusal 17; refusal 11.
+abbrev pub delivered : String
+delivered = "fc02ff0201000000000000000000000007\nfd11\nfd0b\n"
+
+-- Proved as `document` in proofs/Example.
 abbrev pub Document : Type 0
-Document = rehearsalPrints (text input)
-    ≡ text "fe0b0000000000000384\nfc00ff0100000000000000000000000007\nfc01ff0200000000000000000000000007\nfe0b0000000000000384\nfc02ff0201000000000000000000000007\nfd11\nfd0b\n"
+Document = rehearsalPrints (text input) ≡ text started ++ text delivered
