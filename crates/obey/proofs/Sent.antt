@@ -33,26 +33,49 @@ use Rattle.stage.specs.Stage.{placeCount, Waiting, withWaiting, firstFree}
 use Rattle.stage.specs.Lines.{Done, sentTo, sent, entryDone, entriesDone}
 use Rattle.lines.specs.inside.Steps.{digitsOf}
 use Rattle.stage.specs.inside.Parts.{onWay}
-use Rattle.obey.specs.inside.Parts.{IsEntry, DoneAt}
+use Rattle.obey.specs.inside.Parts.{headOf, IsEntry, DoneAt}
 use Rattle.lines.proofs.Digits.{lineJoined}
+
+-- ---- a frame's head
+
+-- Where 256 wait: fb and the recipient byte.
+pub lostHead : (k to : ℕ) → k ≡ placeCount → 251 ∷ to ∷ [] ≡ headOf k to
+unfolding headOf
+lostHead k to full = rw (eq-eqb k placeCount full) refl
+
+-- Else fc, the number and the recipient byte.
+pub waitsHead : (k to : ℕ) → (k ≡ placeCount → ⊥) → 252 ∷ k ∷ to ∷ [] ≡ headOf k to
+unfolding headOf
+waitsHead k to free = rw (ne-eqb k placeCount free) refl
+
+-- It has at most three bytes.
+pub headShort : (k to : ℕ) → length (headOf k to) ≤ 3
+unfolding headOf
+headShort k to = go (eqb k placeCount)
+  where
+    go : (b : Bool) → length (cond b (251 ∷ to ∷ []) (252 ∷ k ∷ to ∷ [])) ≤ 3
+    go true = omega arith
+    go false = omega arith
 
 -- ---- a frame is sent
 
 module _ (s page : List ℕ) (at k : ℕ) (way : Way) (frame : List ℕ) (is : k ≡ firstFree s) (room : at ≤ length page) where
   -- 'or by fb where 256 wait and it is lost'
-  pub lostDone : k ≡ placeCount → (page₁ : List ℕ) (mid : ℕ) (page₂ : List ℕ) (next : ℕ) → OnPage (digitsOf (251 ∷ way .to ∷ [])) page at page₁ mid
+  pub lostDone : k ≡ placeCount → (page₁ : List ℕ) (mid : ℕ) (page₂ : List ℕ) (next : ℕ) → OnPage (digitsOf (headOf k (way .to))) page at page₁ mid
       → OnPage (lineOf frame) page₁ mid page₂ next → DoneAt (sent s (onWay way frame)) page at s page₂ next
   unfolding sentTo
   lostDone full page₁ mid page₂ next head rest =
       let line : List ℕ = lineOf (251 ∷ way .to ∷ frame) in
       let lost : sentTo s (onWay way frame) k ≡ record { stage = s; shown = line } = rw (eq-eqb k placeCount full) refl in
       let does : record { stage = s; shown = line } ≡ sent s (onWay way frame) = sym lost ∙ ap (sentTo s (onWay way frame)) is in
-      let put : OnPage line page at page₂ next = lineJoined (251 ∷ way .to ∷ []) frame page at page₁ mid page₂ next room head rest in
-      subst (λ (d : Done). DoneAt d page at s page₂ next) does (record { stage = refl; lines = put })
+      let put : OnPage (lineOf (headOf k (way .to) ++ frame)) page at page₂ next =
+      lineJoined (headOf k (way .to)) frame page at page₁ mid page₂ next room head rest in
+      let shows : OnPage line page at page₂ next = subst (λ (h : List ℕ). OnPage (lineOf (h ++ frame)) page at page₂ next) (sym (lostHead k (way .to) full)) put in
+      subst (λ (d : Done). DoneAt d page at s page₂ next) does (record { stage = refl; lines = shows })
 
   -- 'led by fc and its number'
   pub waitsDone : (k ≡ placeCount → ⊥) → (s′ page₁ : List ℕ) (mid : ℕ) (page₂ : List ℕ) (next : ℕ)
-      → OnPage (digitsOf (252 ∷ k ∷ way .to ∷ [])) page at page₁ mid → OnPage (lineOf frame) page₁ mid page₂ next
+      → OnPage (digitsOf (headOf k (way .to))) page at page₁ mid → OnPage (lineOf frame) page₁ mid page₂ next
       → s′ ≡ withWaiting s k (onWay way frame) → DoneAt (sent s (onWay way frame)) page at s′ page₂ next
   unfolding sentTo
   waitsDone free s′ page₁ mid page₂ next head rest put =
@@ -60,7 +83,9 @@ module _ (s page : List ℕ) (at k : ℕ) (way : Way) (frame : List ℕ) (is : k
       let there : List ℕ = withWaiting s k (onWay way frame) in
       let waits : sentTo s (onWay way frame) k ≡ record { stage = there; shown = line } = rw (ne-eqb k placeCount free) refl in
       let does : record { stage = there; shown = line } ≡ sent s (onWay way frame) = sym waits ∙ ap (sentTo s (onWay way frame)) is in
-      let shows : OnPage line page at page₂ next = lineJoined (252 ∷ k ∷ way .to ∷ []) frame page at page₁ mid page₂ next room head rest in
+      let whole : OnPage (lineOf (headOf k (way .to) ++ frame)) page at page₂ next =
+      lineJoined (headOf k (way .to)) frame page at page₁ mid page₂ next room head rest in
+      let shows : OnPage line page at page₂ next = subst (λ (h : List ℕ). OnPage (lineOf (h ++ frame)) page at page₂ next) (sym (waitsHead k (way .to) free)) whole in
       subst (λ (d : Done). DoneAt d page at s′ page₂ next) does (record { stage = put; lines = shows })
 
 -- A frame's line has two bytes or three more than the frame.

@@ -14,14 +14,14 @@ ghost use lib.ListN.{length, take};
 ghost use Rattle.entry.specs.Reading.{entryAt, entriesOf};
 ghost use Rattle.frame.specs.Refusal.{first};
 ghost use Rattle.lines.specs.Steps.{Fed, Finished};
-ghost use Rattle.lines.specs.inside.Steps.{Answered};
+ghost use Rattle.lines.specs.inside.Steps.{digitsOf, OnPage, Answered};
 ghost use Rattle.answers.specs.inside.Steps.{LaidOut, Printable};
 ghost use Rattle.vault.specs.Answers.{leftBy};
-ghost use Rattle.stage.specs.Stage.{stageSize, recordOf};
+ghost use Rattle.stage.specs.Stage.{stageSize, placeCount, recordOf};
 ghost use Rattle.stage.specs.Lines.{sent, entryDone, entriesDone, vaultIn, lineRows, kindOf, startOf, delivered, waitingNow, timerOf, callOf, call, meant};
 ghost use Rattle.stage.specs.Lines.{taken, done, rehearsal};
 ghost use Rattle.stage.specs.inside.Parts.{frameMost, onWay, Named};
-ghost use Rattle.obey.specs.inside.Parts.{Called, putBy, DoneAt, IsEntry};
+ghost use Rattle.obey.specs.inside.Parts.{headOf, Called, putBy, DoneAt, IsEntry};
 ghost use Rattle.obey.specs.Steps.{keptSize};
 ghost use Rattle.obey.specs.inside.Sizes.{answerSize, lineShare, pieceSize, pageSize};
 
@@ -99,18 +99,28 @@ fn call(stage: &mut [u8], bytes: &[u8], out: &mut [u8]) -> Answer
 
 // ---- frames on their way
 
+// What stands before a frame's recipient byte and the frame, where k is the smallest free number: fc and the number, or fb where the frame is lost.
+fn put_head(page: &mut [u8], at: usize, k: usize, to: u8) -> usize
+    requires { ⌜ (k ≤ placeCount) × (at + 6 ≤ length (now page)) ⌝ }
+    ensures { λ r. ⌜ OnPage (digitsOf (headOf k to)) (now (page .entry)) at (now (page .exit)) r ⌝ }
+{
+    if k == places::PLACES {
+        return lines::put_digits(page, at, &[LOST, to]);
+    }
+    lines::put_digits(page, at, &[WAITS, k as u8, to])
+}
+
 // A new frame takes the smallest free number, or is lost; its line is put on the page.
 fn send(stage: &mut [u8], way: Way, frame: &[u8], page: &mut [u8], at: usize) -> usize
     requires { ⌜ (length (now stage) ≡ stageSize) × (length (now frame) ≤ frameMost) × ((at + 2 * length (now frame)) + 7 ≤ length (now page)) ⌝ }
     ensures { λ r. ⌜ DoneAt (sent (now (stage .entry)) (onWay way (now (frame .entry)))) (now (page .entry)) at (now (stage .exit)) (now (page .exit)) r ⌝ }
 {
     let k = places::first_free(stage);
-    if k == places::PLACES {
-        let mid = lines::put_digits(page, at, &[LOST, way.to]);
-        return lines::put_line(page, mid, frame);
-    }
-    let mid = lines::put_digits(page, at, &[WAITS, k as u8, way.to]);
+    let mid = put_head(page, at, k, way.to);
     let end = lines::put_line(page, mid, frame);
+    if k == places::PLACES {
+        return end;
+    }
     places::put_waiting(stage, k, way, frame);
     end
 }

@@ -2,7 +2,9 @@
 -- Assumes nothing.
 use Prim.Native.Nat.{ℕ}
 use mathlib.Core.Path.{_≡_}
-use mathlib.Core.List.{List}
+use mathlib.Core.Bool.{cond}
+use mathlib.Core.List.{List, [], _∷_}
+use lib.Dec.{eqb}
 use lib.ListN.{take}
 use Rattle.entry.specs.Layout.{entryBytes}
 use Rattle.entry.specs.Valid.{ValidEntry}
@@ -14,8 +16,12 @@ use Rattle.runs.specs.Runs.{ByteCall}
 use Rattle.runs.specs.Fixed.{leaves}
 use Rattle.vault.specs.declared.Answer.{Answer}
 use Rattle.vault.specs.Answers.{leftBy}
-use Rattle.stage.specs.Stage.{recordOf, withRecord}
+use Rattle.stage.specs.Stage.{placeCount, recordOf, withRecord}
 use Rattle.stage.specs.Lines.{Done, entriesDone}
+
+-- What stands before a frame on its line: fc, its number and the recipient byte; or fb and that byte where there is no number for it.
+unfoldable pub headOf : ℕ → ℕ → List ℕ
+headOf k to = cond (eqb k placeCount) (251 ∷ to ∷ []) (252 ∷ k ∷ to ∷ [])
 
 -- A call at vault v was made: its answer, with the record that it left, is what the vault's own call leaves.
 pub record Called (s : List ℕ) (v : ℕ) (a : ByteCall) (out : List ℕ) (r : Answer) (s′ out′ : List ℕ) : Type 0 where
