@@ -1,11 +1,9 @@
 //! Line scripts: the program's output against the reference's.
-use std::process::Command;
-
 use reference::rng::Rng;
 use reference::scripts::{cover, script, Coverage};
 
 use super::Sabotage;
-use crate::program::{expected, printed, Input, PROGRAM};
+use crate::program::PROGRAM;
 use crate::stage;
 
 /// In one round.
@@ -24,11 +22,11 @@ pub fn round(mut rng: Rng, sabotage: Sabotage) {
 }
 
 fn same(script: &[u8], sabotage: Sabotage) {
-    let mut printed = printed(&mut Command::new(PROGRAM), &Input::new("soak", script));
+    let mut printed = PROGRAM.printed("soak", script);
     if sabotage == Sabotage::OtherByte {
         change_decision(&mut printed);
     }
-    let expected = expected(script);
+    let expected = PROGRAM.expected(script);
     if printed != expected {
         let [ours, theirs] = [&printed, &expected].map(|output| String::from_utf8_lossy(output));
         let at = ours.lines().zip(theirs.lines()).take_while(|(one, other)| one == other).count();
