@@ -22,28 +22,7 @@ fn random_scripts_print_the_same() {
 }
 
 /// A line and what it prints; where the line is left out, what the line above prints too.
-const ONE_SCRIPT: &str = "\
-0000020000000000000007             fe0b0000000000000384
-                                   fc00ff0100000000000000000000000007
-                                   fc01ff0200000000000000000000000007
-0001020000000000000007             fe0b0000000000000384
-010001                             fc02ff0201000000000000000000000007
-010001                             fd11
-010000                             fd0b
-010002                             fd02
-0303
-0302                               fd17
-0402                               fd17
-0403                               fc03ff
-04030203000000000000000000000007   fc04ff0203000000000000000000000007
-010300                             fd09
-0201
-0201                               fd17
-0501                               fc01ff060100000001
-0504                               fd17
-0100                               fd0a
-06                                 fd09
-";
+const ONE_SCRIPT: &str = include_str!("../../reference/tests/rehearsal.txt");
 
 /// Lines with their ends, each with what it prints.
 type Talk = Vec<(String, String)>;
