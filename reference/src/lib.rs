@@ -1,6 +1,6 @@
 //! An independent reference vault. Every function renders a sentence of document 01, or of those
-//! wishes of document 02 that were made (so far wish 1); where they are silent the reading taken is
-//! in READINGS.md.
+//! wishes of document 02 that were made (so far wishes 1 and 2); where they are silent the reading
+//! taken is in READINGS.md.
 
 pub mod calls;
 pub mod entry;
@@ -8,6 +8,9 @@ pub mod frame;
 pub mod lines;
 pub mod literal;
 pub mod record;
+pub mod rehearsal;
+pub mod rehearsal_cover;
+pub mod rehearsals;
 pub mod report_faults;
 pub mod rng;
 pub mod rules;

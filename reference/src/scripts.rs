@@ -33,7 +33,7 @@ enum Line {
 }
 
 /// The lines of an input; after a final 0a there is no further one.
-fn split_lines(input: &[u8]) -> Vec<&[u8]> {
+pub(crate) fn split_lines(input: &[u8]) -> Vec<&[u8]> {
     let mut lines: Vec<&[u8]> = input.split(|&byte| byte == b'\n').collect();
     if lines.last().is_some_and(|last| last.is_empty()) {
         lines.pop();
@@ -42,7 +42,7 @@ fn split_lines(input: &[u8]) -> Vec<&[u8]> {
 }
 
 fn read_line(text: &[u8]) -> Line {
-    let Some(bytes) = from_hex(text) else { return Line::Refused(20) };
+    let Some(bytes) = from_hex(text, MOST_DIGITS) else { return Line::Refused(20) };
     match (bytes.first(), bytes.len()) {
         (Some(0), 13) => Line::Start {
             n: bytes[1],
@@ -57,8 +57,9 @@ fn read_line(text: &[u8]) -> Line {
     }
 }
 
-fn from_hex(text: &[u8]) -> Option<Vec<u8>> {
-    if text.len() % 2 == 1 || text.len() > MOST_DIGITS {
+/// The bytes of a line of at most so many digits; None where 20 refuses it.
+pub(crate) fn from_hex(text: &[u8], most: usize) -> Option<Vec<u8>> {
+    if text.len() % 2 == 1 || text.len() > most {
         return None;
     }
     let digit = |byte: u8| match byte {
@@ -69,7 +70,7 @@ fn from_hex(text: &[u8]) -> Option<Vec<u8>> {
     text.chunks(2).map(|pair| Some(digit(pair[0])? * 16 + digit(pair[1])?)).collect()
 }
 
-fn to_hex(bytes: &[u8]) -> Vec<u8> {
+pub(crate) fn to_hex(bytes: &[u8]) -> Vec<u8> {
     bytes.iter().flat_map(|byte| format!("{byte:02x}").into_bytes()).collect()
 }
 
@@ -293,7 +294,7 @@ pub fn script(seed: u64) -> Vec<u8> {
 }
 
 /// Three or four plans, so that plans meet again; both ends of 64 bits are common.
-fn plans(rng: &mut Rng) -> Vec<u64> {
+pub(crate) fn plans(rng: &mut Rng) -> Vec<u64> {
     let mut all = vec![0, 1, 2, 3, u64::MAX, u64::MAX - 1, 1 << 63, rng.next()];
     shuffle(rng, &mut all);
     all.truncate(3 + rng.below(2) as usize);
@@ -709,11 +710,8 @@ impl Writer {
         for _ in 0..20 {
             let view = self.report_view(carrier);
             let reports = false_reports(&mut self.rng, view, self.plans[0], &self.plans);
-            bytes = frame::write(&Frame::with_reports(kind, sender, view, reports));
-            // The ways of 22 may bring other views and marks, so they come first.
-            for &fault in faults.iter().rev() {
-                self.spoil(&mut bytes, fault);
-            }
+            let frame = Frame::with_reports(kind, sender, view, reports);
+            bytes = spoiled(&mut self.rng, &frame, faults);
             if faults_of(&bytes) == faults {
                 break;
             }
@@ -765,55 +763,7 @@ impl Writer {
     /// One fault of any kind, in a frame with reports.
     fn damage_report(&mut self, bytes: &mut [u8]) {
         let fault = self.rng.pick(&ReportFault::ALL);
-        self.spoil(bytes, fault);
-    }
-
-    /// Brings a fault into a frame with reports.
-    fn spoil(&mut self, bytes: &mut [u8], fault: ReportFault) {
-        let (highest, previous) = (Place::Highest.start(), Place::Previous.start());
-        match fault {
-            ReportFault::Mark(place) => bytes[place.start()] = self.rng.pick(&[2, 128, 255]),
-            ReportFault::Nonzero(place) => {
-                let at = place.start();
-                bytes[at..at + 13].fill(0);
-                bytes[at + 1 + self.rng.below(12) as usize] = 1 << self.rng.below(8);
-            }
-            ReportFault::View(place) => self.raise(bytes, place.start()),
-            ReportFault::WithoutHighest => {
-                bytes[previous] = 1;
-                bytes[highest..highest + 13].fill(0);
-            }
-            ReportFault::NotBelow => self.lift_previous(bytes),
-            // A previous vote that is there already keeps its view.
-            ReportFault::SamePlan => {
-                bytes[highest] = 1;
-                bytes[previous] = 1;
-                bytes.copy_within(highest + 5..highest + 13, previous + 5);
-            }
-        }
-    }
-
-    /// A report of the frame's own view or of a higher one.
-    fn raise(&mut self, bytes: &mut [u8], at: usize) {
-        let ahead = self.rng.pick(&[0, 0, 0, 1, 2, u32::MAX]);
-        let view = frame::number4(&bytes[2..6]).saturating_add(ahead);
-        bytes[at] = 1;
-        bytes[at + 1..at + 5].copy_from_slice(&view.to_be_bytes());
-    }
-
-    /// A previous vote at the highest one's view, or the views of the two exchanged.
-    fn lift_previous(&mut self, bytes: &mut [u8]) {
-        let (highest, previous) = (Place::Highest.start(), Place::Previous.start());
-        if bytes[previous] == 0 {
-            bytes[previous + 12] = !bytes[highest + 12];
-        } else if self.rng.one_in(2) {
-            let (one, other) = bytes.split_at_mut(previous);
-            one[highest + 1..highest + 5].swap_with_slice(&mut other[1..5]);
-            return;
-        }
-        bytes[highest] = 1;
-        bytes[previous] = 1;
-        bytes.copy_within(highest + 1..highest + 5, previous + 1);
+        spoil(&mut self.rng, bytes, fault);
     }
 
     // ----- Lines that are no frames.
@@ -868,6 +818,67 @@ impl Writer {
             _ => {}
         }
     }
+}
+
+// ---------------------------------------------------------------------------------------------
+// Faults in reports.
+
+/// The bytes of a frame with reports, with these faults brought into them.
+pub(crate) fn spoiled(rng: &mut Rng, frame: &Frame, faults: &[ReportFault]) -> Vec<u8> {
+    let mut bytes = frame::write(frame);
+    // The ways of 22 may bring other views and marks, so they come first.
+    for &fault in faults.iter().rev() {
+        spoil(rng, &mut bytes, fault);
+    }
+    bytes
+}
+
+/// Brings a fault into a frame with reports.
+fn spoil(rng: &mut Rng, bytes: &mut [u8], fault: ReportFault) {
+    let (highest, previous) = (Place::Highest.start(), Place::Previous.start());
+    match fault {
+        ReportFault::Mark(place) => bytes[place.start()] = rng.pick(&[2, 128, 255]),
+        ReportFault::Nonzero(place) => {
+            let at = place.start();
+            bytes[at..at + 13].fill(0);
+            bytes[at + 1 + rng.below(12) as usize] = 1 << rng.below(8);
+        }
+        ReportFault::View(place) => raise(rng, bytes, place.start()),
+        ReportFault::WithoutHighest => {
+            bytes[previous] = 1;
+            bytes[highest..highest + 13].fill(0);
+        }
+        ReportFault::NotBelow => lift_previous(rng, bytes),
+        // A previous vote that is there already keeps its view.
+        ReportFault::SamePlan => {
+            bytes[highest] = 1;
+            bytes[previous] = 1;
+            bytes.copy_within(highest + 5..highest + 13, previous + 5);
+        }
+    }
+}
+
+/// A report of the frame's own view or of a higher one.
+fn raise(rng: &mut Rng, bytes: &mut [u8], at: usize) {
+    let ahead = rng.pick(&[0, 0, 0, 1, 2, u32::MAX]);
+    let view = frame::number4(&bytes[2..6]).saturating_add(ahead);
+    bytes[at] = 1;
+    bytes[at + 1..at + 5].copy_from_slice(&view.to_be_bytes());
+}
+
+/// A previous vote at the highest one's view, or the views of the two exchanged.
+fn lift_previous(rng: &mut Rng, bytes: &mut [u8]) {
+    let (highest, previous) = (Place::Highest.start(), Place::Previous.start());
+    if bytes[previous] == 0 {
+        bytes[previous + 12] = !bytes[highest + 12];
+    } else if rng.one_in(2) {
+        let (one, other) = bytes.split_at_mut(previous);
+        one[highest + 1..highest + 5].swap_with_slice(&mut other[1..5]);
+        return;
+    }
+    bytes[highest] = 1;
+    bytes[previous] = 1;
+    bytes.copy_within(highest + 1..highest + 5, previous + 1);
 }
 
 // ---------------------------------------------------------------------------------------------

@@ -122,7 +122,7 @@ pub fn timer_on(record: &mut Record, fault: Fault, view: u32) -> Result<Acts, u8
 
 /// Refusals 9 to 17, with 21 and 22 in their place: the frame is read, then checked against the
 /// record.
-fn check_frame(record: &Record, link: u8, bytes: &[u8]) -> Result<Frame, u8> {
+pub(crate) fn check_frame(record: &Record, link: u8, bytes: &[u8]) -> Result<Frame, u8> {
     let frame = frame::read(bytes, link, record.settings.n, record.settings.id)?;
     // 16: view below current (kind 6: at or below)
     if frame.view < record.view || (frame.kind == VIEW_CHANGE && frame.view == record.view) {

@@ -17,6 +17,10 @@ pub struct Counts {
     pub seen: Seen,
     pub scripts: u64,
     pub lines: u64,
+    /// Scripts of the rehearsal, their lines, and the decisions of vaults that were not declared then.
+    pub rehearsals: u64,
+    pub rehearsed: u64,
+    pub rehearsed_decisions: u64,
     /// By n: runs, those in which some vault decided, those in which all that were started did, and decisions.
     pub runs: [u64; 65],
     pub some_decided: [u64; 65],
@@ -33,6 +37,13 @@ impl Counts {
         add_each(&mut self.seen.steps, &covered.steps);
         add_each(&mut self.seen.refusals, &covered.refusals);
         add_each(&mut self.clauses, &[covered.view_zero, covered.no_lock, covered.one_set, covered.two_sets]);
+    }
+
+    pub fn add_rehearsal(&mut self, covered: &reference::rehearsals::Coverage) {
+        self.rehearsals += covered.scripts;
+        self.rehearsed += covered.lines;
+        let decisions = covered.met.iter().filter(|(name, _)| name.starts_with("decision in "));
+        self.rehearsed_decisions += decisions.map(|(_, count)| count).sum::<u64>();
     }
 }
 

@@ -1,18 +1,9 @@
 //! The Rattle line program against the reference's, on random scripts; and what document 01 and our readings say of its input and output.
-use std::io::{Read, Write};
-use std::process::{Command, Stdio};
-
-use comparison::program::{expected, printed, Input, PROGRAM};
+use comparison::program::PROGRAM;
 use reference::scripts::{cover, script, Coverage};
 
 const SCRIPTS: u64 = 2_500;
 const SEED: u64 = 900_000;
-
-fn same(name: &str, bytes: &[u8]) {
-    let input = Input::new(name, bytes);
-    let printed = printed(&mut Command::new(PROGRAM), &input);
-    assert!(printed == expected(bytes), "{name}:\n{}", String::from_utf8_lossy(bytes));
-}
 
 #[test]
 fn random_scripts_print_the_same() {
@@ -20,7 +11,7 @@ fn random_scripts_print_the_same() {
     let mut sizes = [0u32; 256];
     for seed in SEED..SEED + SCRIPTS {
         let script = script(seed);
-        same(&format!("seed {seed}"), &script);
+        PROGRAM.same(&format!("seed {seed}"), &script);
         cover(&script, &mut coverage);
         for line in script.split(|&byte| byte == b'\n').filter(|line| line.len() == 26 && line.starts_with(b"00")) {
             let n = std::str::from_utf8(&line[2..4]).ok().and_then(|n| u8::from_str_radix(n, 16).ok());
@@ -39,8 +30,7 @@ fn random_scripts_print_the_same() {
 
 #[test]
 fn the_example_prints_its_five_lines() {
-    let input = Input::new("example", include_bytes!("../example.in"));
-    assert_eq!(printed(&mut Command::new(PROGRAM), &input), include_bytes!("../example.out"));
+    assert_eq!(PROGRAM.printed("example", include_bytes!("../example.in")), include_bytes!("../example.out"));
 }
 
 /// Document 02, wish 1, at vault 3 of 4, which does not lead view 4: each line and what is printed for it.
@@ -60,47 +50,27 @@ fn a_bad_report_is_told_by_its_part() {
     ];
     let [said, answers] =
         [talk.clone().map(|(line, _)| line), talk.map(|(_, answer)| answer.into())].map(|lines: [String; 7]| lines.join("\n") + "\n");
-    let input = Input::new("wish 1", said.as_bytes());
-    assert_eq!(String::from_utf8_lossy(&printed(&mut Command::new(PROGRAM), &input)), answers);
+    assert_eq!(String::from_utf8_lossy(&PROGRAM.printed("wish 1", said.as_bytes())), answers);
 }
 
 /// "A line ends at byte 0a or at the input's end; after a final 0a there is no further line, and an empty line is an empty frame."
 #[test]
 fn ends_of_lines_and_of_input() {
     let start = "00040100020000000000000007";
-    let long = "0".repeat(200_000);
-    for text in ["", "\n", "\n\n", "0", "00", "09", start, &format!("{start}\n"), &format!("{start}\n\n"), &format!("{start}\r\n"), &long] {
-        same("ends", text.as_bytes());
-    }
+    PROGRAM.same_at_ends(start, "");
     for digits in 86..96 {
-        same("digits", format!("{start}\n{}\n{}\n", "0".repeat(digits), "8".repeat(digits)).as_bytes());
-    }
-    for byte in 0..=255u8 {
-        same("bytes", &[start.as_bytes(), b"\n0", &[byte], b"\n", &[byte], b"0\n", &[byte]].concat());
+        PROGRAM.same("digits", format!("{start}\n{}\n{}\n", "0".repeat(digits), "8".repeat(digits)).as_bytes());
     }
 }
 
-/// "its output is flushed when the input runs dry": each answer is there before the next line is sent, also where a line comes in pieces.
+/// "its output is flushed when the input runs dry"
 #[test]
 fn answers_come_before_more_input() {
-    let mut child = Command::new(PROGRAM).stdin(Stdio::piped()).stdout(Stdio::piped()).spawn().expect("the program runs");
-    let (mut input, mut output) = (child.stdin.take().unwrap(), child.stdout.take().unwrap());
-    let talk: [(&str, &str); 3] = [
+    PROGRAM.answers_in_turn([
         ("00040100020000000000000007\n", "fe0b0000000000000384\nff0100000000000000000000000007\nff0200000000000000000000000007\n"),
         ("0\n", "fd14\n"),
         ("0900000000\n", "ff060000000001\n"),
-    ];
-    for (said, answer) in talk {
-        for piece in said.as_bytes().chunks(5) {
-            input.write_all(piece).unwrap();
-            input.flush().unwrap();
-        }
-        let mut got = vec![0; answer.len()];
-        output.read_exact(&mut got).unwrap();
-        assert_eq!(got, answer.as_bytes());
-    }
-    drop(input);
-    assert!(child.wait().unwrap().success());
+    ]);
 }
 
 /// 1,000,000 lines in 20 megabytes of address space, the program and its libraries included.
@@ -114,7 +84,6 @@ fn a_long_input_needs_little_memory() {
             _ => text.push('\n'),
         }
     }
-    let input = Input::new("long", text.as_bytes());
-    let limited = printed(Command::new("sh").args(["-c", &format!("ulimit -v 20000; exec {PROGRAM}")]), &input);
-    assert!(limited == expected(text.as_bytes()));
+    let text = text.as_bytes();
+    assert!(PROGRAM.printed_within(20_000, "long", text) == PROGRAM.expected(text));
 }

@@ -40,7 +40,7 @@ fn more_liars_than_f_are_found() {
 /// In a network of 4 and one of 64 the call alone is the script: n - f - 1 votes and settings.
 #[test]
 fn another_byte_in_a_network_is_found() {
-    assert_eq!(finds("3", "other-byte", "difference: ").len(), 4);
+    assert_eq!(finds("4", "other-byte", "difference: ").len(), 4);
     let script = finds("10", "other-byte", "difference: ");
     assert!(script[0].starts_with("call ") && script.len() == 44, "{script:?}");
 }
@@ -58,8 +58,15 @@ fn another_byte_in_lines_is_found() {
     assert!(script[0] == "lines" && script.len() < 12, "{script:?}");
 }
 
+/// Three starts, the proposal at two vaults, each vote of the first three kinds at two others, and two votes more where it is decided.
+#[test]
+fn another_byte_in_a_rehearsal_is_found() {
+    let script = finds("11", "other-byte", "difference: ");
+    assert!(script[0] == "rehearsal" && script.len() == 1 + 3 + 2 + 3 * 3 * 2 + 2, "{script:?}");
+}
+
 #[test]
 fn a_byte_read_too_far_is_found() {
-    let script = finds("3", "overrun", "fault: memory beyond what was lent");
+    let script = finds("4", "overrun", "fault: memory beyond what was lent");
     assert!(script[0].starts_with("call After "), "{script:?}");
 }

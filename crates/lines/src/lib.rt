@@ -144,3 +144,11 @@ pub fn take_line(text: &mut [u8], len: usize, piece: &[u8], from: usize) -> Take
     }
     Taken { len: to, next: i }
 }
+
+// ---- the input, read in pieces
+
+// How reading ended: the input ran dry, with so much kept of a line that has not ended; or it failed, and that line is dropped.
+pub enum Ended {
+    Dry(usize),
+    Failed,
+}

@@ -1,14 +1,15 @@
 // The line program of document 01: a vault driven by lines of hexadecimal digits.
 //
-// What it prints for a whole input is a definition, `programPrints` (crate answers, specs/Lines). The input is read and fed in pieces (crate
-// pieces), and the pages are what `programPrints` says however it is split.
+// What it prints for a whole input is a definition, `programPrints` (crate answers, specs/Lines). The input is read and fed in pieces,
+// and the pages are what `programPrints` says however it is split (`WholeInput`, specs/Steps there).
 // There the proof stops, at the input and output calls: no contract can say what `libc::read` reads and `io::write_all` writes.
+use lines::Ended;
 ghost use mathlib.Core.Path.{_≡_};
 ghost use Prim.Native.Nat.{_≤_};
 ghost use lib.ListN.{length};
-ghost use Rattle.answers.specs.Lines.{keptSize};
+ghost use Rattle.lines.specs.inside.Reading.{EndedWell};
+ghost use Rattle.answers.specs.Lines.{keptSize, vaultLines};
 ghost use Rattle.answers.specs.inside.Sizes.{pageSize};
-ghost use Rattle.vaultlines.specs.inside.Reading.{EndedWell};
 
 // Writes out what is on the page.
 fn flush(page: &[u8], at: usize)
@@ -17,17 +18,11 @@ fn flush(page: &[u8], at: usize)
     io::write_all(libc::STDOUT_FILENO, &page[0..at]);
 }
 
-// How reading ended: the input ran dry, with so much kept of a line that has not ended; or it failed, and that line is dropped.
-enum Ended {
-    Dry(usize),
-    Failed,
-}
-
 // Reads the input, piece by piece; what a piece prints is written out before more is awaited.
 // A proved loop has to end, and nothing says that the input does: the loop counts its turns down, from a number that no run uses up.
 fn read_all(rec: &mut [u8], text: &mut [u8], page: &mut [u8]) -> Ended
     requires { ⌜ (length (now text) ≡ keptSize) × (length (now page) ≡ pageSize) ⌝ }
-    ensures { λ e. ⌜ EndedWell (now (rec .entry)) e (now (rec .exit)) (now (text .exit)) ⌝ }
+    ensures { λ e. ⌜ EndedWell vaultLines keptSize (now (rec .entry)) e (now (rec .exit)) (now (text .exit)) ⌝ }
 {
     let mut piece = [0u8; answers::PIECE];
     let mut len = 0;

@@ -1,11 +1,9 @@
 //! Line scripts: the program's output against the reference's.
-use std::process::Command;
-
 use reference::rng::Rng;
 use reference::scripts::{cover, script, Coverage};
 
 use super::Sabotage;
-use crate::program::{expected, printed, Input, PROGRAM};
+use crate::program::{Program, PROGRAM};
 use crate::stage;
 
 /// In one round.
@@ -17,18 +15,19 @@ pub fn round(mut rng: Rng, sabotage: Sabotage) {
         let script = script(rng.next());
         stage::begin(b"lines\n");
         stage::note(&script);
-        same(&script, sabotage);
+        same(&PROGRAM, &script, sabotage);
         cover(&script, &mut coverage);
     }
     stage::counts().add_scripts(&coverage);
 }
 
-fn same(script: &[u8], sabotage: Sabotage) {
-    let mut printed = printed(&mut Command::new(PROGRAM), &Input::new("soak", script));
+/// The program prints what the reference says.
+pub fn same(program: &Program, script: &[u8], sabotage: Sabotage) {
+    let mut printed = program.printed("soak", script);
     if sabotage == Sabotage::OtherByte {
         change_decision(&mut printed);
     }
-    let expected = expected(script);
+    let expected = program.expected(script);
     if printed != expected {
         let [ours, theirs] = [&printed, &expected].map(|output| String::from_utf8_lossy(output));
         let at = ours.lines().zip(theirs.lines()).take_while(|(one, other)| one == other).count();
@@ -48,5 +47,5 @@ fn change_decision(printed: &mut [u8]) {
 }
 
 pub fn again(lines: &[Vec<u8>], sabotage: Sabotage) {
-    same(&lines.concat(), sabotage);
+    same(&PROGRAM, &lines.concat(), sabotage);
 }

@@ -1,9 +1,10 @@
-//! The library against the reference and the in-place vault for as long as wanted. A round is made from one seed: random calls, line
-//! scripts, or a whole network under an adversary. Each runs in a process of its own, so that a fault of any kind is found as a difference
-//! is; then a script that shows it is made as short as the time allows.
+//! The library against the reference and the in-place vault for as long as wanted. A round is made from one seed: random calls, scripts
+//! of the line program or of the rehearsal, or a whole network under an adversary. Each runs in a process of its own, so that a fault of any
+//! kind is found as a difference is; then a script that shows it is made as short as the time allows.
 mod calls;
 mod lines;
 mod networks;
+mod rehearsals;
 mod report;
 mod shortest;
 
@@ -87,6 +88,7 @@ fn round(seed: u64, sabotage: Sabotage) {
         (Sabotage::OlderRecord | Sabotage::MoreLiars, _) => networks::round(rng, sabotage),
         (_, 0 | 1) => calls::round(rng, sabotage),
         (_, 2) => lines::round(rng, sabotage),
+        (_, 3) => rehearsals::round(rng, sabotage),
         _ => networks::round(rng, sabotage),
     }
 }
@@ -97,6 +99,7 @@ fn again(script: &[Vec<u8>], sabotage: Sabotage) {
     match words[0] {
         "call" => calls::again(&words[1..], &script[1..], sabotage),
         "lines" => lines::again(&script[1..], sabotage),
+        "rehearsal" => rehearsals::again(&script[1..], sabotage),
         "network" => networks::again(&words[1..], &script[1..], sabotage),
         other => panic!("no such script: {other}"),
     }

@@ -12,6 +12,7 @@ pub fn counts(when: &str) {
     let [runs, decisions] = [&counts.runs, &counts.decisions].map(|all| all.iter().sum::<u64>());
     println!("{when}");
     println!("    calls {}, accepted {}; scripts {}, lines {}", seen.calls, seen.accepted, counts.scripts, counts.lines);
+    println!("    rehearsals {}, lines {}, decisions by vaults not declared {}", counts.rehearsals, counts.rehearsed, counts.rehearsed_decisions);
     println!("    runs {runs}, decisions {decisions}; a proposal was safe by view 0, no lock, one set, two sets: {:?}", counts.clauses);
     for sizes in SIZES {
         let [runs, some, all] = [&counts.runs, &counts.some_decided, &counts.all_decided].map(|by_n| by_n[sizes.clone()].iter().sum::<u64>());

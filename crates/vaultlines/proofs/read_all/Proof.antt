@@ -6,17 +6,21 @@ use native.Mathlib.Omega.{arith}
 use denote.Ref.{now}
 use borrow.Author.Needs.{needs}
 use lib.ListN.{length}
-use Rattle.answers.specs.Lines.{keptSize}
-use Rattle.vaultlines.specs.declared.Ended.the-variants.{Dry}
+use Rattle.lines.specs.declared.Ended.the-variants.{Dry}
+use Rattle.lines.specs.inside.Reading.{EndedWell}
+use Rattle.lines.proofs.Reading.{endedNone, endedMore, pieceSmall}
+use Rattle.answers.specs.Lines.{keptSize, vaultLines}
 use Rattle.answers.specs.inside.Sizes.{pageSize, pieceSize}
-use Rattle.vaultlines.specs.inside.Reading.{EndedWell}
-use Rattle.vaultlines.proofs.Reading.{endedNone, endedMore, pieceSmall}
 use Rattle.vaultlines.proofs.read_all.Statement.{statement}
 use Rattle.vaultlines.proofs.read_all.Tie as tie
 
 abbrev Inv-loop : tie.InvT-loop
 Inv-loop rec₀ text₀ page₀ piece₀ len₀ turns₀ rec text page piece len turns =
-    (length rec ≡ length rec₀) × (length text ≡ keptSize) × (length page ≡ pageSize) × (length piece ≡ pieceSize) × EndedWell rec₀ (Dry len) rec text
+    (length rec ≡ length rec₀)
+    × (length text ≡ keptSize)
+    × (length page ≡ pageSize)
+    × (length piece ≡ pieceSize)
+    × EndedWell vaultLines keptSize rec₀ (Dry len) rec text
 
 abbrev μ-loop : tie.MeasureT-loop
 μ-loop rec₀ text₀ page₀ piece₀ len₀ turns₀ rec text page piece len turns = turns
@@ -24,7 +28,7 @@ abbrev μ-loop : tie.MeasureT-loop
 loop-holds : tie.Need-loop-holds Inv-loop μ-loop
 loop-holds c =
     let s = c .before .before .before in
-    (refl, s .pre .0, s .pre .1, search needs, endedNone (now (s .args .rec)) (now (s .args .text)))
+    (refl, s .pre .0, s .pre .1, search needs, endedNone vaultLines keptSize (now (s .args .rec)) (now (s .args .text)))
 
 slice-aggregate-read : tie.Need-slice-aggregate-read Inv-loop μ-loop
 slice-aggregate-read c = search needs
@@ -77,7 +81,7 @@ feed-requires c κs =
     let got = counted .before .before .before .before .before in
     let r = got .read in
     let l = got .before .before .before .loop in
-    (l .inv .1, l .inv .4 .0, l .inv .2, pieceSmall (r .last .1 .0) (counted .count .result - 0) (r .kept .1 .0 ∙ l .inv .3))
+    (l .inv .1, l .inv .4 .0, l .inv .2, pieceSmall pieceSize (r .last .1 .0) (counted .count .result - 0) (r .kept .1 .0 ∙ l .inv .3))
 
 flush-requires : tie.Need-flush-requires Inv-loop μ-loop
 flush-requires c κs =
@@ -106,7 +110,7 @@ loop-again c =
       f .kept .1 .0 ∙ l .inv .1,
       f .kept .1 .1 .1 .0 ∙ l .inv .2,
       r .kept .1 .0 ∙ l .inv .3,
-      endedMore _ (l .rec) (l .text) (l .len) (l .inv .4) _ (f .last .0) (f .last .1 .0) (f .result .len) _ (f .ensures .0) (f .ensures .1 .0),
+      endedMore vaultLines keptSize _ (l .rec) (l .text) (l .len) (l .inv .4) _ (f .last .0) (f .last .1 .0) (f .result .len) _ (f .ensures .0) (f .ensures .1 .0),
     )
 
 same-length-7 : tie.Need-same-length-7 Inv-loop μ-loop

@@ -3,7 +3,8 @@
 use mathlib.Core.Path.{_∙_}
 use denote.Ref.{now}
 use borrow.Author.Needs.{needs}
-use Rattle.vaultlines.proofs.Reading.{dryWithin}
+use Rattle.lines.proofs.Reading.{dryWithin}
+use Rattle.answers.specs.Lines.{keptSize, vaultLines}
 use Rattle.vaultlines.proofs.run.Statement.{statement}
 use Rattle.vaultlines.proofs.run.Tie as tie
 
@@ -37,7 +38,7 @@ finish-requires c κs =
     let s = r .before .before .before .before .before .before .before in
     let k = r .read-all in (
       k .kept .1 .0 ∙ s .pre .0,
-      dryWithin (now (s .args .rec)) (k .last .0) (k .last .1 .0) (k .result) (g .0 .0) (g .1) (k .ensures),
+      dryWithin vaultLines keptSize (now (s .args .rec)) (k .last .0) (k .last .1 .0) (k .result) (g .0 .0) (g .1) (k .ensures),
       k .kept .1 .1 .0 ∙ s .pre .1,
     )
 

@@ -1,2 +1,0 @@
--- What inner functions promise each other, and what proofs go by. Nothing in these files has to be believed.
-pub mod Reading
