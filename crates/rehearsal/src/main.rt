@@ -58,6 +58,7 @@ fn run(stage: &mut [u8], text: &mut [u8], page: &mut [u8])
     flush(page, at);
 }
 
+// The stage is empty at first: all is zero (`emptyStage`, crate stage).
 fn main() {
     let mut stage = [0u8; stage::places::SIZE];
     let mut text = [0u8; obey::KEPT];

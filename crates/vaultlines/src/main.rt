@@ -56,6 +56,7 @@ fn run(rec: &mut [u8], text: &mut [u8], page: &mut [u8])
     flush(page, at);
 }
 
+// The record is blank at first: all is zero (`blankRecord`, crate answers).
 fn main() {
     let mut rec = [0u8; record::SIZE];
     let mut text = [0u8; answers::KEPT];
