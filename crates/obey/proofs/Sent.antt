@@ -44,9 +44,9 @@ unfolding headOf
 lostHead k to full = rw (eq-eqb k placeCount full) refl
 
 -- Else fc, the number and the recipient byte.
-pub waitsHead : (k to : ℕ) → (k ≡ placeCount → ⊥) → 252 ∷ k ∷ to ∷ [] ≡ headOf k to
+pub waitsHead : (k to : ℕ) → k < placeCount → 252 ∷ k ∷ to ∷ [] ≡ headOf k to
 unfolding headOf
-waitsHead k to free = rw (ne-eqb k placeCount free) refl
+waitsHead k to below = rw (ne-eqb k placeCount (λ (e : k ≡ placeCount). absurd (omega arith))) refl
 
 -- It has at most three bytes.
 pub headShort : (k to : ℕ) → length (headOf k to) ≤ 3
@@ -74,18 +74,18 @@ module _ (s page : List ℕ) (at k : ℕ) (way : Way) (frame : List ℕ) (is : k
       subst (λ (d : Done). DoneAt d page at s page₂ next) does (record { stage = refl; lines = shows })
 
   -- 'led by fc and its number'
-  pub waitsDone : (k ≡ placeCount → ⊥) → (s′ page₁ : List ℕ) (mid : ℕ) (page₂ : List ℕ) (next : ℕ)
+  pub waitsDone : k < placeCount → (s′ page₁ : List ℕ) (mid : ℕ) (page₂ : List ℕ) (next : ℕ)
       → OnPage (digitsOf (headOf k (way .to))) page at page₁ mid → OnPage (lineOf frame) page₁ mid page₂ next
       → s′ ≡ withWaiting s k (onWay way frame) → DoneAt (sent s (onWay way frame)) page at s′ page₂ next
   unfolding sentTo
-  waitsDone free s′ page₁ mid page₂ next head rest put =
+  waitsDone below s′ page₁ mid page₂ next head rest put =
       let line : List ℕ = lineOf (252 ∷ k ∷ way .to ∷ frame) in
       let there : List ℕ = withWaiting s k (onWay way frame) in
-      let waits : sentTo s (onWay way frame) k ≡ record { stage = there; shown = line } = rw (ne-eqb k placeCount free) refl in
+      let waits : sentTo s (onWay way frame) k ≡ record { stage = there; shown = line } = rw (ne-eqb k placeCount (λ (e : k ≡ placeCount). absurd (omega arith))) refl in
       let does : record { stage = there; shown = line } ≡ sent s (onWay way frame) = sym waits ∙ ap (sentTo s (onWay way frame)) is in
       let whole : OnPage (lineOf (headOf k (way .to) ++ frame)) page at page₂ next =
       lineJoined (headOf k (way .to)) frame page at page₁ mid page₂ next room head rest in
-      let shows : OnPage line page at page₂ next = subst (λ (h : List ℕ). OnPage (lineOf (h ++ frame)) page at page₂ next) (sym (waitsHead k (way .to) free)) whole in
+      let shows : OnPage line page at page₂ next = subst (λ (h : List ℕ). OnPage (lineOf (h ++ frame)) page at page₂ next) (sym (waitsHead k (way .to) below)) whole in
       subst (λ (d : Done). DoneAt d page at s′ page₂ next) does (record { stage = put; lines = shows })
 
 -- A frame's line has two bytes or three more than the frame.

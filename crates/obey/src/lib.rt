@@ -104,10 +104,10 @@ fn put_head(page: &mut [u8], at: usize, k: usize, to: u8) -> usize
     requires { ⌜ (k ≤ placeCount) × (at + 6 ≤ length (now page)) ⌝ }
     ensures { λ r. ⌜ OnPage (digitsOf (headOf k to)) (now (page .entry)) at (now (page .exit)) r ⌝ }
 {
-    if k == places::PLACES {
-        return lines::put_digits(page, at, &[LOST, to]);
+    if k < places::PLACES {
+        return lines::put_digits(page, at, &[WAITS, k as u8, to]);
     }
-    lines::put_digits(page, at, &[WAITS, k as u8, to])
+    lines::put_digits(page, at, &[LOST, to])
 }
 
 // A new frame takes the smallest free number, or is lost; its line is put on the page.

@@ -36,9 +36,9 @@ use Rattle.runs.proofs.Demand.{demand3Fixed}
 use Rattle.answers.specs.Lines.{zeroed, blankRecord}
 use Rattle.lines.specs.Lines.{after}
 use Rattle.stage.proofs.Apart.{liarRecord, liarWaiting}
-use Rattle.stage.specs.Stage.{emptyStage, recordOf, liarIn, Waiting}
+use Rattle.stage.specs.Stage.{isLiar, emptyStage, recordOf, liarIn, Waiting}
 use Rattle.stage.specs.Lines.{Meant, refuse, call, free, declare, makeUp, lineMeant, done, rehearsal}
-use Rattle.rehearsed.specs.Agrees.{wroteAt, writtenAt, RehearsalAgrees}
+use Rattle.rehearsed.specs.Agrees.{wroteAt, writtenAt, Undeclared, RehearsalAgrees}
 use Rattle.rehearsed.proofs.Means.{CallWell, byStart, byFrame, byTimer, MeantWell, meantWell}
 use Rattle.rehearsed.proofs.Sent.{Waits, OfAll, sentStays}
 use Rattle.rehearsed.proofs.Calls.{Accepts, comes, suggestHere}
@@ -301,10 +301,13 @@ pub rehearsalAgrees : RehearsalAgrees
 unfolding recordAt c setting
 rehearsalAgrees texts i j p q notI notJ (v, a) (w, b) =
     demand3Fixed (setting liar) (f .items) (f .run) .agreement i j p q
-    (v, f .new i (ap not notI) (Decision v p) a) (w, f .new j (ap not notJ) (Decision w q) b)
+    (v, f .new i (keeps i notI) (Decision v p) a) (w, f .new j (keeps j notJ) (Decision w q) b)
   where
     liar : ℕ
     liar = liarIn (after rehearsal emptyStage texts)
+
+    keeps : (k : ℕ) → Undeclared texts k → not (eqb liar (suc k)) ≡ true
+    keeps k other = let lies : isLiar (after rehearsal emptyStage texts) k ≡ false = other in ap not lies
 
     tied : Tied liar emptyStage []
     tied = record { run = nothingYet; same = λ v low keeps. sym (blankAt v low); told = nothingWaits (Told liar []) }

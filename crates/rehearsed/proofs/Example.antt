@@ -28,7 +28,7 @@ use Rattle.contents.specs.Left.{wrote}
 use Rattle.runs.specs.Runs.{ByteCall, start, frame}
 use Rattle.runs.specs.Fixed.{leaves}
 use Rattle.runs.proofs.Carry.{said, saidFrame}
-use Rattle.rehearsed.specs.Example.{input, started as startLines, delivered as deliveryLines, Document}
+use Rattle.rehearsed.specs.Example.{input, Document}
 use Rattle.rehearsed.proofs.Calls.{Holds}
 use Rattle.rehearsed.proofs.Staged.{blankAt, blankHeld, noneAtFirst}
 use Rattle.frame.proofs.Theorems.{encodedBytes}
@@ -244,7 +244,8 @@ fifth =
 
 -- What is printed, line by line, is the text.
 printsAll : shownFrom 0 (begun 0 .wrote) ++ (shownFrom 2 (begun 1 .wrote) ++ (shownFrom 2 (voted .wrote) ++ (refusalLine 17 ++ (refusalLine 11 ++ []))))
-    ≡ text startLines ++ text deliveryLines
+    ≡ text "fe0b0000000000000384\nfc00ff0100000000000000000000000007\nfc01ff0200000000000000000000000007\nfe0b0000000000000384\n"
+    ++ text "fc02ff0201000000000000000000000007\nfd11\nfd0b\n"
 unfolding delayOf answer started keep heard pass stepA stepB stepC stepD stepVote stepH does writes agreed highest safe choice anyBelow weigh isQuorum
     isBlocking within lengthOf entryBytes encode digits lineOf digitOf shownFrom
 printsAll = refl

@@ -13,38 +13,38 @@ use Rattle.record.proofs.Bytes.{bytePart}
 use Rattle.wire.proofs.Output.{placedOne}
 use Rattle.stage.specs.Stage.{stageSize, part, liarPlace, liarIn, withLiar}
 
--- a byte of a part is the byte of the stage, so much further on
+-- A byte of a part is the byte of the stage, so much further on.
 pub partGet : (at n i : ℕ) (s : List ℕ) → i < n → getD (part at n s) i 0 ≡ getD s (at + i) 0
 unfolding part
 partGet at n i s h = bytePart at n s i h
 
--- a part that lies on the stage is as long as it says
+-- A part that lies on the stage is as long as it says.
 pub lengthPart : (at n : ℕ) (s : List ℕ) → at + n ≤ length s → length (part at n s) ≡ n
 unfolding part
 lengthPart at n s h = length-take-le n (drop at s) (rw length-drop (omega arith))
 
--- a part as the code lends it, `&s[at..at + n]`
+-- A part as the code lends it, `&s[at..at + n]`.
 pub partLent : (at n : ℕ) (s : List ℕ) → take (at + n - at) (drop at s) ≡ part at n s
 unfolding part
 partLent at n s = let size : at + n - at ≡ n = omega arith in rw size
 
--- what is left of the first bytes, without some
+-- What is left of the first bytes, without some.
 dropTake : (m n : ℕ) (l : List ℕ) → drop m (take (m + n) l) ≡ take n (drop m l)
 dropTake zero n l = rw zero-add
 dropTake (suc m) n [] = rw (take-nil (suc m + n), take-nil n)
 dropTake (suc m) n (x ∷ l) = rw suc-add (dropTake m n l)
 
--- what lies behind the first bytes of a part is a part
+-- What lies behind the first bytes of a part is a part.
 pub dropPart : (at m n : ℕ) (s : List ℕ) → drop m (part at (m + n) s) ≡ part (at + m) n s
 unfolding part
 dropPart at m n s = dropTake m n (drop at s) ∙ ap (take n) (drop-drop m at s)
 
 -- ---- the liar
 
--- the liar's byte is the one behind the places
+-- The liar's byte is the one behind the places.
 pub liarByte : (s : List ℕ) → liarIn s ≡ getD s liarPlace 0
 liarByte s = partGet liarPlace 1 0 s (omega arith)
 
--- one byte stored behind the places declares a vault
+-- One byte stored behind the places declares a vault.
 pub liarStored : (s : List ℕ) (v : ℕ) → length s ≡ stageSize → set s liarPlace (v + 1) ≡ withLiar s v
 liarStored s v e = rw add-one (placedOne s liarPlace (suc v) (omega arith))

@@ -20,27 +20,27 @@ use Rattle.stage.specs.inside.Parts.{Formed, Named}
 -- ---- the length that a kind asks
 
 module _ (kind size : ℕ) where
-  -- '00 start (vault, class, plan)': 11 bytes
+  -- '00 start (vault, class, plan)': 11 bytes.
   pub startLength : kind ≡ 0 → wrongLength kind size ≡ not (eqb size 11)
   unfolding wrongLength
   startLength e = rw e
 
-  -- '01 deliver (frame number, vault)': 3 bytes
+  -- '01 deliver (frame number, vault)': 3 bytes.
   pub deliverLength : kind ≡ 1 → wrongLength kind size ≡ not (eqb size 3)
   unfolding wrongLength
   deliverLength e = rw e
 
-  -- '(vault declared, then 0 to 45 bytes)': 2 to 47 bytes
+  -- '(vault declared, then 0 to 45 bytes)': 2 to 47 bytes.
   pub makeUpLength : kind ≡ 4 → wrongLength kind size ≡ not (within 2 47 size)
   unfolding wrongLength
   makeUpLength e = rw e
 
-  -- the other kinds name one thing: 2 bytes
+  -- The other kinds name one thing: 2 bytes.
   pub nameLength : (kind ≡ 0 → ⊥) → (kind ≡ 1 → ⊥) → (kind ≡ 4 → ⊥) → wrongLength kind size ≡ not (eqb size 2)
   unfolding wrongLength
   nameLength start deliver makeUp = rw (ne-eqb kind 4 makeUp, ne-eqb kind 0 start, ne-eqb kind 1 deliver)
 
-  -- a length that is right for its kind is at least 2
+  -- A length that is right for its kind is at least 2.
   rightTwo : wrongLength kind size ≡ false → 2 ≤ size
   rightTwo e =
       elim (ℕ-discrete kind 4) [
@@ -54,7 +54,7 @@ module _ (kind size : ℕ) where
         ]
       ]
 
--- above the least length only the most is left to test
+-- Above the least length only the most is left to test.
 pub aboveMost : (size : ℕ) → 2 ≤ size → ltb 47 size ≡ not (within 2 47 size)
 aboveMost size low =
     elim (decLe size 47) [
@@ -64,43 +64,43 @@ aboveMost size low =
 
 -- ---- a line that passes 9 and 10
 
--- it has a byte behind its kind
+-- It has a byte behind its kind.
 pub formedTwo : {b : List ℕ} → Formed b → 2 ≤ length b
 formedTwo {b} f = rightTwo (kindOf b) (length b) (f .size)
 
--- a start is 11 bytes long
+-- A start is 11 bytes long.
 pub formedStart : {b : List ℕ} → Formed b → kindOf b ≡ 0 → length b ≡ 11
 formedStart {b} f e = eqb-true (length b) 11 (not-false _ (told (startLength (kindOf b) (length b) e) (f .size)))
 
--- a delivery is 3 bytes long
+-- A delivery is 3 bytes long.
 pub formedDeliver : {b : List ℕ} → Formed b → kindOf b ≡ 1 → length b ≡ 3
 formedDeliver {b} f e = eqb-true (length b) 3 (not-false _ (told (deliverLength (kindOf b) (length b) e) (f .size)))
 
--- a frame that is made up has at most 45 bytes
+-- A frame that is made up has at most 45 bytes.
 pub formedMakeUp : {b : List ℕ} → Formed b → kindOf b ≡ 4 → length b ≤ 47
 formedMakeUp {b} f e = bounds 2 47 (length b) (not-false _ (told (makeUpLength (kindOf b) (length b) e) (f .size))) .1
 
--- the tests that it passed
+-- The tests that it passed.
 pub formed : (b : List ℕ) → (length b ≡ 0 → ⊥) → kindOf b ≤ 5 → wrongLength (kindOf b) (length b) ≡ false → Formed b
 formed b there kind size = record { there = omega (arith, there); kind = kind; size = size }
 
 -- ---- a line that is not refused
 
 module _ (s b : List ℕ) (e : first (lineRows s b) ≡ 0) where
-  -- none of the rows is given
+  -- None of the rows is given.
   passed : ((eqb (length b) 0 || ltb 5 (kindOf b)) ≡ false) × (wrongLength (kindOf b) (length b) ≡ false) × (misnamed s b ≡ false)
   passed =
       let nine = none (eqb (length b) 0 || ltb 5 (kindOf b)) 9 _ (omega arith) e in
       let ten = none (wrongLength (kindOf b) (length b)) 10 _ (omega arith) (nine .1) in
       (nine .0, ten .0, none (misnamed s b) 23 _ (omega arith) (ten .1) .0)
 
-  -- it passes 9 and 10
+  -- It passes 9 and 10.
   pub acceptedFormed : Formed b
   acceptedFormed =
       let nine = neither (eqb (length b) 0) (ltb 5 (kindOf b)) (passed .0) in
       formed b (eqb-false (length b) 0 (nine .0)) (ltb-false 5 (kindOf b) (nine .1)) (passed .1)
 
-  -- it names a vault of the stage, but for 02, which names none
+  -- It names a vault of the stage, but for 02, which names none.
   pub acceptedNamed : (kindOf b ≡ 2 → ⊥) → Named b
   unfolding misnamed
   acceptedNamed g =

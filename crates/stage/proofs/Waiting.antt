@@ -25,34 +25,34 @@ use Rattle.stage.proofs.Part.{partGet, lengthPart, dropPart}
 
 -- ---- what is read at a place
 
--- no frame waits where the place's first byte is 0
+-- No frame waits where the place's first byte is 0.
 pub freeByte : (s : List ℕ) (k : ℕ) → isFree s k ≡ eqb (getD s (placeOf k) 0) 0
 unfolding isFree
 freeByte s k = rw (partGet (placeOf k) placeSize 0 s (omega arith), add-zero)
 
--- the second byte is the writer
+-- The second byte is the writer.
 pub writerByte : (s : List ℕ) (k : ℕ) → waitingNow s k .writer ≡ getD s (placeOf k + 1) 0
 unfolding waitingIn
 writerByte s k = partGet (placeOf k) placeSize 1 s (omega arith)
 
 -- ---- how long a frame is
 
--- no byte where the place's first byte is 0
+-- No byte where the place's first byte is 0.
 pub heldNone : (mark : ℕ) → mark ≡ 0 → 0 ≡ heldLength mark
 unfolding heldLength
 heldNone mark e = rw e
 
--- no more than the place has room for
+-- No more than the place has room for.
 pub heldMost : (mark : ℕ) → frameMost < mark - 1 → frameMost ≡ heldLength mark
 unfolding heldLength
 heldMost mark h = rw (lt-ltb 46 mark (omega arith))
 
--- else one less than the place's first byte
+-- Else one less than the place's first byte.
 pub heldRest : (mark : ℕ) → mark - 1 ≤ frameMost → mark - 1 ≡ heldLength mark
 unfolding heldLength
 heldRest mark h = rw (le-ltb 46 mark (omega arith))
 
--- bytes of which a place has room for 45 only
+-- Bytes of which a place has room for 45 only.
 heldWithin : (mark : ℕ) (l : List ℕ) → frameMost ≤ length l → take (mark - 1) (take frameMost l) ≡ take (heldLength mark) l
 heldWithin mark l room =
     elim (decLe (mark - 1) frameMost) [
@@ -61,7 +61,7 @@ heldWithin mark l room =
           rw (← heldMost mark (omega arith)) (take-all (mark - 1) (take frameMost l) all)
     ]
 
--- the frame of a place is as many bytes, from the fourth on, as its first byte says, and no more than the place has
+-- The frame of a place is as many bytes, from the fourth on, as its first byte says, and no more than the place has.
 pub frameBytes : (s : List ℕ) (k : ℕ) → placeOf k + placeSize ≤ length s
     → waitingNow s k .bytes ≡ take (heldLength (getD s (placeOf k) 0)) (drop (placeOf k + 3) s)
 unfolding waitingIn part
@@ -73,11 +73,11 @@ frameBytes s k h =
 
 -- ---- bytes copied
 
--- a copy into bytes that may be longer: it begins with what was copied
+-- A copy into bytes that may be longer: it begins with what was copied.
 pub takeCopied : (a o o′ : List ℕ) (r : ℕ) → r ≡ length a → o′ ≡ take (length a) a ++ drop (length a) o → take r o′ ≡ a
 takeCopied a o o′ r n e = rw (n, e, take-all (length a) a (omega arith)) (take-at a (drop (length a) o) (length a) refl)
 
--- so a copy of the bytes that a place holds is its frame
+-- So a copy of the bytes that a place holds is its frame.
 pub frameCopied : (s a o o′ : List ℕ) (k len r : ℕ) → placeOf k + placeSize ≤ length s → (len ≡ heldLength (getD s (placeOf k) 0)) × (len ≤ frameMost)
     → a ≡ part (placeOf k + 3) len s → r ≡ length a → o′ ≡ take (length a) a ++ drop (length a) o
     → (take r o′ ≡ waitingNow s k .bytes) × (r ≤ frameMost)
@@ -88,7 +88,7 @@ frameCopied s a o o′ k len r room (held, few) is n e =
       omega (arith, ap length is),
     )
 
--- a copy into the rest behind a place that was lent and given back: the bytes are put at that place
+-- A copy into the rest behind a place that was lent and given back: the bytes are put at that place.
 pub copiedBehind : (o a o′ : List ℕ) (at : ℕ) → at + length a ≤ length o
     → o′ ≡ take (length a) a ++ drop (length a) (take (length o - at) (drop at o))
     → take at o ++ (o′ ++ drop (length o - at) (drop at o)) ≡ placed o at a
@@ -102,11 +102,11 @@ copiedBehind o a o′ at room e =
 
 -- ---- what is stored at a place
 
--- 'a dropped one frees its number': one byte stored
+-- 'a dropped one frees its number': one byte stored.
 pub freeStored : (s : List ℕ) (k : ℕ) → placeOf k < length s → set s (placeOf k) 0 ≡ withFree s k
 freeStored s k h = placedOne s (placeOf k) 0 h
 
--- three bytes stored, and the frame put behind them
+-- Three bytes stored, and the frame put behind them.
 pub waitingStored : (s : List ℕ) (at writer to : ℕ) (a : List ℕ) → at + 3 ≤ length s
     → placed (set (set (set s at (length a + 1)) (at + 1) writer) (at + 2) to) (at + 3) a ≡ placed s at (suc (length a) ∷ writer ∷ to ∷ a)
 waitingStored s at writer to a h =
@@ -125,24 +125,24 @@ waitingStored s at writer to a h =
 
 -- ---- the smallest free number
 
--- of no numbers it is the one behind them
+-- Of no numbers it is the one behind them.
 freeNone : (s : List ℕ) (k more : ℕ) → more ≡ 0 → freeFrom s k more ≡ k
 unfolding freeFrom
-freeNone s k more e = rw e
+freeNone s k more e = ap (freeFrom s k) e
 
--- it is the first of some numbers, where that is free
+-- It is the first of some numbers, where that is free.
 freeHere : (s : List ℕ) (k more : ℕ) → 0 < more → isFree s k ≡ true → freeFrom s k more ≡ k
 unfolding freeFrom
 freeHere s k zero h e = absurd (omega arith)
-freeHere s k (suc more) h e = rw e
+freeHere s k (suc more) h e = ap (λ (b : Bool). cond b k (freeFrom s (suc k) more)) e
 
--- else it is the smallest of the others
+-- Else it is the smallest of the others.
 freeBehind : (s : List ℕ) (k more : ℕ) → 0 < more → isFree s k ≡ false → freeFrom s k more ≡ freeFrom s (suc k) (more - 1)
 unfolding freeFrom
 freeBehind s k zero h e = absurd (omega arith)
 freeBehind s k (suc more) h e = rw (e, sub-one)
 
--- no frame waits at the number found
+-- No frame waits at the number found.
 foundFree : (s : List ℕ) (k more : ℕ) → freeFrom s k more < k + more → isFree s (freeFrom s k more) ≡ true
 unfolding freeFrom
 foundFree s k zero h = absurd (omega arith)
@@ -154,7 +154,7 @@ foundFree s k (suc more) h = go (isFree s k) refl h (λ g. foundFree s (suc k) m
     go true e g later = e
     go false e g later = later (omega arith)
 
--- a frame waits at each number before it
+-- A frame waits at each number before it.
 smallerTaken : (s : List ℕ) (k more j : ℕ) → k ≤ j → j < freeFrom s k more → isFree s j ≡ false
 unfolding freeFrom
 smallerTaken s k zero j low h = absurd (omega arith)
@@ -166,7 +166,7 @@ smallerTaken s k (suc more) j low h = go (isFree s k) refl h (λ g i. smallerTak
     go false e g later =
         elim (ℕ-discrete k j) [ yes same ↦ subst (λ (n : ℕ). isFree s n ≡ false) same e | no other ↦ later (omega arith) g ]
 
--- it is no further than the numbers go
+-- It is no further than the numbers go.
 foundWithin : (s : List ℕ) (k more : ℕ) → freeFrom s k more ≤ k + more
 unfolding freeFrom
 foundWithin s k zero = omega arith
@@ -187,20 +187,20 @@ smallestFree =
 
 -- ---- the search
 
--- the search has come to number k: the smallest free number from there on is the smallest of all
+-- The search has come to number k: the smallest free number from there on is the smallest of all.
 pub record SearchedTo (s : List ℕ) (k : ℕ) : Type 0 where
   pub low : k ≤ placeCount
   pub left : freeFrom s k (placeCount - k) ≡ firstFree s
 
--- at the start nothing is searched
+-- At the start nothing is searched.
 pub searchedNone : (s : List ℕ) → SearchedTo s 0
 searchedNone s = record { low = omega arith; left = refl }
 
--- the search ends at a free number
+-- The search ends at a free number.
 pub searchedFree : (s : List ℕ) (k : ℕ) → SearchedTo s k → k < placeCount → isFree s k ≡ true → k ≡ firstFree s
 searchedFree s k h less e = sym (freeHere s k (placeCount - k) (omega arith) e) ∙ h .left
 
--- a number that is not free is passed
+-- A number that is not free is passed.
 pub searchedMore : (s : List ℕ) (k : ℕ) → SearchedTo s k → k < placeCount → isFree s k ≡ false → SearchedTo s (k + 1)
 searchedMore s k h less e =
     let n : placeCount - k - 1 ≡ placeCount - suc k = omega arith in
@@ -209,7 +209,7 @@ searchedMore s k h less e =
       left = rw (add-one, ← n, ← freeBehind s k (placeCount - k) (omega arith) e) (h .left);
     }
 
--- 'where 256 wait' none is free
+-- 'where 256 wait' none is free.
 pub searchedAll : (s : List ℕ) (k : ℕ) → SearchedTo s k → placeCount ≤ k → k ≡ firstFree s
 searchedAll s k h all =
     let n : placeCount - k ≡ 0 = omega arith in

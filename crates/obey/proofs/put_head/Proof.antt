@@ -1,14 +1,18 @@
 -- `obey::put_head` meets its contract: 'led by fc and its number, or by fb where 256 wait and it is lost'.
 -- Assumes nothing.
-use Prim.Native.Nat.{ℕ}
+use Prim.Native.Nat.{ℕ, _≤_, _<_}
 use mathlib.Core.Path.{subst}
 use mathlib.Core.List.{List}
+use native.Mathlib.Omega.{arith}
 use denote.Ref.{now}
 use borrow.Author.Needs.{needs}
 use Rattle.lines.specs.inside.Steps.{digitsOf, OnPage}
 use Rattle.obey.proofs.Sent.{lostHead, waitsHead}
 use Rattle.obey.proofs.put_head.Statement.{statement}
 use Rattle.obey.proofs.put_head.Tie as tie
+
+cast-t9 : tie.Need-cast-t9
+cast-t9 c = search needs
 
 slice-aggregate-put-digits : tie.Need-slice-aggregate-put-digits
 slice-aggregate-put-digits c = search needs
@@ -24,10 +28,8 @@ returns c =
     let d = c .before .before .put-digits in
     let t = c .before .before .before .before .before in
     let a = t .before .before .args in
-    subst (λ (h : List ℕ). OnPage (digitsOf h) (now (a .page)) (a .at) (d .last .0) (d .result)) (lostHead (a .k) (a .to) (t .if1 .taken)) (d .ensures)
-
-cast-t14 : tie.Need-cast-t14
-cast-t14 c = search needs
+    let below : a .k < 256 = omega (arith, t .if1 .taken) in
+    subst (λ (h : List ℕ). OnPage (digitsOf h) (now (a .page)) (a .at) (d .last .0) (d .result)) (waitsHead (a .k) (a .to) below) (d .ensures)
 
 slice-aggregate-put-digits-2 : tie.Need-slice-aggregate-put-digits-2
 slice-aggregate-put-digits-2 c = search needs
@@ -42,18 +44,21 @@ returns-2 : tie.Need-returns-2
 returns-2 c =
     let d = c .before .before .put-digits2 in
     let t = c .before .before .before .before .before in
-    let a = t .before .before .args in
-    subst (λ (h : List ℕ). OnPage (digitsOf h) (now (a .page)) (a .at) (d .last .0) (d .result)) (waitsHead (a .k) (a .to) (t .if1 .left)) (d .ensures)
+    let e = t .before .before in
+    let a = e .args in
+    let most : 256 ≤ a .k = omega (arith, t .if1 .left) in
+    subst (λ (h : List ℕ). OnPage (digitsOf h) (now (a .page)) (a .at) (d .last .0) (d .result)) (lostHead (a .k) (a .to) (omega (arith, e .pre .0)))
+    (d .ensures)
 
 pub put-head-spec : {M : Type 1} → statement M
 put-head-spec =
     tie.close
     (tie.spec
+    cast-t9
     slice-aggregate-put-digits
     put-digits-requires
     same-length
     returns
-    cast-t14
     slice-aggregate-put-digits-2
     put-digits-requires-2
     same-length-2

@@ -56,7 +56,7 @@ returns-2 c =
     let k = d .before .before .first-free in
     let e = d .before .before .before .before .before .before .before in
     let a = e .args in
-    waitsDone (now (a .stage)) (now (a .page)) (a .at) (k .result) (a .way) (now (a .frame)) (k .ensures .0) (omega (arith, e .pre .2)) (t .if1 .left)
+    waitsDone (now (a .stage)) (now (a .page)) (a .at) (k .result) (a .way) (now (a .frame)) (k .ensures .0) (omega (arith, e .pre .2)) (omega (arith, k .ensures .1, t .if1 .left))
     (w .put-waiting .last .0) (d .put-head .last .0) (d .put-head .result) (l .put-line .last .0) (l .put-line .result)
     (d .put-head .ensures) (l .put-line .ensures) (w .put-waiting .ensures)
 
