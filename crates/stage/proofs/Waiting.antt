@@ -187,30 +187,31 @@ smallestFree =
 
 -- ---- the search
 
--- The search has come to number k: the smallest free number from there on is the smallest of all.
-pub record SearchedTo (s : List ℕ) (k : ℕ) : Type 0 where
-  pub low : k ≤ placeCount
-  pub left : freeFrom s k (placeCount - k) ≡ firstFree s
+-- So many numbers are left to look at: the smallest free one of them is the smallest of all.
+pub record SearchedTo (s : List ℕ) (left : ℕ) : Type 0 where
+  pub most : left ≤ placeCount
+  pub same : freeFrom s (placeCount - left) left ≡ firstFree s
 
--- At the start nothing is searched.
-pub searchedNone : (s : List ℕ) → SearchedTo s 0
-searchedNone s = record { low = omega arith; left = refl }
+-- At the start all are left.
+pub searchedNone : (s : List ℕ) → SearchedTo s placeCount
+searchedNone s = record { most = omega arith; same = refl }
 
 -- The search ends at a free number.
-pub searchedFree : (s : List ℕ) (k : ℕ) → SearchedTo s k → k < placeCount → isFree s k ≡ true → k ≡ firstFree s
-searchedFree s k h less e = sym (freeHere s k (placeCount - k) (omega arith) e) ∙ h .left
+pub searchedFree : (s : List ℕ) (left k : ℕ) → SearchedTo s left → 0 < left → k ≡ placeCount - left → isFree s k ≡ true → k ≡ firstFree s
+searchedFree s left k h more is e = sym (freeHere s k left more e) ∙ ap (λ (j : ℕ). freeFrom s j left) is ∙ h .same
 
 -- A number that is not free is passed.
-pub searchedMore : (s : List ℕ) (k : ℕ) → SearchedTo s k → k < placeCount → isFree s k ≡ false → SearchedTo s (k + 1)
-searchedMore s k h less e =
-    let n : placeCount - k - 1 ≡ placeCount - suc k = omega arith in
+pub searchedMore : (s : List ℕ) (left k : ℕ) → SearchedTo s left → 0 < left → k ≡ placeCount - left → isFree s k ≡ false → SearchedTo s (left - 1)
+searchedMore s left k h more is e =
+    let next : placeCount - (left - 1) ≡ suc k = omega (arith, h .most) in
     record {
-      low = omega arith;
-      left = rw (add-one, ← n, ← freeBehind s k (placeCount - k) (omega arith) e) (h .left);
+      most = omega (arith, h .most);
+      same = ap (λ (j : ℕ). freeFrom s j (left - 1)) next ∙ sym (freeBehind s k left more e) ∙ ap (λ (j : ℕ). freeFrom s j left) is ∙ h .same;
     }
 
 -- 'where 256 wait' none is free.
-pub searchedAll : (s : List ℕ) (k : ℕ) → SearchedTo s k → placeCount ≤ k → k ≡ firstFree s
-searchedAll s k h all =
-    let n : placeCount - k ≡ 0 = omega arith in
-    sym (freeNone s k (placeCount - k) n) ∙ h .left
+pub searchedAll : (s : List ℕ) (left : ℕ) → SearchedTo s left → left ≤ 0 → placeCount ≡ firstFree s
+searchedAll s left h all =
+    let none-left : left ≡ 0 = omega arith in
+    let behind : placeCount - left ≡ placeCount = omega arith in
+    sym behind ∙ sym (freeNone s (placeCount - left) left none-left) ∙ h .same

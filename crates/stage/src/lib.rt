@@ -3,11 +3,10 @@
 // What a line does to the stage and prints is a definition, `rehearsal` (specs/Lines). Crate obey obeys it.
 use frame::numbers;
 ghost use mathlib.Core.Path.{_≡_};
-ghost use lib.ListN.{length};
+ghost use lib.ListN.{length, getD};
 ghost use Rattle.frame.specs.Refusal.{first};
 ghost use Rattle.stage.specs.Stage.{stageSize};
 ghost use Rattle.stage.specs.Lines.{vaultIn, wrongLength, noVault, noFrame, secondLiar, notLiar, misnamed, lineRows};
-ghost use Rattle.stage.specs.inside.Parts.{Formed};
 
 pub mod places;
 
@@ -67,23 +66,31 @@ fn wrong_length(kind: u8, size: usize) -> bool
     }
 }
 
+// Byte i of a line; 0 where it has none.
+fn byte_at(bytes: &[u8], i: usize) -> u8
+    ensures { λ r. ⌜ r ≡ getD (now (bytes .entry)) i 0 ⌝ }
+{
+    if i < bytes.len() {
+        return bytes[i];
+    }
+    0
+}
+
 // The vault that a line names: behind the frame's number in 01, else behind the kind.
 pub fn vault_in(bytes: &[u8]) -> u8
-    requires { ⌜ Formed (now bytes) ⌝ }
     ensures { λ v. ⌜ v ≡ vaultIn (now (bytes .entry)) ⌝ }
 {
-    if bytes[0] == DELIVER {
-        return bytes[2];
+    if byte_at(bytes, 0) == DELIVER {
+        return byte_at(bytes, 2);
     }
-    bytes[1]
+    byte_at(bytes, 1)
 }
 
 // 'a vault above 3'; 02 names none.
 fn no_vault(bytes: &[u8]) -> bool
-    requires { ⌜ Formed (now bytes) ⌝ }
     ensures { λ b. ⌜ b ≡ noVault (now (bytes .entry)) ⌝ }
 {
-    if bytes[0] == DROP {
+    if byte_at(bytes, 0) == DROP {
         return false;
     }
     LAST_VAULT < vault_in(bytes)
@@ -91,24 +98,26 @@ fn no_vault(bytes: &[u8]) -> bool
 
 // 'naming a frame not waiting'
 fn no_frame(stage: &[u8], bytes: &[u8]) -> bool
-    requires { ⌜ (length (now stage) ≡ stageSize) × Formed (now bytes) ⌝ }
+    requires { ⌜ length (now stage) ≡ stageSize ⌝ }
     ensures { λ b. ⌜ b ≡ noFrame (now (stage .entry)) (now (bytes .entry)) ⌝ }
 {
-    if bytes[0] < DELIVER {
+    let kind = byte_at(bytes, 0);
+    if kind < DELIVER {
         return false;
     }
-    if DROP < bytes[0] {
+    if DROP < kind {
         return false;
     }
-    places::is_free(stage, bytes[1] as usize)
+    let number = byte_at(bytes, 1);
+    places::is_free(stage, number as usize)
 }
 
 // 'declaring a second liar'; declaring the liar again is none.
 fn second_liar(stage: &[u8], bytes: &[u8]) -> bool
-    requires { ⌜ (length (now stage) ≡ stageSize) × Formed (now bytes) ⌝ }
+    requires { ⌜ length (now stage) ≡ stageSize ⌝ }
     ensures { λ b. ⌜ b ≡ secondLiar (now (stage .entry)) (now (bytes .entry)) ⌝ }
 {
-    if bytes[0] != DECLARE {
+    if byte_at(bytes, 0) != DECLARE {
         return false;
     }
     if places::no_liar(stage) {
@@ -119,10 +128,10 @@ fn second_liar(stage: &[u8], bytes: &[u8]) -> bool
 
 // 'making up a frame for a vault not declared'
 fn not_liar(stage: &[u8], bytes: &[u8]) -> bool
-    requires { ⌜ (length (now stage) ≡ stageSize) × Formed (now bytes) ⌝ }
+    requires { ⌜ length (now stage) ≡ stageSize ⌝ }
     ensures { λ b. ⌜ b ≡ notLiar (now (stage .entry)) (now (bytes .entry)) ⌝ }
 {
-    if bytes[0] != MAKE_UP {
+    if byte_at(bytes, 0) != MAKE_UP {
         return false;
     }
     !places::is_liar(stage, vault_in(bytes))
@@ -130,7 +139,7 @@ fn not_liar(stage: &[u8], bytes: &[u8]) -> bool
 
 // 23, whole.
 fn misnamed(stage: &[u8], bytes: &[u8]) -> bool
-    requires { ⌜ (length (now stage) ≡ stageSize) × Formed (now bytes) ⌝ }
+    requires { ⌜ length (now stage) ≡ stageSize ⌝ }
     ensures { λ b. ⌜ b ≡ misnamed (now (stage .entry)) (now (bytes .entry)) ⌝ }
 {
     if no_vault(bytes) {
@@ -156,10 +165,12 @@ pub fn refusal(stage: &[u8], bytes: &[u8]) -> u8
     if TIMER < bytes[0] {
         return numbers::REFUSED_KIND;
     }
-    if wrong_length(bytes[0], bytes.len()) {
+    let is_wrong = wrong_length(bytes[0], bytes.len());
+    let is_misnamed = misnamed(stage, bytes);
+    if is_wrong {
         return numbers::REFUSED_LENGTH;
     }
-    if misnamed(stage, bytes) {
+    if is_misnamed {
         return REFUSED_NAME;
     }
     0

@@ -78,14 +78,15 @@ pub fn first_free(stage: &[u8]) -> usize
     requires { ⌜ length (now stage) ≡ stageSize ⌝ }
     ensures { λ k. ⌜ (k ≡ firstFree (now (stage .entry))) × (k ≤ placeCount) ⌝ }
 {
-    let mut k = 0;
-    while k < PLACES {
+    let mut left = PLACES;
+    while 0 < left {
+        let k = PLACES - left;
         if is_free(stage, k) {
             return k;
         }
-        k += 1;
+        left -= 1;
     }
-    k
+    PLACES
 }
 
 // A frame waits at a number.

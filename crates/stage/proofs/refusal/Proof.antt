@@ -4,7 +4,6 @@
 use mathlib.Core.Path.{refl}
 use borrow.Author.Tests.{eq-eqb, ne-eqb, lt-ltb, le-ltb}
 use Rattle.frame.proofs.Laws.{told}
-use Rattle.stage.proofs.Refusals.{formed}
 use borrow.Author.Needs.{needs}
 use Rattle.stage.proofs.refusal.Statement.{statement}
 use Rattle.stage.proofs.refusal.Tie as tie
@@ -24,31 +23,29 @@ shared-slice-read-wrong-length c = search needs
 wrong-length-requires : tie.Need-wrong-length-requires
 wrong-length-requires c κs = search needs
 
+misnamed-requires : tie.Need-misnamed-requires
+misnamed-requires c κs = search needs
+
 returns-3 : tie.Need-returns-3
 returns-3 c =
-    let k = c .before .before .before in
-    let wrong = told (c .before .wrong-length .ensures) (c .if3 .taken) in
-    rw (ne-eqb _ _ (k .before .before .if1 .left), le-ltb 5 _ (k .if2 .left), wrong) refl
-
-misnamed-requires : tie.Need-misnamed-requires
-misnamed-requires c κs =
-    let k = c .before .before .before in
-    let e = k .before .before in
-    (e .before .before .before .pre, formed _ (e .if1 .left) (k .if2 .left) (told (c .before .wrong-length .ensures) (c .if3 .left)))
+    let l = c .before .before in
+    let k = l .before .before in
+    let n = c .before .misnamed in
+    rw (ne-eqb _ _ (k .before .before .if1 .left), le-ltb 5 _ (k .if2 .left), ← l .wrong-length .ensures, ← n .ensures, c .if3 .taken) refl
 
 returns-4 : tie.Need-returns-4
 returns-4 c =
-    let l = c .before .before in
-    let k = l .before .before .before in
-    let right = told (l .before .wrong-length .ensures) (l .if3 .left) in
-    rw (ne-eqb _ _ (k .before .before .if1 .left), le-ltb 5 _ (k .if2 .left), right, told (c .before .misnamed .ensures) (c .if4 .taken)) refl
+    let l = c .before .before .before in
+    let k = l .before .before in
+    let n = c .before .before .misnamed in
+    rw (ne-eqb _ _ (k .before .before .if1 .left), le-ltb 5 _ (k .if2 .left), ← l .wrong-length .ensures, ← n .ensures, c .before .if3 .left, c .if4 .taken) refl
 
 returns-5 : tie.Need-returns-5
 returns-5 c =
-    let l = c .before .before in
-    let k = l .before .before .before in
-    let right = told (l .before .wrong-length .ensures) (l .if3 .left) in
-    rw (ne-eqb _ _ (k .before .before .if1 .left), le-ltb 5 _ (k .if2 .left), right, told (c .before .misnamed .ensures) (c .if4 .left)) refl
+    let l = c .before .before .before in
+    let k = l .before .before in
+    let n = c .before .before .misnamed in
+    rw (ne-eqb _ _ (k .before .before .if1 .left), le-ltb 5 _ (k .if2 .left), ← l .wrong-length .ensures, ← n .ensures, c .before .if3 .left, c .if4 .left) refl
 
 pub refusal-spec : {M : Type 1} → statement M
 refusal-spec =
@@ -59,7 +56,7 @@ refusal-spec =
     returns-2
     shared-slice-read-wrong-length
     wrong-length-requires
-    returns-3
     misnamed-requires
+    returns-3
     returns-4
     returns-5)

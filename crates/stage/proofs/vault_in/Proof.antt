@@ -1,38 +1,35 @@
--- `stage::vault_in` meets its contract: '01 deliver (frame number, vault)' names its vault third, every other kind second. A line that passes 9 and 10
--- has those bytes.
+-- `stage::vault_in` meets its contract: '01 deliver (frame number, vault)' names the vault behind the number, the others behind their kind.
 -- Assumes nothing.
-use mathlib.Core.Path.{refl}
-use native.Mathlib.Omega.{arith}
+use Prim.Native.Nat.{ℕ}
+use mathlib.Core.Path.{_≡_, _∙_}
+use denote.Ref.{now}
 use borrow.Author.Tests.{eq-eqb, ne-eqb}
-use Rattle.stage.specs.Lines.{vaultIn}
-use Rattle.stage.proofs.Refusals.{formedTwo, formedDeliver}
+use Rattle.frame.proofs.Laws.{told}
 use borrow.Author.Needs.{needs}
+use Rattle.stage.specs.Lines.{kindOf, vaultIn}
 use Rattle.stage.proofs.vault_in.Statement.{statement}
 use Rattle.stage.proofs.vault_in.Tie as tie
 
-shared-slice-read-if1 : tie.Need-shared-slice-read-if1
-shared-slice-read-if1 c = search needs
+byte-at-requires : tie.Need-byte-at-requires
+byte-at-requires c κs = search needs
 
-shared-slice-read-result : tie.Need-shared-slice-read-result
-shared-slice-read-result c = omega (arith, formedDeliver (c .before .before .before .pre) (c .before .if1 .taken))
+byte-at-requires-2 : tie.Need-byte-at-requires-2
+byte-at-requires-2 c κs = search needs
 
 returns : tie.Need-returns
 unfolding vaultIn
-returns c = rw (eq-eqb _ _ (c .before .if1 .taken)) refl
+returns c =
+    let b = now (c .before .before .before .before .args .bytes) in
+    rw (eq-eqb (kindOf b) 1 (told (c .before .before .byte-at .ensures) (c .before .if1 .taken))) (c .byte-at2 .ensures)
 
-shared-slice-read-result-2 : tie.Need-shared-slice-read-result-2
-shared-slice-read-result-2 c = formedTwo (c .before .before .before .pre)
+byte-at-requires-3 : tie.Need-byte-at-requires-3
+byte-at-requires-3 c κs = search needs
 
 returns-2 : tie.Need-returns-2
 unfolding vaultIn
-returns-2 c = rw (ne-eqb _ _ (c .before .if1 .left)) refl
+returns-2 c =
+    let b = now (c .before .before .before .before .args .bytes) in
+    rw (ne-eqb (kindOf b) 1 (λ (e : kindOf b ≡ 1). c .before .if1 .left (c .before .before .byte-at .ensures ∙ e))) (c .byte-at3 .ensures)
 
 pub vault-in-spec : {M : Type 1} → statement M
-vault-in-spec =
-    tie.close
-    (tie.spec
-    shared-slice-read-if1
-    shared-slice-read-result
-    returns
-    shared-slice-read-result-2
-    returns-2)
+vault-in-spec = tie.close (tie.spec byte-at-requires byte-at-requires-2 returns byte-at-requires-3 returns-2)
