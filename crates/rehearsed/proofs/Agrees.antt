@@ -15,10 +15,9 @@ use lib.ListN.{length-replicate}
 use Rattle.rules.specs.Sets.{equals, weigh, size, total}
 use Rattle.rules.proofs.Bools.{which, clash}
 use Rattle.frame.specs.declared.Frame.{Frame}
-use Rattle.frame.specs.declared.Reading.the-variants.{Accepted}
 use Rattle.frame.specs.Format.{encode}
 use Rattle.frame.specs.Valid.{Valid}
-use Rattle.frame.specs.Refusal.{first, leaderOf, readFrame}
+use Rattle.frame.specs.Refusal.{first, leaderOf}
 use Rattle.entry.specs.declared.Entry.{Entry}
 use Rattle.entry.specs.declared.Entry.the-variants.{ForAll, ForOne, Timer, Decision}
 use Rattle.entry.specs.Valid.{AllValid}
@@ -41,7 +40,7 @@ use Rattle.stage.specs.Lines.{Meant, refuse, call, free, declare, makeUp, lineM
 use Rattle.rehearsed.specs.Agrees.{wroteAt, writtenAt, Undeclared, RehearsalAgrees}
 use Rattle.rehearsed.proofs.Means.{CallWell, byStart, byFrame, byTimer, MeantWell, meantWell}
 use Rattle.rehearsed.proofs.Sent.{Waits, OfAll, sentStays}
-use Rattle.rehearsed.proofs.Calls.{Accepts, comes, suggestHere}
+use Rattle.rehearsed.proofs.Calls.{Accepts, comes}
 use Rattle.rehearsed.proofs.Staged.{refusedTurns, acceptedTurns, Good, blankAt, callFits, freedStays, goesOnward, goodEmpty, liarLasts, nothingWaits}
 
 -- ---- the run
@@ -200,15 +199,13 @@ module _ (liar : ℕ) where
   fair s l t v a (byFrame k w low is) o acc = λ keeps. sentBy (t .told k low w is keeps)
     where
       sentBy : Wrote l (w .writer) (w .to) (w .bytes) → Sent l v (w .writer) (w .bytes)
-      sentBy told =
-          let (y, read) = acc .read (w .writer) (w .bytes) refl in (
-            told .frame,
-            told .is,
-            ⊎-elim inl (λ (at, (seven, led)).
-                inr (subst (λ (j : ℕ). ForOne j (told .frame) ∈ written l (w .writer))
-                (suggestHere v (w .to) (w .writer) (told .frame) y (told .valid) seven led
-                (subst (λ (b : List ℕ). readFrame b (w .writer) 4 v ≡ Accepted y) (told .is) read)) at)) (told .there),
-          )
+      sentBy told = (
+        told .frame,
+        told .is,
+        ⊎-elim inl (λ (at, (seven, led)).
+            inr (subst (λ (j : ℕ). ForOne j (told .frame) ∈ written l (w .writer))
+            (sym led ∙ acc .led (w .writer) (told .frame) (ap (frame (w .writer)) (told .is)) (told .valid) seven) at)) (told .there),
+      )
   fair s l t v a (byTimer view) o acc = tt
 
   -- An accepted call at a vault that keeps the rules is the run's next item.

@@ -1,30 +1,23 @@
 -- One call at a vault of the stage. The vault's bytes spell a blank record, or contents of a vault of 4 with its number (`Held`); so a call is refused
--- and changes nothing, or is accepted, and what it leaves is held again (`comes`). A suggest is accepted only by the vault that leads its view,
--- which is the one that it is for (`suggestHere`).
+-- and changes nothing, or is accepted, and what it leaves is held again (`comes`). A suggest is accepted only by the vault that leads its view
+-- (`suggestLed`).
 -- Assumes nothing.
 use Prim.Native.Nat.{ℕ, _-_}
 use mathlib.Core.Path.{_≡_, refl, sym, ap, subst, _∙_}
 use mathlib.Core.Logic.{_⊎_, inl, inr, ⊎-elim}
-use mathlib.Core.Bool.{not, _&&_}
+use mathlib.Core.Bool.{true}
 use mathlib.Core.List.{List}
 use mathlib.Core.Option.{Option, none, some}
-use native.Mathlib.Omega.{arith}
-use lib.Dec.{eqb}
-use borrow.Author.Tests.{eqb-true, eq-eqb}
 use lib.ListN.{length}
 use Rattle.rules.specs.Sets.{size}
-use Rattle.rules.proofs.Bools.{which, clash, bothJoin}
 use Rattle.frame.specs.declared.Frame.{Frame}
-use Rattle.frame.specs.declared.Reading.{Reading}
-use Rattle.frame.specs.declared.Reading.the-variants.{Accepted, Refused}
 use Rattle.frame.specs.Format.{encode}
 use Rattle.frame.specs.Valid.{Valid}
-use Rattle.frame.specs.Refusal.{first, leaderOf, misled, leaderRows, readFrame}
-use Rattle.frame.proofs.Laws.{none as rowFree, neither}
-use Rattle.frame.proofs.Theorems.{decodeEncoded, passed}
+use Rattle.frame.specs.Refusal.{leaderOf}
 use Rattle.entry.specs.Valid.{AllValid}
 use Rattle.settings.specs.declared.Settings.{Settings}
 use Rattle.record.specs.Size.{recordSize}
+use Rattle.record.specs.Layout.{decodeRecord}
 use Rattle.record.proofs.Theorems.{encodeSize}
 use Rattle.protocol.specs.Record.{Record}
 use Rattle.protocol.specs.Pass.{Out}
@@ -32,17 +25,18 @@ use Rattle.protocol.specs.Calls as by
 use Rattle.protocol.specs.Calls.{accepted, answer}
 use Rattle.protocol.proofs.ReadsBack.{AllRight, callRight}
 use Rattle.contents.specs.Calls.{leftAfter}
-use Rattle.contents.specs.Contents.{slotted}
+use Rattle.contents.specs.Contents.{contents, slotted}
 use Rattle.contents.specs.Left.{Left, wrote, gave}
 use Rattle.contents.specs.Spelling.{Spells}
 use Rattle.contents.proofs.Spelling.{Fine}
 use Rattle.contents.proofs.Stays.{callSet}
-use Rattle.runs.specs.Runs.{ByteCall, start, frame, timer, InWidth, recordIn, entriesIn}
+use Rattle.runs.specs.Runs.{ByteCall, start, frame, timer, InWidth, recordIn, entriesIn, isAccepted}
 use Rattle.runs.specs.Fixed.{leaves}
-use Rattle.runs.proofs.Carry.{said, carried, saidFrame, fedSaid, LeftWell, leftWell}
+use Rattle.runs.proofs.Carry.{said, carried, fedSaid, LeftWell, leftWell}
 use Rattle.runs.proofs.Demand.{never}
 use Rattle.answers.specs.Lines.{zeroed}
 use Rattle.stage.specs.Lines.{call}
+use Rattle.rehearsed.proofs.Suggests.{acceptedLeads}
 
 -- ---- a vault's bytes
 
@@ -81,43 +75,17 @@ ownLeft v (some r) a was starts o e = subst (Own v) (sym (callSet (some r) a (r 
 
 -- ---- a suggest
 
--- A frame call that is accepted at vault v read its frame as a vault of 4 with number v does.
-pub readBy : (v : ℕ) (rec : List ℕ) (link : ℕ) (bytes : List ℕ) (b : Option Record) → Holds v rec b → (o : Out)
-    → answer b (said rec (frame link bytes)) ≡ accepted o
-    → (x : Frame) × (readFrame bytes link 4 v ≡ Accepted x)
-unfolding answer
-readBy v rec link bytes b h o e = go b (h .spells) (h .own) e
-  where
-    read : (r : Record) (y : Reading) → readFrame bytes link 4 v ≡ y → answer (some r) (by.frame y) ≡ accepted o
-        → (x : Frame) × (readFrame bytes link 4 v ≡ Accepted x)
-    read r (Refused k) is e = never e
-    read r (Accepted x) is e = (x, is)
-
-    go : (b : Option Record) → Spells rec b → ((r : Record) → b ≡ some r → Own v (r .set)) → answer b (said rec (frame link bytes)) ≡ accepted o
-        → (x : Frame) × (readFrame bytes link 4 v ≡ Accepted x)
-    go none spells own e = never e
-    go (some r) spells own e =
-        let (four, number) = own r refl in
-        let same : said rec (frame link bytes) ≡ by.frame (readFrame bytes link 4 v) =
-        saidFrame rec r link bytes spells ∙ (λ i. by.frame (readFrame bytes link (four i) (number i))) in
-        read r (readFrame bytes link 4 v) refl (ap (answer (some r)) (sym same) ∙ e)
-
--- A vault that passes row 15 with a suggest leads its view.
-pub leadsHere : (x : Frame) (n v : ℕ) → x .kind ≡ 7 → first (leaderRows x n v) ≡ 0 → leaderOf (x .view) n ≡ v
-unfolding misled
-leadsHere x n v seven passes =
-    let (both, _) = rowFree (misled (x .kind) (x .sender) (x .view) n v) 15 0 (omega arith) passes in
-    let (_, off) = neither (eqb (x .kind) 1 && not (eqb (leaderOf (x .view) n) (x .sender))) (eqb (x .kind) 7 && not (eqb (leaderOf (x .view) n) v)) both in
-    ⊎-elim (eqb-true (leaderOf (x .view) n) v)
-    (λ other. absurd (clash (bothJoin (eqb (x .kind) 7) (not (eqb (leaderOf (x .view) n) v)) (eq-eqb (x .kind) 7 seven) (ap not other)) off))
-    (which (eqb (leaderOf (x .view) n) v))
-
--- So a vault that accepts a suggest is the one that it is for.
-pub suggestHere : (v to link : ℕ) (x y : Frame) → Valid x → x .kind ≡ 7 → leaderOf (x .view) 4 ≡ to → readFrame (encode x) link 4 v ≡ Accepted y → to ≡ v
-suggestHere v to link x y valid seven led read =
-    let p = passed (encode x) link 4 v y read in
-    let same : y ≡ x = sym (p .said) ∙ decodeEncoded x valid in
-    sym led ∙ leadsHere x 4 v seven (subst (λ (z : Frame). first (leaderRows z 4 v) ≡ 0) same (p .leader))
+-- Vault v accepts a suggest only where it leads its view.
+pub suggestLed : (v : ℕ) (rec : List ℕ) (b : Option Record) → Holds v rec b → (link : ℕ) (x : Frame) (o : Out)
+    → answer b (said rec (frame link (encode x))) ≡ accepted o → isAccepted (leaves rec (frame link (encode x)) zeroed) ≡ true
+    → Valid x → x .kind ≡ 7 → leaderOf (x .view) 4 ≡ v
+unfolding answer contents
+suggestLed v rec none h link x o e goes valid seven = never e
+suggestLed v rec (some r) h link x o e goes valid seven =
+    let (four, number) = h .own r refl in
+    let n : decodeRecord rec .set .n ≡ 4 = ap (λ (z : Record). z .set .n) (h .spells .holds) ∙ four in
+    let id : decodeRecord rec .set .id ≡ v = ap (λ (z : Record). z .set .id) (h .spells .holds) ∙ number in
+    ap (leaderOf (x .view)) (sym n) ∙ acceptedLeads rec zeroed link x valid seven goes ∙ id
 
 -- ---- a call
 
@@ -129,7 +97,7 @@ pub record Accepts (v : ℕ) (rec : List ℕ) (a : ByteCall) (o : Out) : Type 0 
   pub entries : entriesIn (leaves rec a zeroed) ≡ o .wrote
   pub valid : AllValid (o .wrote)
   pub right : AllRight 4 v (o .wrote)
-  pub read : (link : ℕ) (bytes : List ℕ) → a ≡ frame link bytes → (x : Frame) × (readFrame bytes link 4 v ≡ Accepted x)
+  pub led : (link : ℕ) (x : Frame) → a ≡ frame link (encode x) → Valid x → x .kind ≡ 7 → leaderOf (x .view) 4 ≡ v
 
 -- An accepted call by contents, over the vault's bytes.
 pub acceptsBy : (v : ℕ) (rec : List ℕ) (a : ByteCall) (b : Option Record) → Holds v rec b → InWidth a → OwnStart v (said rec a) → (o : Out)
@@ -150,7 +118,8 @@ acceptsBy v rec a b h low starts o answers is =
       entries = ap entriesIn is ∙ well .entries;
       valid = well .valid;
       right = subst (λ (n : ℕ). AllRight n v (o .wrote)) (own .0) (subst (λ (i : ℕ). AllRight (o .left .set .n) i (o .wrote)) (own .1) right);
-      read = λ link bytes e. readBy v rec link bytes b h o (subst (λ (k : ByteCall). answer b (said rec k) ≡ accepted o) e answers);
+      led = λ link x e. suggestLed v rec b h link x o (subst (λ (k : ByteCall). answer b (said rec k) ≡ accepted o) e answers)
+          (subst (λ (k : ByteCall). isAccepted (leaves rec k zeroed) ≡ true) e (ap isAccepted is));
     }
 
 -- A call at vault v is refused, with its record unchanged, or accepted.

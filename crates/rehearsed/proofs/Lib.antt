@@ -1,7 +1,9 @@
 pub mod Sent
 pub mod Means
+pub mod Suggests
 pub mod Calls
 pub mod Staged
 pub mod Agrees
+pub mod Written
 pub mod Numbered
 pub mod Example
