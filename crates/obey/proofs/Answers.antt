@@ -39,12 +39,12 @@ use Rattle.stage.specs.declared.Way.{Way}
 use Rattle.stage.specs.Stage.{Waiting, part, waitingIn, recordPlace, placeOf, placeSize, recordOf, withRecord, withFree, withLiar}
 use Rattle.stage.specs.Lines.{Done, sent, entriesDone, Meant, refuse, call, free, declare, makeUp, kindOf, vaultIn, lineRows, startOf, delivered}
 use Rattle.stage.specs.Lines.{waitingNow, timerOf, callOf, taken, meant, digitLimit, spelledMeant, lineMeant, answered, done, rehearsal}
-use Rattle.stage.specs.inside.Parts.{onWay, Formed}
-use Rattle.obey.specs.inside.Parts.{Called, DoneAt, putBy}
+use Rattle.stage.specs.inside.Parts.{onWay, Formed, Called}
+use Rattle.obey.specs.inside.Parts.{DoneAt, putBy}
 use Rattle.obey.specs.inside.Sizes.{answerSize, lineShare}
 use Rattle.stage.proofs.Refusals.{formedTwo, formedMakeUp, acceptedFormed}
 use Rattle.obey.proofs.Sent.{sentShort, entriesShort}
-use Rattle.obey.proofs.Calls.{vaultSecond}
+use Rattle.stage.proofs.Called.{vaultSecond}
 
 -- ---- each kind of answer is put
 

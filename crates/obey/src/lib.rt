@@ -3,8 +3,8 @@
 // What a line does to the stage and prints is a definition, `rehearsal` (crate stage, specs/Lines); `obey_line` is exact.
 use frame::numbers;
 use lines::Spelling;
-use settings::Settings;
 use stage::Way;
+use stage::calls;
 use stage::places;
 use vault::Answer;
 ghost use mathlib.Core.Path.{_≡_};
@@ -17,85 +17,20 @@ ghost use Rattle.lines.specs.Steps.{Fed, Finished};
 ghost use Rattle.lines.specs.inside.Steps.{digitsOf, OnPage, Answered};
 ghost use Rattle.answers.specs.inside.Steps.{LaidOut, Printable};
 ghost use Rattle.vault.specs.Answers.{leftBy};
-ghost use Rattle.stage.specs.Stage.{stageSize, placeCount, recordOf};
-ghost use Rattle.stage.specs.Lines.{sent, entryDone, entriesDone, vaultIn, lineRows, kindOf, startOf, delivered, waitingNow, timerOf, callOf, call, meant};
-ghost use Rattle.stage.specs.Lines.{taken, done, rehearsal};
+ghost use Rattle.stage.specs.Stage.{stageSize, placeCount};
+ghost use Rattle.stage.specs.Lines.{sent, entryDone, entriesDone, vaultIn, lineRows, callOf, call, meant, taken, done, rehearsal};
 ghost use Rattle.stage.specs.inside.Parts.{frameMost, onWay, Named};
-ghost use Rattle.obey.specs.inside.Parts.{headOf, Called, putBy, DoneAt, IsEntry};
+ghost use Rattle.obey.specs.inside.Parts.{headOf, putBy, DoneAt, IsEntry};
 ghost use Rattle.obey.specs.Steps.{keptSize};
 ghost use Rattle.obey.specs.inside.Sizes.{answerSize, lineShare, pieceSize, pageSize};
 
 // 'a zeroed 256-byte output array'
 const OUTPUT: usize = 256;
 
-// '4 vaults .. with n = 4 and f = 1'
-const VAULTS: u8 = 4;
-
-const LIARS: u8 = 1;
-
 // 'a frame's entry is led by fc and its number, or by fb where 256 wait and it is lost'
 pub const WAITS: u8 = 252;
 
 pub const LOST: u8 = 251;
-
-// ---- the calls: 'Each step is the vault's own step'
-
-// '00 start (vault, class, plan)'
-fn start(stage: &mut [u8], bytes: &[u8], out: &mut [u8]) -> Answer
-    requires { ⌜ (length (now stage) ≡ stageSize) × Named (now bytes) × (kindOf (now bytes) ≡ 0) ⌝ }
-    ensures { λ r. ⌜ Called (now (stage .entry)) (vaultIn (now (bytes .entry))) (startOf (now (bytes .entry))) (now (out .entry)) r (now (stage .exit)) (now (out .exit)) ⌝ }
-{
-    let set = Settings {
-        n: VAULTS,
-        f: LIARS,
-        id: bytes[1],
-        class: bytes[2],
-    };
-    let plan = wire::number64(bytes, 3);
-    let at = places::record_place(bytes[1]);
-    vault::start(&mut stage[at..at + record::SIZE], set, plan, out)
-}
-
-// '01 deliver (frame number, vault)': over the link from the frame's writer. The frame stays.
-fn deliver(stage: &mut [u8], k: u8, v: u8, out: &mut [u8]) -> Answer
-    requires { ⌜ (length (now stage) ≡ stageSize) × (v ≤ 3) ⌝ }
-    ensures { λ r. ⌜ Called (now (stage .entry)) v (delivered (waitingNow (now (stage .entry)) k)) (now (out .entry)) r (now (stage .exit)) (now (out .exit)) ⌝ }
-{
-    let mut frame = [0u8; places::MOST];
-    let len = places::copy_frame(stage, k as usize, &mut frame);
-    let writer = places::writer_of(stage, k as usize);
-    let at = places::record_place(v);
-    vault::frame(
-        &mut stage[at..at + record::SIZE],
-        writer,
-        &frame[0..len],
-        out,
-    )
-}
-
-// '05 let a vault's timer for its current view expire'
-fn timer(stage: &mut [u8], v: u8, out: &mut [u8]) -> Answer
-    requires { ⌜ (length (now stage) ≡ stageSize) × (v ≤ 3) ⌝ }
-    ensures { λ r. ⌜ Called (now (stage .entry)) v (timerOf (recordOf (now (stage .entry)) v)) (now (out .entry)) r (now (stage .exit)) (now (out .exit)) ⌝ }
-{
-    let at = places::record_place(v);
-    let view = record::view_of(&stage[at..at + record::SIZE]);
-    vault::timer(&mut stage[at..at + record::SIZE], view, out)
-}
-
-// The call that a line makes, by its kind.
-fn call(stage: &mut [u8], bytes: &[u8], out: &mut [u8]) -> Answer
-    requires { ⌜ (length (now stage) ≡ stageSize) × Named (now bytes) ⌝ }
-    ensures { λ r. ⌜ Called (now (stage .entry)) (vaultIn (now (bytes .entry))) (callOf (now (stage .entry)) (now (bytes .entry))) (now (out .entry)) r (now (stage .exit)) (now (out .exit)) ⌝ }
-{
-    if bytes[0] == stage::START {
-        return start(stage, bytes, out);
-    }
-    if bytes[0] == stage::DELIVER {
-        return deliver(stage, bytes[1], bytes[2], out);
-    }
-    timer(stage, bytes[1], out)
-}
 
 // ---- frames on their way
 
@@ -177,7 +112,7 @@ fn answer(stage: &mut [u8], bytes: &[u8], page: &mut [u8], at: usize) -> usize
     ensures { λ r. ⌜ r ≤ at + answerSize ⌝ }
 {
     let mut out = [0u8; OUTPUT];
-    let a = call(stage, bytes, &mut out);
+    let a = calls::call(stage, bytes, &mut out);
     put_answer(stage, stage::vault_in(bytes), a, &out, page, at)
 }
 

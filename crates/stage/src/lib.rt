@@ -8,6 +8,7 @@ ghost use Rattle.frame.specs.Refusal.{first};
 ghost use Rattle.stage.specs.Stage.{stageSize};
 ghost use Rattle.stage.specs.Lines.{vaultIn, wrongLength, noVault, noFrame, secondLiar, notLiar, misnamed, lineRows};
 
+pub mod calls;
 pub mod places;
 
 // A line has at most 94 digits, so 47 bytes.

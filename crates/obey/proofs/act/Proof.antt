@@ -4,7 +4,7 @@ use native.Mathlib.Omega.{arith}
 use denote.Ref.{now}
 use borrow.Author.Needs.{needs}
 use Rattle.stage.proofs.Refusals.{acceptedFormed, acceptedNamed}
-use Rattle.obey.proofs.Calls.{secondNamed}
+use Rattle.stage.proofs.Called.{secondNamed}
 use Rattle.obey.proofs.Answers.{acceptedTwo, dropActed, declareActed, madeUpMay, madeUpActed, otherActed}
 use Rattle.obey.proofs.act.Statement.{statement}
 use Rattle.obey.proofs.act.Tie as tie

@@ -12,22 +12,12 @@ use Rattle.entry.specs.Reading.{entryAt, entriesOf}
 use Rattle.contents.specs.Left.{Left, wrote, gave}
 use Rattle.lines.specs.Digits.{refusalLine}
 use Rattle.lines.specs.inside.Steps.{OnPage}
-use Rattle.runs.specs.Runs.{ByteCall}
-use Rattle.runs.specs.Fixed.{leaves}
-use Rattle.vault.specs.declared.Answer.{Answer}
-use Rattle.vault.specs.Answers.{leftBy}
-use Rattle.stage.specs.Stage.{placeCount, recordOf, withRecord}
+use Rattle.stage.specs.Stage.{placeCount}
 use Rattle.stage.specs.Lines.{Done, entriesDone}
 
 -- What stands before a frame on its line: fc, its number and the recipient byte; or fb and that byte where there is no number for it.
 unfoldable pub headOf : ℕ → ℕ → List ℕ
 headOf k to = cond (eqb k placeCount) (251 ∷ to ∷ []) (252 ∷ k ∷ to ∷ [])
-
--- A call at vault v was made: its answer, with the record that it left, is what the vault's own call leaves.
-pub record Called (s : List ℕ) (v : ℕ) (a : ByteCall) (out : List ℕ) (r : Answer) (s′ out′ : List ℕ) : Type 0 where
-  pub rec : List ℕ
-  pub left : leftBy r rec out′ ≡ leaves (recordOf s v) a out
-  pub stage : s′ ≡ withRecord s v rec
 
 -- Something was done: the stage afterwards, what is printed put on the page, and no more than an answer takes.
 pub record DoneAt (d : Done) (page : List ℕ) (at : ℕ) (s′ page′ : List ℕ) (next : ℕ) : Type 0 where

@@ -6,8 +6,12 @@ use mathlib.Core.Bool.{false, cond}
 use mathlib.Core.List.{List}
 use lib.Dec.{ltb}
 use lib.ListN.{length}
+use Rattle.runs.specs.Runs.{ByteCall}
+use Rattle.runs.specs.Fixed.{leaves}
+use Rattle.vault.specs.declared.Answer.{Answer}
+use Rattle.vault.specs.Answers.{leftBy}
 use Rattle.stage.specs.declared.Way.{Way}
-use Rattle.stage.specs.Stage.{Waiting}
+use Rattle.stage.specs.Stage.{recordOf, withRecord, Waiting}
 use Rattle.stage.specs.Lines.{kindOf, wrongLength, vaultIn}
 
 -- 'then 0 to 45 bytes': the longest frame.
@@ -32,3 +36,9 @@ pub record Formed (b : List ℕ) : Type 0 where
 pub record Named (b : List ℕ) : Type 0 where
   pub formed : Formed b
   pub vault : vaultIn b ≤ 3
+
+-- A call at vault v was made: its answer, with the record that it left, is what the vault's own call leaves.
+pub record Called (s : List ℕ) (v : ℕ) (a : ByteCall) (out : List ℕ) (r : Answer) (s′ out′ : List ℕ) : Type 0 where
+  pub rec : List ℕ
+  pub left : leftBy r rec out′ ≡ leaves (recordOf s v) a out
+  pub stage : s′ ≡ withRecord s v rec

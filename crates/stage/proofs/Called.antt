@@ -18,10 +18,10 @@ use Rattle.runs.specs.Runs.{ByteCall}
 use Rattle.runs.specs.Fixed.{leaves}
 use Rattle.vault.specs.declared.Answer.{Answer}
 use Rattle.vault.specs.Answers.{leftBy}
 use Rattle.stage.specs.Stage.{recordPlace, recordOf, withRecord, part}
 use Rattle.stage.specs.Lines.{kindOf, vaultIn, startOf, delivered, waitingNow, timerOf, callOf}
 use Rattle.stage.specs.inside.Parts.{Named}
-use Rattle.obey.specs.inside.Parts.{Called}
+use Rattle.stage.specs.inside.Parts.{Called}
 
 -- ---- the vault that a line names
 

@@ -1,12 +1,12 @@
--- `obey::call` meets its contract: the kinds 00, 01 and 05 are calls at the vault named.
+-- `stage::calls::call` meets its contract: the kinds 00, 01 and 05 are calls at the vault named.
 -- Assumes nothing.
 use native.Mathlib.Omega.{arith}
 use denote.Ref.{now}
 use borrow.Author.Needs.{needs}
 use Rattle.stage.proofs.Refusals.{formedTwo, formedDeliver}
-use Rattle.obey.proofs.Calls.{thirdNamed, secondNamed, kindStarts, kindDelivers, kindTimes}
-use Rattle.obey.proofs.call.Statement.{statement}
-use Rattle.obey.proofs.call.Tie as tie
+use Rattle.stage.proofs.Called.{thirdNamed, secondNamed, kindStarts, kindDelivers, kindTimes}
+use Rattle.stage.proofs.calls.call.Statement.{statement}
+use Rattle.stage.proofs.calls.call.Tie as tie
 
 shared-slice-read-if1 : tie.Need-shared-slice-read-if1
 shared-slice-read-if1 c = search needs

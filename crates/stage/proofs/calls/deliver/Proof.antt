@@ -1,11 +1,11 @@
--- `obey::deliver` meets its contract: '01 deliver (frame number, vault)'.
+-- `stage::calls::deliver` meets its contract: '01 deliver (frame number, vault)'.
 -- Assumes nothing.
 use native.Mathlib.Omega.{arith}
 use denote.Ref.{now}
 use borrow.Author.Needs.{needs}
-use Rattle.obey.proofs.Calls.{deliverCalled}
-use Rattle.obey.proofs.deliver.Statement.{statement}
-use Rattle.obey.proofs.deliver.Tie as tie
+use Rattle.stage.proofs.Called.{deliverCalled}
+use Rattle.stage.proofs.calls.deliver.Statement.{statement}
+use Rattle.stage.proofs.calls.deliver.Tie as tie
 
 slice-aggregate-copy-frame : tie.Need-slice-aggregate-copy-frame
 slice-aggregate-copy-frame c = search needs

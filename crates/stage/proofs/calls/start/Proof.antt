@@ -1,12 +1,12 @@
--- `obey::start` meets its contract: '00 start (vault, class, plan)'.
+-- `stage::calls::start` meets its contract: '00 start (vault, class, plan)'.
 -- Assumes nothing.
 use native.Mathlib.Omega.{arith}
 use denote.Ref.{now}
 use borrow.Author.Needs.{needs}
 use Rattle.stage.proofs.Refusals.{formedStart}
-use Rattle.obey.proofs.Calls.{secondNamed, startCalled}
-use Rattle.obey.proofs.start.Statement.{statement}
-use Rattle.obey.proofs.start.Tie as tie
+use Rattle.stage.proofs.Called.{secondNamed, startCalled}
+use Rattle.stage.proofs.calls.start.Statement.{statement}
+use Rattle.stage.proofs.calls.start.Tie as tie
 
 shared-slice-read-record-place : tie.Need-shared-slice-read-record-place
 shared-slice-read-record-place c =

@@ -1,11 +1,11 @@
--- `obey::timer` meets its contract: '05 let a vault's timer for its current view expire'.
+-- `stage::calls::timer` meets its contract: '05 let a vault's timer for its current view expire'.
 -- Assumes nothing.
 use native.Mathlib.Omega.{arith}
 use denote.Ref.{now}
 use borrow.Author.Needs.{needs}
-use Rattle.obey.proofs.Calls.{timerCalled}
-use Rattle.obey.proofs.timer.Statement.{statement}
-use Rattle.obey.proofs.timer.Tie as tie
+use Rattle.stage.proofs.Called.{timerCalled}
+use Rattle.stage.proofs.calls.timer.Statement.{statement}
+use Rattle.stage.proofs.calls.timer.Tie as tie
 
 record-place-requires : tie.Need-record-place-requires
 record-place-requires c κs = search needs
