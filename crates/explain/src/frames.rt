@@ -3,8 +3,10 @@ ghost use mathlib.Core.Path.{_≡_};
 ghost use Prim.Native.Nat.{_≤_};
 ghost use Rattle.frame.specs.Refusal.{first, formRows};
 ghost use Rattle.frame.specs.inside.Reading.{refusalOf};
+use crate::words::end_line;
 use crate::words::end_with_number;
 use crate::words::say;
+use crate::words::say_byte;
 use crate::words::say_number;
 use frame::Body;
 use frame::Frame;
@@ -110,4 +112,47 @@ pub(crate) fn say_frame(f: Frame) {
     say_kind(f.kind);
     say_number(b" of vault ", f.sender as u64);
     say_body(f);
+}
+
+// ---- bytes that are no frame
+
+// Where a line or a frame has another length than its kind.
+pub(crate) fn say_length(words: &[u8], count: usize, wanted: usize) {
+    say(words);
+    say_number(b" of ", count as u64);
+    end_with_number(b" bytes; it has to have ", wanted as u64);
+}
+
+pub(crate) fn say_no_kind(words: &[u8], kind: u8) {
+    say_byte(words, kind);
+    end_line();
+}
+
+// Why bytes are no frame, where there are any.
+pub(crate) fn say_unformed(s: &[u8]) {
+    if s.len() == 0 {
+        return;
+    }
+    let size = frame::length_of(s[0]);
+    if size == 0 {
+        say_no_kind(b"there is no kind ", s[0]);
+        return;
+    }
+    say(b"a ");
+    say_kind(s[0]);
+    say_length(b"", s.len(), size);
+}
+
+// What the vaults read in bytes: a frame, or why they are none.
+pub(crate) fn say_bytes(s: &[u8]) {
+    if s.len() == 0 {
+        say(b"an empty frame\n");
+        return;
+    }
+    let Reading::Accepted(f) = frame_in(s) else {
+        say(b"no frame: ");
+        say_unformed(s);
+        return;
+    };
+    say_frame(f);
 }

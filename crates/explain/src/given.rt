@@ -1,11 +1,10 @@
 // What lines say that are given to vaultlines: 'Kind 00 starts ..; kind 09 is a timer ..; other lines are frames'.
 use crate::frames::frame_in;
 use crate::frames::say_frame;
-use crate::frames::say_kind;
-use crate::words::end_line;
+use crate::frames::say_length;
+use crate::frames::say_unformed;
 use crate::words::end_with_number;
 use crate::words::say;
-use crate::words::say_byte;
 use crate::words::say_number;
 use frame::Reading;
 
@@ -17,12 +16,6 @@ pub(crate) const START_LENGTH: usize = 13;
 
 pub(crate) const TIMER_LENGTH: usize = 5;
 
-// Where a line has another length than its kind.
-fn say_length(count: usize, wanted: usize) {
-    say_number(b" of ", count as u64);
-    end_with_number(b" bytes; it has to have ", wanted as u64);
-}
-
 fn say_settings(n: u8, f: u8, id: u8, class: u8) {
     say_number(b"    start: ", n as u64);
     say_number(b" vaults of which ", f as u64);
@@ -32,8 +25,7 @@ fn say_settings(n: u8, f: u8, id: u8, class: u8) {
 
 fn say_start(s: &[u8]) {
     if s.len() != START_LENGTH {
-        say(b"    a start");
-        say_length(s.len(), START_LENGTH);
+        say_length(b"    a start", s.len(), START_LENGTH);
         return;
     }
     say_settings(s[1], s[2], s[3], s[4]);
@@ -42,8 +34,7 @@ fn say_start(s: &[u8]) {
 
 fn say_timer(s: &[u8]) {
     if s.len() != TIMER_LENGTH {
-        say(b"    a timer");
-        say_length(s.len(), TIMER_LENGTH);
+        say_length(b"    a timer", s.len(), TIMER_LENGTH);
         return;
     }
     say_number(b"    the timer of view ", wire::number32(s, 1) as u64);
@@ -55,15 +46,8 @@ fn say_malformed(s: &[u8]) {
         say(b"    an empty line: an empty frame\n");
         return;
     }
-    let size = frame::length_of(s[0]);
-    if size == 0 {
-        say_byte(b"    there is no kind ", s[0]);
-        end_line();
-        return;
-    }
-    say(b"    a ");
-    say_kind(s[0]);
-    say_length(s.len(), size);
+    say(b"    ");
+    say_unformed(s);
 }
 
 fn say_came(s: &[u8]) {

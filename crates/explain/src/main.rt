@@ -1,19 +1,27 @@
-// Explains lines of vaultlines, given and printed: each is shown, with its meaning in plain words below it.
+// Explains lines of vaultlines and of rehearsal, given and printed: each is shown, with its meaning in plain words below it.
 //
 // Proved: it ends, and touches only what it is lent. Digits are read by crate lines and frames by crate frame; the sentences are tested.
 mod frames;
 mod given;
 mod printed;
+mod programs;
 mod refusals;
+mod rehearsal;
 mod text;
 mod words;
 
 ghost use mathlib.Core.Path.{_≡_};
 ghost use Prim.Native.Nat.{_≤_};
 ghost use lib.ListN.{length};
+ghost use Rattle.explain.specs.inside.Sizes.{lineMost, textKept};
 use given::say_given;
 use printed::is_printed;
 use printed::say_printed;
+use programs::NO_PROGRAM;
+use programs::REHEARSAL;
+use programs::VAULTLINES;
+use programs::say_turn;
+use rehearsal::say_rehearsed;
 use text::Line;
 use text::TEXT;
 use text::Writing;
@@ -57,60 +65,83 @@ fn after_mark(text: &[u8], mark: u8) -> usize
     if text[1] == b' ' { 2 } else { 1 }
 }
 
-// No line was given yet, or what it led to was printed.
-fn no_line() -> Line
-    ensures { λ r. ⌜ r .count ≤ 46 ⌝ }
+// No line of a program was given yet, or what it led to was printed.
+fn no_line(program: u8) -> Line
+    ensures { λ r. ⌜ r .count ≤ lineMost ⌝ }
 {
-    text::unread(Writing {
+    let writing = Writing {
         is_cut: false,
         digits: 0,
         capitals: 0,
         blanks: 0,
         returns: 0,
         strange: 0,
-    })
+    };
+    text::unread(program, writing)
 }
 
-fn was_printed(mark: u8, s: &[u8]) -> bool {
+fn was_printed(mark: u8, program: u8, s: &[u8]) -> bool {
     match mark {
         GIVEN => false,
         PRINTED => true,
-        _ => is_printed(s),
+        _ => is_printed(program, s),
+    }
+}
+
+fn say_taken(program: u8, s: &[u8]) {
+    match program {
+        REHEARSAL => say_rehearsed(s),
+        _ => say_given(s),
     }
 }
 
 // Explains a line that could be read. Answers the line that is then waiting for what it leads to.
 fn explain_read(mark: u8, line: Line, before: Line) -> Line
-    requires { ⌜ (line .count ≤ 46) × (before .count ≤ 46) ⌝ }
-    ensures { λ r. ⌜ r .count ≤ 46 ⌝ }
+    requires { ⌜ (line .count ≤ lineMost) × (before .count ≤ lineMost) ⌝ }
+    ensures { λ r. ⌜ r .count ≤ lineMost ⌝ }
 {
+    let program = line.program;
     let bytes = line.bytes;
     let count = line.count;
     let s = &bytes[0..count];
-    if was_printed(mark, s) {
+    if was_printed(mark, program, s) {
         say_printed(s, before);
-        return no_line();
+        return no_line(program);
     }
-    say_digits(line.writing);
-    say_given(s);
+    say_digits(program, line.writing);
+    say_taken(program, s);
+    line
+}
+
+// Explains a line's text behind its mark. It is of the same program as the line given before it.
+fn explain_text(mark: u8, text: &[u8], before: Line) -> Line
+    requires { ⌜ before .count ≤ lineMost ⌝ }
+    ensures { λ r. ⌜ r .count ≤ lineMost ⌝ }
+{
+    let program = before.program;
+    let line = text::read(text, program);
+    say_writing(program, line.writing);
+    if line.is_read {
+        return explain_read(mark, line, before);
+    }
+    say_digits(program, line.writing);
     line
 }
 
 // Explains a line, where another was given before it.
 fn explain_line(text: &[u8], before: Line) -> Line
-    requires { ⌜ before .count ≤ 46 ⌝ }
-    ensures { λ r. ⌜ r .count ≤ 46 ⌝ }
+    requires { ⌜ before .count ≤ lineMost ⌝ }
+    ensures { λ r. ⌜ r .count ≤ lineMost ⌝ }
 {
     text::show(text);
     let mark = mark_of(text);
     let from = after_mark(text, mark);
-    let line = text::read(&text[from..]);
-    say_writing(line.writing);
-    if line.is_read {
-        return explain_read(mark, line, before);
+    let program = text::program_in(&text[from..]);
+    if program != NO_PROGRAM {
+        say_turn(program);
+        return no_line(program);
     }
-    say_digits(line.writing);
-    line
+    explain_text(mark, &text[from..], before)
 }
 
 // ---- the input, in pieces
@@ -124,8 +155,8 @@ struct Place {
 
 // A piece of input. The first len bytes of text are what is kept of the line that has begun.
 fn feed(text: &mut [u8], place: Place, piece: &[u8]) -> Place
-    requires { ⌜ (length (now text) ≡ 256) × (place .len ≤ 256) × (place .given .count ≤ 46) ⌝ }
-    ensures { λ r. ⌜ (r .len ≤ 256) × (r .given .count ≤ 46) ⌝ }
+    requires { ⌜ (length (now text) ≡ textKept) × (place .len ≤ textKept) × (place .given .count ≤ lineMost) ⌝ }
+    ensures { λ r. ⌜ (r .len ≤ textKept) × (r .given .count ≤ lineMost) ⌝ }
 {
     let mut len = place.len;
     let mut given = place.given;
@@ -154,8 +185,8 @@ fn feed(text: &mut [u8], place: Place, piece: &[u8]) -> Place
 
 // The input's end: the line that has not ended is explained too.
 fn finish(text: &[u8], place: Place) -> Place
-    requires { ⌜ (length (now text) ≡ 256) × (place .len ≤ 256) × (place .given .count ≤ 46) ⌝ }
-    ensures { λ r. ⌜ (r .len ≤ 256) × (r .given .count ≤ 46) ⌝ }
+    requires { ⌜ (length (now text) ≡ textKept) × (place .len ≤ textKept) × (place .given .count ≤ lineMost) ⌝ }
+    ensures { λ r. ⌜ (r .len ≤ textKept) × (r .given .count ≤ lineMost) ⌝ }
 {
     let len = place.len;
     if len != 0 {
@@ -164,15 +195,15 @@ fn finish(text: &[u8], place: Place) -> Place
     }
     Place {
         len: 0,
-        given: no_line(),
+        given: no_line(VAULTLINES),
         is_over: true,
     }
 }
 
 // Reads once, and explains the lines that end in what came.
 fn explain_some(text: &mut [u8], place: Place) -> Place
-    requires { ⌜ (length (now text) ≡ 256) × (place .len ≤ 256) × (place .given .count ≤ 46) ⌝ }
-    ensures { λ r. ⌜ (r .len ≤ 256) × (r .given .count ≤ 46) ⌝ }
+    requires { ⌜ (length (now text) ≡ textKept) × (place .len ≤ textKept) × (place .given .count ≤ lineMost) ⌝ }
+    ensures { λ r. ⌜ (r .len ≤ textKept) × (r .given .count ≤ lineMost) ⌝ }
 {
     let mut piece = [0u8; PIECE];
     let got = libc::read(libc::STDIN_FILENO, &mut piece);
@@ -185,11 +216,11 @@ fn explain_some(text: &mut [u8], place: Place) -> Place
 
 // A proved loop has to end, and nothing says that the input does: the loop counts its turns down, from a number that no run uses up.
 fn explain_all(text: &mut [u8])
-    requires { ⌜ length (now text) ≡ 256 ⌝ }
+    requires { ⌜ length (now text) ≡ textKept ⌝ }
 {
     let mut place = Place {
         len: 0,
-        given: no_line(),
+        given: no_line(VAULTLINES),
         is_over: false,
     };
     let mut turns = u64::MAX;

@@ -1,15 +1,31 @@
-// What lines say that vaultlines prints: 'one output entry a line, or fd and the refusal number as one byte'.
+// What lines say that the programs print: 'one output entry a line, or fd and the refusal number as one byte'. A rehearsal leads a frame's entry
+// 'by fc and its number, or by fb where 256 wait and it is lost'.
 ghost use Prim.Native.Nat.{_≤_};
 ghost use lib.ListN.{length};
+ghost use Rattle.explain.specs.inside.Sizes.{lineMost};
 use crate::frames::frame_in;
+use crate::frames::say_bytes;
 use crate::frames::say_frame;
+use crate::programs::REHEARSAL;
+use crate::programs::say_program;
 use crate::refusals::say_refusal;
 use crate::text::Line;
 use crate::words::end_with_number;
 use crate::words::say;
+use crate::words::say_around;
 use crate::words::say_number;
 use frame::Reading;
 use frame::numbers;
+
+// How the line of a frame begins that a rehearsal has on its way, or has lost.
+const WAITS: u8 = 252;
+
+const LOST: u8 = 251;
+
+// Where its entry begins: behind fc and the number, or behind fb.
+const AFTER_NUMBER: usize = 2;
+
+const AFTER_LOST: usize = 1;
 
 const REFUSAL_LENGTH: usize = 2;
 
@@ -44,24 +60,41 @@ fn is_suggest(s: &[u8]) -> bool {
     s[1] == numbers::SUGGEST
 }
 
-// Whether a line without a mark is one that vaultlines prints. No line that it takes looks the same.
-pub(crate) fn is_printed(s: &[u8]) -> bool {
+// Whether the entry of a frame in a rehearsal stands in a line from a place on: for all, as a frame that is made up may have any bytes, or a suggest
+// for one of the vaults.
+fn is_led(s: &[u8], from: usize) -> bool {
+    if s.len() <= from {
+        return false;
+    }
+    match s[from] {
+        numbers::TO_ALL => s.len() - from <= SUGGEST_LENGTH,
+        0..=stage::LAST_VAULT => is_suggest(&s[from..]),
+        _ => false,
+    }
+}
+
+// Whether a line without a mark is one that is printed. No line that the program takes looks the same.
+pub(crate) fn is_printed(program: u8, s: &[u8]) -> bool {
     if s.len() == 0 {
         return false;
     }
     match s[0] {
         lines::REFUSED => s.len() == REFUSAL_LENGTH,
         numbers::TO_HOST => is_host_entry(s),
-        numbers::TO_ALL => is_entry(s),
-        0..=63 => is_suggest(s),
+        WAITS => is_led(s, AFTER_NUMBER),
+        LOST => is_led(s, AFTER_LOST),
+        numbers::TO_ALL => program != REHEARSAL && is_entry(s),
+        0..=63 => program != REHEARSAL && is_suggest(s),
         _ => false,
     }
 }
 
 // ---- what they say
 
-fn say_unknown() {
-    say(b"    nothing that vaultlines prints\n");
+fn say_unknown(program: u8) {
+    say(b"    nothing that ");
+    say_program(program);
+    say(b" prints\n");
 }
 
 fn say_timer(s: &[u8])
@@ -79,9 +112,9 @@ fn say_decision(s: &[u8])
     end_with_number(b", plan ", wire::number64(s, 6));
 }
 
-fn say_host(s: &[u8]) {
+fn say_host(program: u8, s: &[u8]) {
     if !is_host_entry(s) {
-        say_unknown();
+        say_unknown(program);
         return;
     }
     match s.len() {
@@ -93,31 +126,57 @@ fn say_host(s: &[u8]) {
 
 fn say_recipient(to: u8) {
     if to == numbers::TO_ALL {
-        say(b"    to all: ");
+        say(b"to all: ");
         return;
     }
-    say_number(b"    to vault ", to as u64);
+    say_number(b"to vault ", to as u64);
     say(b": ");
 }
 
-fn say_entry(s: &[u8]) {
+// A rehearsal prints no entry of a frame with nothing before it.
+fn say_entry(program: u8, s: &[u8]) {
+    if program == REHEARSAL {
+        say_unknown(program);
+        return;
+    }
     if s.len() == 0 {
-        say_unknown();
+        say_unknown(program);
         return;
     }
     let Reading::Accepted(f) = frame_in(&s[1..]) else {
-        say_unknown();
+        say_unknown(program);
         return;
     };
+    say(b"    ");
     say_recipient(s[0]);
     say_frame(f);
 }
 
+fn say_waiting(program: u8, s: &[u8]) {
+    if s.len() <= AFTER_NUMBER {
+        say_unknown(program);
+        return;
+    }
+    say_around(b"    frame ", s[1], b" waits, ");
+    say_recipient(s[AFTER_NUMBER]);
+    say_bytes(&s[AFTER_NUMBER + 1..]);
+}
+
+fn say_lost(program: u8, s: &[u8]) {
+    if s.len() <= AFTER_LOST {
+        say_unknown(program);
+        return;
+    }
+    say(b"    lost, as 256 frames wait, ");
+    say_recipient(s[AFTER_LOST]);
+    say_bytes(&s[AFTER_LOST + 1..]);
+}
+
 fn say_refused(s: &[u8], given: Line)
-    requires { ⌜ given .count ≤ 46 ⌝ }
+    requires { ⌜ given .count ≤ lineMost ⌝ }
 {
     if s.len() != REFUSAL_LENGTH {
-        say_unknown();
+        say_unknown(given.program);
         return;
     }
     say_refusal(s[1], given);
@@ -125,15 +184,18 @@ fn say_refused(s: &[u8], given: Line)
 
 // The line given before it is told for a refusal.
 pub(crate) fn say_printed(s: &[u8], given: Line)
-    requires { ⌜ given .count ≤ 46 ⌝ }
+    requires { ⌜ given .count ≤ lineMost ⌝ }
 {
+    let program = given.program;
     if s.len() == 0 {
-        say_unknown();
+        say_unknown(program);
         return;
     }
     match s[0] {
         lines::REFUSED => say_refused(s, given),
-        numbers::TO_HOST => say_host(s),
-        _ => say_entry(s),
+        numbers::TO_HOST => say_host(program, s),
+        WAITS => say_waiting(program, s),
+        LOST => say_lost(program, s),
+        _ => say_entry(program, s),
     }
 }

@@ -2,12 +2,15 @@
 ghost use Prim.Native.Nat.{_≤_};
 ghost use mathlib.Core.Path.{_≡_};
 ghost use Rattle.explain.specs.inside.Faults.{formFault, viewFault, faultAlone, previousFault};
+ghost use Rattle.explain.specs.inside.Sizes.{lineMost};
 use crate::frames::frame_in;
 use crate::frames::lock_of;
 use crate::frames::say_kind;
 use crate::frames::vote_of;
 use crate::given::START_LENGTH;
 use crate::given::TIMER_LENGTH;
+use crate::programs::REHEARSAL;
+use crate::rehearsal::line_fault;
 use crate::text::Line;
 use crate::text::say_digits;
 use crate::text::say_writing;
@@ -29,7 +32,7 @@ const LONGEST: usize = 120;
 // ---- sentences
 
 // The library's own sentence, as hosts get it.
-fn say_reason(number: u8) {
+fn say_library_reason(number: u8) {
     let mut text = [0u8; LONGEST];
     let count = questions::refusal_text(number as u32, &mut text);
     if count == 0 {
@@ -38,6 +41,20 @@ fn say_reason(number: u8) {
     }
     if count <= LONGEST {
         say(&text[0..count]);
+    }
+}
+
+// A rehearsal has a refusal of its own, and another limit for 20.
+fn say_reason(program: u8, number: u8) {
+    if program == REHEARSAL && number == stage::REFUSED_NAME {
+        say(
+            b"no such frame waits, a vault above 3, a second liar, or a frame made up for a vault not declared",
+        );
+        return;
+    }
+    say_library_reason(number);
+    if program == REHEARSAL && number == numbers::REFUSED_LINE {
+        say_number(b"; a rehearsal takes ", stage::DIGITS as u64);
     }
 }
 
@@ -82,11 +99,11 @@ fn timer_fault(s: &[u8]) {
     say_part(b"the view, bytes 1 to 4: ", wire::number32(s, 1) as u64);
 }
 
-fn length_fault(s: &[u8]) {
+pub(crate) fn length_fault(s: &[u8]) {
     say_part(b"the length in bytes: ", s.len() as u64);
 }
 
-fn kind_fault(s: &[u8]) {
+pub(crate) fn kind_fault(s: &[u8]) {
     if s.len() == 0 {
         say(b"        at fault: the line is empty\n");
         return;
@@ -276,27 +293,36 @@ fn bytes_fault(number: u8, s: &[u8]) {
     }
 }
 
+// The part at fault of a line of a program.
+fn say_fault_in(program: u8, number: u8, s: &[u8]) {
+    match program {
+        REHEARSAL => line_fault(number, s),
+        _ => bytes_fault(number, s),
+    }
+}
+
 // The part at fault, where a line was given before the refusal.
 fn say_fault(number: u8, given: Line)
-    requires { ⌜ given .count ≤ 46 ⌝ }
+    requires { ⌜ given .count ≤ lineMost ⌝ }
 {
+    let program = given.program;
     if number == numbers::REFUSED_LINE {
-        say_writing(given.writing);
-        say_digits(given.writing);
+        say_writing(program, given.writing);
+        say_digits(program, given.writing);
     }
     if given.is_read {
         let bytes = given.bytes;
         let count = given.count;
-        bytes_fault(number, &bytes[0..count]);
+        say_fault_in(program, number, &bytes[0..count]);
     }
 }
 
 pub(crate) fn say_refusal(number: u8, given: Line)
-    requires { ⌜ given .count ≤ 46 ⌝ }
+    requires { ⌜ given .count ≤ lineMost ⌝ }
 {
     say_number(b"    refused with ", number as u64);
     say(b": ");
-    say_reason(number);
+    say_reason(given.program, number);
     end_line();
     say_fault(number, given);
 }

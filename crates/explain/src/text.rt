@@ -1,6 +1,12 @@
 // A line's text: how it is written, and the bytes that it spells once it is mended.
 ghost use Prim.Native.Nat.{_≤_};
 ghost use lib.ListN.{length};
+ghost use Rattle.stage.specs.Lines.{digitLimit};
+ghost use Rattle.explain.specs.inside.Sizes.{lineMost};
+use crate::programs::NO_PROGRAM;
+use crate::programs::REHEARSAL;
+use crate::programs::VAULTLINES;
+use crate::programs::say_program;
 use crate::words::end_line;
 use crate::words::say;
 use crate::words::say_number;
@@ -9,11 +15,12 @@ use lines::Spelling;
 // So much is kept of a line. A text that fills it has been cut, and is not read.
 pub(crate) const TEXT: usize = 256;
 
-// The longest line that is printed is an entry of 46 bytes. Of a line that is given document 01 takes 90 digits.
-pub(crate) const BYTES: usize = 46;
+// The longest line that is printed is that of a frame of 45 bytes that waits: before it stand fc, its number and the recipient.
+pub(crate) const BYTES: usize = 48;
 
-const DIGITS: usize = 92;
+const DIGITS: usize = 96;
 
+// Of a line that is given document 01 takes 90 digits; a rehearsal takes more (stage::DIGITS).
 const GIVEN_DIGITS: usize = 90;
 
 // The sorts of characters.
@@ -42,8 +49,9 @@ pub(crate) struct Writing {
     pub(crate) strange: usize,
 }
 
-// A line as it was read. Where it could be mended, the first count bytes are what it spells.
+// A line as it was read, and the program that it is of. Where it could be mended, the first count bytes are what it spells.
 pub(crate) struct Line {
+    pub(crate) program: u8,
     pub(crate) is_read: bool,
     pub(crate) count: usize,
     pub(crate) bytes: [u8; BYTES],
@@ -168,10 +176,11 @@ fn writing_of(text: &[u8], digits: usize) -> Writing
 }
 
 // A line that spells no bytes, or no line.
-pub(crate) fn unread(writing: Writing) -> Line
-    ensures { λ r. ⌜ r .count ≤ 46 ⌝ }
+pub(crate) fn unread(program: u8, writing: Writing) -> Line
+    ensures { λ r. ⌜ r .count ≤ lineMost ⌝ }
 {
     Line {
+        program,
         is_read: false,
         count: 0,
         bytes: [0; BYTES],
@@ -180,15 +189,16 @@ pub(crate) fn unread(writing: Writing) -> Line
 }
 
 // The bytes that mended digits spell, by crate lines.
-fn spelled(digits: &[u8], writing: Writing) -> Line
-    ensures { λ r. ⌜ r .count ≤ 46 ⌝ }
+fn spelled(digits: &[u8], program: u8, writing: Writing) -> Line
+    ensures { λ r. ⌜ r .count ≤ lineMost ⌝ }
 {
     let mut bytes = [0u8; BYTES];
     let spelling = lines::bytes_in(digits, DIGITS, &mut bytes);
     let Spelling::Count(count) = spelling else {
-        return unread(writing);
+        return unread(program, writing);
     };
     Line {
+        program,
         is_read: true,
         count,
         bytes,
@@ -196,56 +206,87 @@ fn spelled(digits: &[u8], writing: Writing) -> Line
     }
 }
 
-// Reads a text.
-pub(crate) fn read(text: &[u8]) -> Line
-    ensures { λ r. ⌜ r .count ≤ 46 ⌝ }
+// The program that a text names, where it is just a program's name.
+pub(crate) fn program_in(text: &[u8]) -> u8
+    ensures { λ r. ⌜ r ≤ 2 ⌝ }
+{
+    let mut word = [0u8; TEXT];
+    let count = copy(MENDED, text, &mut word);
+    if check::same(&word[0..count], b"vaultlines") {
+        return VAULTLINES;
+    }
+    if check::same(&word[0..count], b"rehearsal") {
+        return REHEARSAL;
+    }
+    NO_PROGRAM
+}
+
+// Reads a text that is of a program.
+pub(crate) fn read(text: &[u8], program: u8) -> Line
+    ensures { λ r. ⌜ r .count ≤ lineMost ⌝ }
 {
     let mut digits = [0u8; TEXT];
     let count = copy(MENDED, text, &mut digits);
     let writing = writing_of(text, count);
     if writing.is_cut {
-        return unread(writing);
+        return unread(program, writing);
     }
-    spelled(&digits[0..count], writing)
+    spelled(&digits[0..count], program, writing)
 }
 
 // ---- what is told of it
 
-fn end_with_refused() {
-    say(b", which vaultlines refuses with 20\n");
+fn end_with_refused(program: u8) {
+    say(b", which ");
+    say_program(program);
+    say(b" refuses with 20\n");
 }
 
 // Characters that are no lower-case digits, where there are any.
-fn say_written(count: usize, sort: &[u8]) {
+fn say_written(program: u8, count: usize, sort: &[u8]) {
     if count != 0 {
         say(b"    written with ");
         say(sort);
-        end_with_refused();
+        end_with_refused(program);
     }
 }
 
 // What is wrong with the characters.
-pub(crate) fn say_writing(w: Writing) {
+pub(crate) fn say_writing(program: u8, w: Writing) {
     if w.is_cut {
         say(b"    256 characters or more\n");
     }
-    say_written(w.capitals, b"capital letters");
-    say_written(w.blanks, b"blanks");
-    say_written(w.returns, b"a carriage return");
-    say_written(w.strange, b"characters that are no digits");
+    say_written(program, w.capitals, b"capital letters");
+    say_written(program, w.blanks, b"blanks");
+    say_written(program, w.returns, b"a carriage return");
+    say_written(program, w.strange, b"characters that are no digits");
+}
+
+// How many digits a program takes in a line.
+fn most_digits(program: u8) -> usize
+    ensures { λ r. ⌜ r ≤ digitLimit ⌝ }
+{
+    if program == REHEARSAL {
+        return stage::DIGITS;
+    }
+    GIVEN_DIGITS
 }
 
 // What is wrong with the count of digits of a line that is given.
-pub(crate) fn say_digits(w: Writing) {
+pub(crate) fn say_digits(program: u8, w: Writing) {
     if w.digits % 2 != 0 {
-        say_count(b"    an odd count of digits, ", w.digits);
+        say(b"    an odd count of digits, ");
+        say_count(program, w.digits);
     }
-    if GIVEN_DIGITS < w.digits {
-        say_count(b"    more than 90 digits, ", w.digits);
+    let most = most_digits(program);
+    if most < w.digits {
+        say_number(b"    more than ", most as u64);
+        say(b" digits, ");
+        say_count(program, w.digits);
     }
 }
 
-fn say_count(words: &[u8], count: usize) {
-    say_number(words, count as u64);
-    end_with_refused();
+fn say_count(program: u8, count: usize) {
+    say_number(b"", count as u64);
+    end_with_refused(program);
 }

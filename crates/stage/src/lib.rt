@@ -17,11 +17,11 @@ pub const DIGITS: usize = 94;
 pub const BYTES: usize = 47;
 
 // The lengths of lines: '00 start (vault, class, plan), 01 deliver (frame number, vault)', and the kind with one number.
-const START_SIZE: usize = 11;
+pub const START_SIZE: usize = 11;
 
-const DELIVER_SIZE: usize = 3;
+pub const DELIVER_SIZE: usize = 3;
 
-const NAME_SIZE: usize = 2;
+pub const NAME_SIZE: usize = 2;
 
 // The kinds of lines.
 pub const START: u8 = 0;
@@ -34,10 +34,10 @@ pub const DECLARE: u8 = 3;
 
 pub const MAKE_UP: u8 = 4;
 
-const TIMER: u8 = 5;
+pub const TIMER: u8 = 5;
 
 // 'numbers 0 to 3'
-const LAST_VAULT: u8 = 3;
+pub const LAST_VAULT: u8 = 3;
 
 // 'a line naming a frame not waiting or a vault above 3, declaring a second liar, or making up a frame for a vault not declared'
 pub const REFUSED_NAME: u8 = 23;
@@ -51,7 +51,7 @@ pub struct Way {
 // ---- refusals
 
 // Whether a line of a kind has a wrong length.
-fn wrong_length(kind: u8, size: usize) -> bool
+pub fn wrong_length(kind: u8, size: usize) -> bool
     ensures { λ b. ⌜ b ≡ wrongLength kind size ⌝ }
 {
     if kind == MAKE_UP {
@@ -88,7 +88,7 @@ pub fn vault_in(bytes: &[u8]) -> u8
 }
 
 // 'a vault above 3'; 02 names none.
-fn no_vault(bytes: &[u8]) -> bool
+pub fn no_vault(bytes: &[u8]) -> bool
     ensures { λ b. ⌜ b ≡ noVault (now (bytes .entry)) ⌝ }
 {
     if byte_at(bytes, 0) == DROP {

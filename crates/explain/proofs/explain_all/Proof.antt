@@ -4,11 +4,13 @@ use Prim.Native.Nat.{_≤_}
 use mathlib.Core.Path.{_≡_, refl, _∙_}
 use native.Mathlib.Omega.{arith}
 use lib.ListN.{length}
+use Rattle.explain.specs.inside.Sizes.{lineMost, textKept}
 use Rattle.explain.proofs.explain_all.Statement.{statement}
 use Rattle.explain.proofs.explain_all.Tie as tie
 
 abbrev Inv-loop : tie.InvT-loop
-Inv-loop text₀ place₀ turns₀ text place turns = (length text ≡ length text₀) × (length text ≡ 256) × (place .len ≤ 256) × (place .given .count ≤ 46)
+Inv-loop text₀ place₀ turns₀ text place turns =
+    (length text ≡ length text₀) × (length text ≡ textKept) × (place .len ≤ textKept) × (place .given .count ≤ lineMost)
 
 abbrev μ-loop : tie.MeasureT-loop
 μ-loop text₀ place₀ turns₀ text place turns = turns

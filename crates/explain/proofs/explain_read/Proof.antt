@@ -1,9 +1,10 @@
--- `explain::explain_read` meets its contract: a line has at most 46 bytes.
+-- `explain::explain_read` meets its contract: a line has at most 48 bytes.
 -- Assumes nothing.
 use mathlib.Core.Path.{_≡_}
 use native.Mathlib.Omega.{arith}
 use lib.ListN.{length}
 use borrow.Author.Needs.{needs}
+use Rattle.explain.specs.inside.Sizes.{lineMost}
 use Rattle.explain.proofs.explain_read.Statement.{statement}
 use Rattle.explain.proofs.explain_read.Tie as tie
 
@@ -16,7 +17,7 @@ part-s-start c = search needs
 part-s-end : tie.Need-part-s-end
 part-s-end c =
     let s = c .before .before in
-    let m : length (s .args .line .bytes) ≡ 46 = search needs in omega (arith, s .pre .0)
+    let m : length (s .args .line .bytes) ≡ lineMost = search needs in omega (arith, s .pre .0)
 
 was-printed-requires : tie.Need-was-printed-requires
 was-printed-requires c κs = search needs
@@ -33,8 +34,8 @@ returns c = search needs
 say-digits-requires : tie.Need-say-digits-requires
 say-digits-requires c κs = search needs
 
-say-given-requires : tie.Need-say-given-requires
-say-given-requires c κs = search needs
+say-taken-requires : tie.Need-say-taken-requires
+say-taken-requires c κs = search needs
 
 returns-2 : tie.Need-returns-2
 returns-2 c = search needs
@@ -51,5 +52,5 @@ explain-read-spec =
     no-line-requires
     returns
     say-digits-requires
-    say-given-requires
+    say-taken-requires
     returns-2)

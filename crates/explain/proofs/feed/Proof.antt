@@ -7,12 +7,13 @@ use native.Mathlib.Omega.{arith}
 use denote.Ref.{now}
 use lib.ListN.{length}
 use Rattle.lines.proofs.Lines.{endWithin}
+use Rattle.explain.specs.inside.Sizes.{lineMost, textKept}
 use Rattle.explain.proofs.feed.Statement.{statement}
 use Rattle.explain.proofs.feed.Tie as tie
 
 abbrev Inv-loop : tie.InvT-loop
 Inv-loop text₀ piece len₀ given₀ i₀ text len given i =
-    (length text ≡ length text₀) × (length text ≡ 256) × (len ≤ 256) × (given .count ≤ 46) × (i ≤ length piece)
+    (length text ≡ length text₀) × (length text ≡ textKept) × (len ≤ textKept) × (given .count ≤ lineMost) × (i ≤ length piece)
 
 abbrev μ-loop : tie.MeasureT-loop
 μ-loop text₀ piece len₀ given₀ i₀ text len given i = length piece - i

@@ -1,9 +1,10 @@
--- `explain::refusals::say_fault` is safe and ends: a line has at most 46 bytes.
+-- `explain::refusals::say_fault` is safe and ends: a line has at most 48 bytes.
 -- Assumes nothing.
 use mathlib.Core.Path.{_≡_}
 use native.Mathlib.Omega.{arith}
 use lib.ListN.{length}
 use borrow.Author.Needs.{needs}
+use Rattle.explain.specs.inside.Sizes.{lineMost}
 use Rattle.explain.proofs.refusals.say_fault.Statement.{statement}
 use Rattle.explain.proofs.refusals.say_fault.Tie as tie
 
@@ -13,19 +14,19 @@ say-writing-requires c κs = search needs
 say-digits-requires : tie.Need-say-digits-requires
 say-digits-requires c κs = search needs
 
-sub-bytes-fault : tie.Need-sub-bytes-fault
-sub-bytes-fault c = search needs
+sub-say-fault-in : tie.Need-sub-say-fault-in
+sub-say-fault-in c = search needs
 
-part-bytes-fault-start : tie.Need-part-bytes-fault-start
-part-bytes-fault-start c = search needs
+part-say-fault-in-start : tie.Need-part-say-fault-in-start
+part-say-fault-in-start c = search needs
 
-part-bytes-fault-end : tie.Need-part-bytes-fault-end
-part-bytes-fault-end c =
+part-say-fault-in-end : tie.Need-part-say-fault-in-end
+part-say-fault-in-end c =
     let s = c .before .before .before .before in
-    let m : length (s .args .given .bytes) ≡ 46 = search needs in omega (arith, s .pre)
+    let m : length (s .args .given .bytes) ≡ lineMost = search needs in omega (arith, s .pre)
 
-bytes-fault-requires : tie.Need-bytes-fault-requires
-bytes-fault-requires c κs = search needs
+say-fault-in-requires : tie.Need-say-fault-in-requires
+say-fault-in-requires c κs = search needs
 
 returns : tie.Need-returns
 returns c = search needs
@@ -39,9 +40,9 @@ say-fault-spec =
     (tie.spec
     say-writing-requires
     say-digits-requires
-    sub-bytes-fault
-    part-bytes-fault-start
-    part-bytes-fault-end
-    bytes-fault-requires
+    sub-say-fault-in
+    part-say-fault-in-start
+    part-say-fault-in-end
+    say-fault-in-requires
     returns
     returns-2)

@@ -5,6 +5,7 @@ use mathlib.Core.Path.{_≡_, subst}
 use Rattle.lines.specs.declared.Spelling.{Spelling}
 use Rattle.lines.specs.inside.Steps.{spellingCount}
 use borrow.Author.Needs.{needs}
+use Rattle.explain.specs.inside.Sizes.{lineMost}
 use Rattle.explain.proofs.text.spelled.Statement.{statement}
 use Rattle.explain.proofs.text.spelled.Tie as tie
 
@@ -30,7 +31,7 @@ returns-2 : tie.Need-returns-2
 returns-2 c =
     let b = c .before .before .before .before .bytes-in in
     let g = c .before .spelling .given in
-    subst (λ (x : Spelling). spellingCount x ≤ 46) (g .1) (b .ensures .1)
+    subst (λ (x : Spelling). spellingCount x ≤ lineMost) (g .1) (b .ensures .1)
 
 pub spelled-spec : {M : Type 1} → statement M
 spelled-spec =
