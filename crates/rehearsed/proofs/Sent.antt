@@ -2,23 +2,22 @@
 -- holds of each waiting frame, and of the new ones, holds of all that wait afterwards.
 -- Assumes nothing.
 use Prim.Native.Nat.{ℕ, zero, suc, _+_, _≤_, _<_}
-use mathlib.Core.Path.{_≡_, refl, sym, ap, subst, _∙_}
+use mathlib.Core.Path.{_≡_, refl, sym, subst, _∙_}
 use mathlib.Core.Bool.{Bool, true, false, cond}
-use mathlib.Core.List.{List, [], _∷_, _++_}
-use mathlib.Core.Option.{Option, none, some}
+use mathlib.Core.List.{List, [], _∷_}
+use mathlib.Core.Option.{some}
 use mathlib.Core.Logic.{_⊎_, inl, inr, ⊎-elim}
 use native.Mathlib.Omega.{arith}
 use lib.Dec.{eqb}
 use borrow.Author.Tests.{eqb-true, eqb-false}
 use lib.ListN.{length}
 use Rattle.rules.proofs.Bools.{which}
-use Rattle.frame.specs.declared.Frame.{Frame}
 use Rattle.frame.specs.Format.{encode}
 use Rattle.frame.proofs.Theorems.{encodeShort}
 use Rattle.entry.specs.declared.Entry.{Entry}
 use Rattle.entry.specs.declared.Entry.the-variants.{ForAll, ForOne, Timer, Decision}
-use Rattle.stage.specs.Stage.{placeCount, placeOf, stageSize, recordOf, liarIn, Waiting, waitingBytes, waitingAt, withWaiting, isFree, freeFrom, firstFree}
-use Rattle.stage.specs.Lines.{Done, sentTo, sent, entryDone, entriesDone}
+use Rattle.stage.specs.Stage.{placeCount, stageSize, recordOf, liarIn, Waiting, waitingBytes, waitingAt, withWaiting, isFree, freeFrom, firstFree}
+use Rattle.stage.specs.Lines.{sentTo, sent, entryDone, entriesDone}
 use Rattle.stage.proofs.Apart.{placeSized, placeRecord, placeLiar, placeOther, waitingPut}
 
 -- It holds of each frame that waits.

@@ -11,7 +11,7 @@ use Rattle.entry.specs.declared.Entry.the-variants.{Decision}
 use Rattle.protocol.specs.Tables.{_∈_}
 use Rattle.runs.specs.Runs.{entriesIn}
 use Rattle.runs.specs.Fixed.{leaves}
-use Rattle.lines.specs.Lines.{Program, after}
+use Rattle.lines.specs.Lines.{after}
 use Rattle.answers.specs.Lines.{zeroed}
 use Rattle.stage.specs.Stage.{emptyStage, recordOf, isLiar}
 use Rattle.stage.specs.Lines.{Meant, refuse, call, free, declare, makeUp, lineMeant, rehearsal}

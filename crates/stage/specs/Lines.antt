@@ -1,6 +1,6 @@
 -- The lines of a rehearsal (document 02, wish 2): what a line's bytes mean on a stage, what that does to the stage, and what is printed.
 -- Assumes nothing.
-use Prim.Native.Nat.{ℕ, suc}
+use Prim.Native.Nat.{ℕ}
 use mathlib.Core.Bool.{Bool, not, _&&_, _||_, cond}
 use mathlib.Core.List.{List, [], _∷_, _++_}
 use mathlib.Core.Option.{Option, none, some}
@@ -13,7 +13,6 @@ use Rattle.entry.specs.declared.Entry.{Entry}
 use Rattle.entry.specs.declared.Entry.the-variants.{ForAll, ForOne, Timer, Decision}
 use Rattle.entry.specs.Layout.{entryBytes}
 use Rattle.entry.specs.Reading.{entriesOf}
-use Rattle.settings.specs.declared.Settings.{Settings}
 use Rattle.record.specs.Layout.{decodeRecord}
 use Rattle.contents.specs.Left.{Left, wrote, gave}
 use Rattle.runs.specs.Runs.{ByteCall, start, frame, timer}

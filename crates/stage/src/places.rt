@@ -1,9 +1,9 @@
 // The stage's bytes, read and changed where they lie: 256 places for frames on their way, a byte for the liar, four records.
 use crate::Way;
 ghost use mathlib.Core.Path.{_≡_};
-ghost use Prim.Native.Nat.{suc, _+_, _*_, _≤_, _<_};
+ghost use Prim.Native.Nat.{_+_, _*_, _≤_, _<_};
 ghost use lib.Dec.{eqb};
-ghost use lib.ListN.{length, take, getD};
+ghost use lib.ListN.{length, take};
 ghost use Rattle.record.specs.Size.{recordSize};
 ghost use Rattle.stage.specs.Stage.{stageSize, placeCount, recordPlace, liarIn, isLiar, withLiar, isFree, firstFree, withWaiting, withFree};
 ghost use Rattle.stage.specs.Lines.{waitingNow};

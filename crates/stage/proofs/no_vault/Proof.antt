@@ -1,6 +1,5 @@
 -- `stage::no_vault` meets its contract: 'a vault above 3'; 02 names none.
 -- Assumes nothing.
-use Prim.Native.Nat.{ℕ}
 use mathlib.Core.Path.{_≡_, refl, _∙_}
 use denote.Ref.{now}
 use borrow.Author.Tests.{eq-eqb, ne-eqb}

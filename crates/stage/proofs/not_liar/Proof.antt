@@ -1,6 +1,5 @@
 -- `stage::not_liar` meets its contract: 'making up a frame for a vault not declared'.
 -- Assumes nothing.
-use Prim.Native.Nat.{ℕ}
 use mathlib.Core.Path.{_≡_, refl, _∙_}
 use denote.Ref.{now}
 use borrow.Author.Tests.{eq-eqb, ne-eqb}

@@ -3,7 +3,6 @@
 -- Assumes nothing.
 use mathlib.Core.Path.{refl}
 use borrow.Author.Tests.{eq-eqb, ne-eqb, lt-ltb, le-ltb}
-use Rattle.frame.proofs.Laws.{told}
 use borrow.Author.Needs.{needs}
 use Rattle.stage.proofs.refusal.Statement.{statement}
 use Rattle.stage.proofs.refusal.Tie as tie

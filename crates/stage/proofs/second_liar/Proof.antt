@@ -1,7 +1,6 @@
 -- `stage::second_liar` meets its contract: 'declaring a second liar'. Declaring the liar again is none.
 -- Assumes nothing.
-use Prim.Native.Nat.{ℕ}
-use mathlib.Core.Path.{_≡_, refl, _∙_}
+use mathlib.Core.Path.{_≡_, refl}
 use denote.Ref.{now}
 use borrow.Author.Tests.{eq-eqb, ne-eqb}
 use Rattle.frame.proofs.Laws.{told}

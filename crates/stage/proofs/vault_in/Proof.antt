@@ -1,6 +1,5 @@
 -- `stage::vault_in` meets its contract: '01 deliver (frame number, vault)' names the vault behind the number, the others behind their kind.
 -- Assumes nothing.
-use Prim.Native.Nat.{ℕ}
 use mathlib.Core.Path.{_≡_, _∙_}
 use denote.Ref.{now}
 use borrow.Author.Tests.{eq-eqb, ne-eqb}

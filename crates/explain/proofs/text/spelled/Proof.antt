@@ -1,7 +1,7 @@
 -- `explain::text::spelled` meets its contract: crate lines spells at most as many bytes as there is room for.
 -- Assumes nothing.
 use Prim.Native.Nat.{_≤_}
-use mathlib.Core.Path.{_≡_, subst}
+use mathlib.Core.Path.{subst}
 use Rattle.lines.specs.declared.Spelling.{Spelling}
 use Rattle.lines.specs.inside.Steps.{spellingCount}
 use borrow.Author.Needs.{needs}
