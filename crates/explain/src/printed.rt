@@ -12,15 +12,9 @@ use crate::refusals::say_refusal;
 use crate::text::Line;
 use crate::words::end_with_number;
 use crate::words::say;
-use crate::words::say_around;
 use crate::words::say_number;
 use frame::Reading;
 use frame::numbers;
-
-// How the line of a frame begins that a rehearsal has on its way, or has lost.
-const WAITS: u8 = 252;
-
-const LOST: u8 = 251;
 
 // Where its entry begins: behind fc and the number, or behind fb.
 const AFTER_NUMBER: usize = 2;
@@ -81,8 +75,8 @@ pub(crate) fn is_printed(program: u8, s: &[u8]) -> bool {
     match s[0] {
         lines::REFUSED => s.len() == REFUSAL_LENGTH,
         numbers::TO_HOST => is_host_entry(s),
-        WAITS => is_led(s, AFTER_NUMBER),
-        LOST => is_led(s, AFTER_LOST),
+        stage::WAITS => is_led(s, AFTER_NUMBER),
+        stage::LOST => is_led(s, AFTER_LOST),
         numbers::TO_ALL => program != REHEARSAL && is_entry(s),
         0..=63 => program != REHEARSAL && is_suggest(s),
         _ => false,
@@ -157,7 +151,8 @@ fn say_waiting(program: u8, s: &[u8]) {
         say_unknown(program);
         return;
     }
-    say_around(b"    frame ", s[1], b" waits, ");
+    say_number(b"    frame ", wire::wide(s[1]));
+    say(b" waits, ");
     say_recipient(s[AFTER_NUMBER]);
     say_bytes(&s[AFTER_NUMBER + 1..]);
 }
@@ -194,8 +189,8 @@ pub(crate) fn say_printed(s: &[u8], given: Line)
     match s[0] {
         lines::REFUSED => say_refused(s, given),
         numbers::TO_HOST => say_host(program, s),
-        WAITS => say_waiting(program, s),
-        LOST => say_lost(program, s),
+        stage::WAITS => say_waiting(program, s),
+        stage::LOST => say_lost(program, s),
         _ => say_entry(program, s),
     }
 }

@@ -60,7 +60,7 @@ fn say_reason(program: u8, number: u8) {
 
 // ---- parts at fault
 
-fn say_part(words: &[u8], n: u64) {
+pub(crate) fn say_part(words: &[u8], n: u64) {
     say(b"        at fault: ");
     end_with_number(words, n);
 }

@@ -10,9 +10,9 @@ use crate::frames::say_length;
 use crate::frames::say_no_kind;
 use crate::refusals::kind_fault;
 use crate::refusals::length_fault;
+use crate::refusals::say_part;
 use crate::words::end_with_number;
 use crate::words::say;
-use crate::words::say_around;
 use crate::words::say_number;
 use frame::numbers;
 
@@ -65,39 +65,39 @@ fn say_start(s: &[u8]) {
     if s.len() != stage::START_SIZE {
         return;
     }
-    say_around(b"    start vault ", s[1], b": link class ");
-    say_around(b"", s[2], b", starting plan ");
-    end_with_number(b"", wire::number64(s, 3));
+    say_number(b"    start vault ", wire::wide(s[1]));
+    say_number(b": link class ", wire::wide(s[2]));
+    end_with_number(b", starting plan ", wire::number64(s, 3));
 }
 
-fn say_delivery(number: u8, vault: u8) {
-    say_around(b"    deliver frame ", number, b" to vault ");
-    end_with_number(b"", vault as u64);
+fn say_delivery(number: u64, vault: u64) {
+    say_number(b"    deliver frame ", number);
+    end_with_number(b" to vault ", vault);
 }
 
 fn say_made_up(s: &[u8]) {
     if s.len() < stage::NAME_SIZE {
         return;
     }
-    say_around(b"    made up by vault ", s[1], b", to all: ");
+    say_number(b"    made up by vault ", wire::wide(s[1]));
+    say(b", to all: ");
     say_bytes(&s[stage::NAME_SIZE..]);
 }
 
 fn say_formed(s: &[u8])
     requires { ⌜ Formed (now s) ⌝ }
 {
-    let vault = stage::vault_in(s);
-    let number = number_in(s);
+    let vault = stage::vault_in(s) as u64;
+    let number = number_in(s) as u64;
     match s[0] {
         stage::START => say_start(s),
         stage::DELIVER => say_delivery(number, vault),
-        stage::DROP => say_around(b"    drop frame ", number, b"\n"),
-        stage::DECLARE => say_around(b"    declare vault ", vault, b" the liar\n"),
+        stage::DROP => end_with_number(b"    drop frame ", number),
+        stage::DECLARE => end_with_number(b"    declare the liar: vault ", vault),
         stage::MAKE_UP => say_made_up(s),
-        _ => say_around(
-            b"    the timer of vault ",
+        _ => end_with_number(
+            b"    the timer for the current view runs out: vault ",
             vault,
-            b" for its current view runs out\n",
         ),
     }
 }
@@ -118,14 +118,13 @@ pub(crate) fn say_rehearsed(s: &[u8]) {
 // ---- parts at fault
 
 // The refusals of a frame are about one that is not in the line.
-fn delivered_fault(number: u8, frame: u8) {
+fn delivered_fault(number: u8, frame: u64) {
     match number {
         numbers::REFUSED_KIND..=numbers::REFUSED_KEPT
         | numbers::REFUSED_REPORT_VIEW
-        | numbers::REFUSED_PREVIOUS => say_around(
+        | numbers::REFUSED_PREVIOUS => end_with_number(
             b"        of the frame that was delivered, number ",
             frame,
-            b"\n",
         ),
         _ => (),
     }
@@ -135,19 +134,11 @@ fn delivered_fault(number: u8, frame: u8) {
 fn stage_fault(s: &[u8])
     requires { ⌜ Formed (now s) ⌝ }
 {
-    let named = number_in(s);
+    let named = number_in(s) as u64;
     match s[0] {
-        stage::DELIVER | stage::DROP => say_around(
-            b"        at fault: no frame waits at number ",
-            named,
-            b"\n",
-        ),
-        stage::DECLARE => say_around(
-            b"        at fault: another vault than ",
-            named,
-            b" is declared\n",
-        ),
-        stage::MAKE_UP => say_around(b"        at fault: vault ", named, b" is not declared\n"),
+        stage::DELIVER | stage::DROP => say_part(b"no frame waits at number ", named),
+        stage::DECLARE => say_part(b"a liar is declared, other than vault ", named),
+        stage::MAKE_UP => say_part(b"not declared the liar: vault ", named),
         _ => (),
     }
 }
@@ -157,11 +148,7 @@ fn name_fault(s: &[u8])
     requires { ⌜ Formed (now s) ⌝ }
 {
     if stage::no_vault(s) {
-        say_around(
-            b"        at fault: the vault's number, above 3: ",
-            stage::vault_in(s),
-            b"\n",
-        );
+        say_part(b"the vault's number, above 3: ", stage::vault_in(s) as u64);
         return;
     }
     stage_fault(s);
@@ -175,7 +162,7 @@ fn formed_fault(number: u8, s: &[u8])
         return;
     }
     if s[0] == stage::DELIVER {
-        delivered_fault(number, number_in(s));
+        delivered_fault(number, number_in(s) as u64);
     }
 }
 

@@ -275,18 +275,16 @@ fn most_digits(program: u8) -> usize
 // What is wrong with the count of digits of a line that is given.
 pub(crate) fn say_digits(program: u8, w: Writing) {
     if w.digits % 2 != 0 {
-        say(b"    an odd count of digits, ");
-        say_count(program, w.digits);
+        say_count(b"    an odd count of digits, ", program, w.digits);
     }
     let most = most_digits(program);
     if most < w.digits {
         say_number(b"    more than ", most as u64);
-        say(b" digits, ");
-        say_count(program, w.digits);
+        say_count(b" digits, ", program, w.digits);
     }
 }
 
-fn say_count(program: u8, count: usize) {
-    say_number(b"", count as u64);
+fn say_count(words: &[u8], program: u8, count: usize) {
+    say_number(words, count as u64);
     end_with_refused(program);
 }

@@ -21,12 +21,6 @@ pub(crate) fn end_with_number(words: &[u8], n: u64) {
     end_line();
 }
 
-// Words around a byte's number.
-pub(crate) fn say_around(words: &[u8], x: u8, rest: &[u8]) {
-    say_number(words, x as u64);
-    say(rest);
-}
-
 // Words, and then a byte as a line has it, in two hexadecimal digits.
 pub(crate) fn say_byte(words: &[u8], b: u8) {
     say(words);

@@ -27,11 +27,6 @@ ghost use Rattle.obey.specs.inside.Sizes.{answerSize, lineShare, pieceSi
 // 'a zeroed 256-byte output array'
 const OUTPUT: usize = 256;
 
-// 'a frame's entry is led by fc and its number, or by fb where 256 wait and it is lost'
-pub const WAITS: u8 = 252;
-
-pub const LOST: u8 = 251;
-
 // ---- frames on their way
 
 // What stands before a frame's recipient byte and the frame, where k is the smallest free number: fc and the number, or fb where the frame is lost.
@@ -40,9 +35,9 @@ fn put_head(page: &mut [u8], at: usize, k: usize, to: u8) -> usize
     ensures { λ r. ⌜ OnPage (digitsOf (headOf k to)) (now (page .entry)) at (now (page .exit)) r ⌝ }
 {
     if k < places::PLACES {
-        return lines::put_digits(page, at, &[WAITS, k as u8, to]);
+        return lines::put_digits(page, at, &[stage::WAITS, k as u8, to]);
     }
-    lines::put_digits(page, at, &[LOST, to])
+    lines::put_digits(page, at, &[stage::LOST, to])
 }
 
 // A new frame takes the smallest free number, or is lost; its line is put on the page.

@@ -42,6 +42,11 @@ pub const LAST_VAULT: u8 = 3;
 // 'a line naming a frame not waiting or a vault above 3, declaring a second liar, or making up a frame for a vault not declared'
 pub const REFUSED_NAME: u8 = 23;
 
+// 'a frame's entry is led by fc and its number, or by fb where 256 wait and it is lost'
+pub const WAITS: u8 = 252;
+
+pub const LOST: u8 = 251;
+
 // Who wrote a frame, and its recipient byte.
 pub struct Way {
     pub writer: u8,
