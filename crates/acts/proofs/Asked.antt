@@ -1,26 +1,26 @@
--- Steps A and B by slots (document 01, 'One pass'): the highest view with f + 1 or n - f view-changes is the highest that the search
--- over the gathered views finds, since the sets of those who ask are the same below n. As 'above' only leaves out the low end, it
--- may be asked of each view, as the search does, or of the highest one, as A does.
+-- Steps A and B by slots (document 01, 'One pass'; document 02, wish 3): the highest view that f + 1 or n - f view-changes ask for is the
+-- highest that the search over the gathered views finds, since the sets of those who ask are the same below n. As 'above' only leaves out
+-- the low end, it may be asked of each view, as the search does, or of the highest one, as A does.
 -- Assumes nothing.
-use Prim.Native.Nat.{ℕ, zero, suc, _+_, _-_, _≤_, _<_, max}
+use Prim.Native.Nat.{ℕ, _+_, _-_, _≤_, _<_, max}
 use mathlib.Core.Path.{_≡_, refl, sym, _∙_, ap, fun-ext}
 use mathlib.Core.Bool.{Bool, true, false, not, _&&_}
 use mathlib.Core.List.{List}
 use mathlib.Core.Option.{Option, none, some}
 use native.Mathlib.Omega.{arith}
 use native.Mathlib.Decide.{decLt}
-use lib.Dec.{leb, ltb, eqb}
-use borrow.Author.Tests.{eqb-true, leb-true, lt-ltb, le-ltb, le-leb, lt-leb}
-use Rattle.rules.specs.Sets.{Set, weigh}
+use lib.Dec.{leb, ltb}
+use borrow.Author.Tests.{lt-ltb, le-ltb, le-leb, lt-leb}
+use Rattle.rules.specs.Sets.{weigh}
 use Rattle.rules.specs.Quorums.{isQuorum, isBlocking}
 use Rattle.rules.proofs.Bools.{bothSplit}
 use Rattle.rules.proofs.Quorums.{weighSame, totalEquals}
 use Rattle.rules.specs.Options.{holds}
-use Rattle.rules.proofs.Laws.{holdsWhere}
 use Rattle.record.specs.Slots as slots
 use Rattle.protocol.specs.Record.{when, each, changeOf, highest}
 use Rattle.protocol.specs.Pass.{Act, ask, enter, asked, isNews, canEnter, actA, actB}
 use Rattle.protocol.proofs.Tables.{highestHas, highestMost}
+use Rattle.protocol.proofs.Asked.{KeptFrom, blockingKept, enterKept}
 use Rattle.contents.specs.Contents.{contents}
 use Rattle.tally.specs.inside.Parts.{sharedPart}
 use Rattle.tally.specs.inside.Changes.{changeIn, newsFrom, askers, enough, Highest}
@@ -30,27 +30,17 @@ use Rattle.acts.proofs.Kept.{changeAt}
 
 -- ---- the highest
 
--- Some member is in a set that weighs something.
-member : (set : Set) (k : ℕ) → 0 < weigh (λ i. 1) set k → (j : ℕ) × (j < k) × (set j ≡ true)
-unfolding weigh
-member set zero heavy = absurd (omega arith)
-member set (suc k) heavy = go (set k) refl (λ more. member set k more)
-  where
-    older : (j : ℕ) × (j < k) × (set j ≡ true) → (j : ℕ) × (j < suc k) × (set j ≡ true)
-    older (j, low, is) = (j, omega arith, is)
-
-    go : (b : Bool) → set k ≡ b → (0 < weigh (λ i. 1) set k → (j : ℕ) × (j < k) × (set j ≡ true)) → (j : ℕ) × (j < suc k) × (set j ≡ true)
-    go true e before = (k, omega arith, e)
-    go false e before = let rest : 0 < weigh (λ i. 1) set k + 0 = rw e at heavy in older (before (omega arith))
-
 module _ (test : ℕ → Bool) (f : ℕ → Option ℕ) (n low best : ℕ) (h : Highest test low best)
-    (found : (w : ℕ) → test w ≡ true → (j : ℕ) × (j < n) × (f j ≡ some w)) where
+    (found : (w : ℕ) → test w ≡ true → KeptFrom test f n w) where
   -- Where best is above low it is the highest, and otherwise the highest is not above low.
   topActs : (act : ℕ → Act) → each (highest test f n) (λ w. when (ltb low w) (some (act w))) ≡ when (ltb low best) (some (act best))
   topActs act = go (highest test f n) refl (decLt low best)
     where
       least : low < best → (w : ℕ) × (highest test f n ≡ some w) × (best ≤ w)
-      least over = let (j, below, is) = found best (h .passes over) in highestMost test f n j best below is (h .passes over)
+      least over =
+          let k = found best (h .passes over) in
+          let (w, is, le) = highestMost test f n (k .who) (k .view) (k .below) (k .kept) (k .passes) in
+          (w, is, omega (arith, k .up))
 
       go : (o : Option ℕ) → highest test f n ≡ o → Dec (low < best) → each o (λ w. when (ltb low w) (some (act w))) ≡ when (ltb low best) (some (act best))
       go none e (no under) = rw (le-ltb low best (omega arith))
@@ -93,10 +83,10 @@ module _ (s : List ℕ) (r : slots.Record) (reads : Reads s r) where
   changes = changeIn (sharedPart s)
 
   -- As many ask for w by the slots as by the contents.
-  askersSame : (w : ℕ) → weigh (λ i. 1) (λ j. holds (eqb w) (changeOf (contents r) j)) n ≡ weigh (λ i. 1) (askers changes w) n
+  askersSame : (w : ℕ) → weigh (λ i. 1) (λ j. holds (leb w) (changeOf (contents r) j)) n ≡ weigh (λ i. 1) (askers changes w) n
   askersSame w =
-      weighSame (λ i. 1) (λ j. holds (eqb w) (changeOf (contents r) j)) (askers changes w) n
-      (λ j low. ap (λ (o : Option ℕ). holds (eqb w) o) (changeAt s r reads j (omega (arith, reads .allows .most))))
+      weighSame (λ i. 1) (λ j. holds (leb w) (changeOf (contents r) j)) (askers changes w) n
+      (λ j low. ap (λ (o : Option ℕ). holds (leb w) o) (changeAt s r reads j (omega (arith, reads .allows .most))))
 
   -- So f + 1 do by the slots just where a blocking set does by the contents.
   blockingSame : (w : ℕ) → enough changes n (r .set .f + 1) w ≡ asked (contents r) isBlocking w
@@ -108,15 +98,6 @@ module _ (s : List ℕ) (r : slots.Record) (reads : Reads s r) where
   unfolding contents isQuorum enough
   quorumSame w = sym (λ i. leb (totalEquals n (r .set .f) i - r .set .f) (askersSame w i))
 
-  -- Where enough ask, one does.
-  someAsks : (need w : ℕ) → 0 < need → enough changes n need w ≡ true → (j : ℕ) × (j < n) × (changeOf (contents r) j ≡ some w)
-  unfolding enough
-  someAsks need w least h =
-      let many : need ≤ weigh (λ i. 1) (askers changes w) n = leb-true need (weigh (λ i. 1) (askers changes w) n) h in
-      let (j, low, on) = member (askers changes w) n (omega arith) in
-      let (x, is, same) = holdsWhere (changes j) (eqb w) on in
-      (j, low, changeAt s r reads j (omega (arith, reads .allows .most)) ∙ is ∙ ap some (sym (eqb-true w x same)))
-
   -- B. 'Take the highest w above the current view with n - f kept view-changes for w. Enter it.'
   module _ (w : ℕ) (top : Highest (enough changes n (n - r .set .f)) (r .view) w) where
     -- w is the highest view that can be entered, by contents.
@@ -126,17 +107,11 @@ module _ (s : List ℕ) (r : slots.Record) (reads : Reads s r) where
         highestBoth (enough changes n (n - r .set .f)) (canEnter (contents r)) (r .view) w
         (λ v above. quorumSame v ∙ sym (ap (λ (b : Bool). b && asked (contents r) isQuorum v) (lt-ltb (r .view) v above))) top
 
-    -- A view that can be entered is asked for by someone, as the search for the highest goes by askers.
-    canAsk : (v : ℕ) → canEnter (contents r) v ≡ true → (j : ℕ) × (j < n) × (changeOf (contents r) j ≡ some v)
-    canAsk v can =
-        someAsks (n - r .set .f) v (omega (arith, reads .allows .third))
-        (quorumSame v ∙ bothSplit (ltb (contents r .view) v) (asked (contents r) isQuorum v) can .1)
-
     -- Step B enters w where that is above the current view, and otherwise does nothing.
     enterIs : when (ltb (r .view) w) (some (enter w)) ≡ actB (contents r)
     unfolding contents
     enterIs =
-        sym (topActs (canEnter (contents r)) (changeOf (contents r)) n (r .view) w canSame canAsk enter)
+        sym (topActs (canEnter (contents r)) (changeOf (contents r)) n (r .view) w canSame (enterKept (contents r) (reads .allows .third)) enter)
         ∙ go (highest (canEnter (contents r)) (changeOf (contents r)) n) refl
       where
         go : (o : Option ℕ) → highest (canEnter (contents r)) (changeOf (contents r)) n ≡ o
@@ -172,8 +147,7 @@ module _ (s : List ℕ) (r : slots.Record) (reads : Reads s r) where
     askIs : when (ltb low w) (some (ask w)) ≡ actA (contents r)
     unfolding contents
     askIs =
-        sym (topActs (asked (contents r) isBlocking) (changeOf (contents r)) n low w askSame
-        (λ v h. someAsks (r .set .f + 1) v (omega arith) (blockingSame v ∙ h)) ask)
+        sym (topActs (asked (contents r) isBlocking) (changeOf (contents r)) n low w askSame (blockingKept (contents r)) ask)
         ∙ ap (λ (news : ℕ → Bool). each (highest (asked (contents r) isBlocking) (changeOf (contents r)) n) (λ v. when (news v) (some (ask v))))
         (sym (fun-ext newsSame))
 

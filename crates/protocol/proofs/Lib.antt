@@ -1,4 +1,5 @@
 pub mod Tables
+pub mod Asked
 pub mod Past
 pub mod May
 pub mod Tops

@@ -11,7 +11,7 @@ use mathlib.Core.Option.{Option, none, some}
 use native.Mathlib.Omega.{arith}
 use native.Mathlib.Decide.{ℕ-discrete}
 use lib.Dec.{leb, ltb, eqb}
-use borrow.Author.Tests.{eqb-true, eq-eqb, le-leb, lt-ltb, le-ltb, ltb-true, ltb-false}
+use borrow.Author.Tests.{eq-eqb, leb-true, le-leb, lt-ltb, le-ltb, ltb-true, ltb-false}
 use Rattle.rules.specs.Quorums.{isQuorum, isBlocking}
 use Rattle.rules.proofs.Bools.{which, bothSplit, bothJoin}
 use Rattle.rules.proofs.Quorums.{enoughMono, blockingByWeight}
@@ -135,12 +135,12 @@ ownA r w top = eachNone (highest (asked t isBlocking) (changeOf t) (r .set .n)) 
         ⊎-elim (λ (kind, sender, same). absurd (let wv : w ≡ y .view = ap (λ (z : Frame). z .view) same in let vx : y .view ≡ x = cc in omega arith))
         (λ was. ap (λ (o : Option Frame). each o (λ x. some (x .view))) was ∙ v) (keepWas (changeFrame r w) (r .kept) 6 j is)
 
-    within : (x : ℕ) → w < x → (j : ℕ) → j < r .set .n → holds (eqb x) (changeOf t j) ≡ true → holds (eqb x) (changeOf r j) ≡ true
+    -- Who asks for a view above w, or a later one, asked before.
+    within : (x : ℕ) → w < x → (j : ℕ) → j < r .set .n → holds (leb x) (changeOf t j) ≡ true → holds (leb x) (changeOf r j) ≡ true
     within x above j low h =
-        let (y, is, same) = holdsWhere (changeOf t j) (eqb x) h in
-        let xy : x ≡ y = eqb-true x y same in
-        let was : changeOf r j ≡ some x = old x j above (is ∙ ap some (sym xy)) in
-        rw (was, eq-eqb x x refl)
+        let (y, is, later) = holdsWhere (changeOf t j) (leb x) h in
+        let was : changeOf r j ≡ some y = old y j (omega (arith, leb-true x y later)) is in
+        rw (was, later)
 
     most : (x : ℕ) → highest (asked t isBlocking) (changeOf t) (r .set .n) ≡ some x → x ≤ w
     most x is = go (which (ltb w x))
@@ -153,7 +153,7 @@ ownA r w top = eachNone (highest (asked t isBlocking) (changeOf t) (r .set .n)) 
             let (j, low, at) = found in
             let before : asked r isBlocking x ≡ true =
             enoughMono (vaults r) (isBlocking (vaults r)) (blockingByWeight (vaults r))
-            (λ j. holds (eqb x) (changeOf t j)) (λ j. holds (eqb x) (changeOf r j)) (within x above) enough in
+            (λ j. holds (leb x) (changeOf t j)) (λ j. holds (leb x) (changeOf r j)) (within x above) enough in
             let (z, is-top, le) = highestMost (asked r isBlocking) (changeOf r) (r .set .n) j x low (old x j above at) before in
             let same : z ≡ w = cc in
             omega arith

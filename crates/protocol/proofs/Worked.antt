@@ -112,6 +112,27 @@ timerBeyond = replies (
     ) none
     ≡ wrote (Timer 0 180 ∷ []) ∷ wrote [] ∷ wrote [] ∷ wrote (ForAll (change 3 5) ∷ []) ∷ wrote (ForAll (change 3 5) ∷ []) ∷ []
 
+-- The hang of wish 3: a view-change for 2 counts for 1 too, so vault 0 enters view 1 with vault 1.
+abbrev laterBacks : Type 0
+laterBacks = replies (starts 0 7 ∷ timer 0 ∷ hears (change 2 1) ∷ hears (change 2 2) ∷ hears (change 1 1) ∷ []) none
+    ≡ wrote (timed 0 ∷ ForAll (vote 0 0 0 7) ∷ ForAll (vote 0 1 0 7) ∷ []) ∷ wrote (ForAll (change 0 1) ∷ []) ∷ wrote [] ∷ wrote []
+    ∷ wrote (timed 1 ∷ ForAll (told rule3 0 1 (for 0 7) none none) ∷ ForOne 1 (silent rule1 0 1) ∷ []) ∷ []
+
+-- Step A asks for view 5 and B enters view 3 in one pass, by view-changes for 3, 5 and 9; the timer of view 3 then repeats the one for 5.
+abbrev scattered : Type 0
+scattered = replies (
+    start (record { n = 7; f = 2; id = 0; class = 2 }) 7 ∷ hears (change 1 5) ∷ hears (change 2 3) ∷ hears (change 3 9) ∷ hears (change 4 9) ∷ timer 3 ∷ []
+    ) none
+    ≡ wrote (timed 0 ∷ ForAll (vote 0 0 0 7) ∷ ForAll (vote 0 1 0 7) ∷ []) ∷ wrote [] ∷ wrote [] ∷ wrote (ForAll (change 0 3) ∷ [])
+    ∷ wrote (ForAll (change 0 5) ∷ timed 3 ∷ ForAll (told rule3 0 3 (for 0 7) none none) ∷ ForOne 3 (silent rule1 0 3) ∷ [])
+    ∷ wrote (ForAll (change 0 5) ∷ []) ∷ []
+
+-- The view that is entered by view-changes for 4 and 5 is 4, and one for 3 comes too late.
+abbrev lowerEntered : Type 0
+lowerEntered = replies (starts 3 7 ∷ hears (change 0 5) ∷ hears (change 1 4) ∷ hears (change 2 3) ∷ []) none
+    ≡ wrote (timed 0 ∷ []) ∷ wrote []
+    ∷ wrote (ForAll (change 3 4) ∷ timed 4 ∷ ForAll (silent rule3 3 4) ∷ ForOne 0 (silent rule1 3 4) ∷ []) ∷ refusal 16 ∷ []
+
 -- A leader enters its view: its suggest counts and is not written; with two others that report no lock it proposes its plan.
 abbrev ownPlan : Type 0
 ownPlan = replies (starts 1 7 ∷ hears (change 0 1) ∷ hears (change 2 1) ∷ hears (silent rule1 0 1) ∷ hears (silent rule1 2 1) ∷ []) none
@@ -189,8 +210,8 @@ refusals = replies (
     ≡ refusal 1 ∷ refusal 2 ∷ refusal 2 ∷ refusal 5 ∷ refusal 6 ∷ refusal 7 ∷ refusal 8 ∷ wrote (Timer 0 45000 ∷ []) ∷ refusal 4 ∷ refusal 9 ∷ refusal 1 ∷ []
 
 -- All of them hold by computation.
-worked : document × allVotes × lateVote × viewChanges × timerRepeats × timerBeyond × ownPlan × lockedPlan × lockedVote × twoSetVote × previousStays
-    × decidesOnce × laterReplaces × refusals
+worked : document × allVotes × lateVote × viewChanges × timerRepeats × timerBeyond × laterBacks × scattered × lowerEntered × ownPlan × lockedPlan
+    × lockedVote × twoSetVote × previousStays × decidesOnce × laterReplaces × refusals
 unfolding delayOf replies answer started keep heard timedOut pass stepA stepB stepC stepD stepVote stepH does writes agreed highest
     safe free allowed claimed twoSets backed choice smallest anyBelow weigh isQuorum isBlocking reach claims unlocked allows
-worked = (refl, refl, refl, refl, refl, refl, refl, refl, refl, refl, refl, refl, refl, refl)
+worked = (refl, refl, refl, refl, refl, refl, refl, refl, refl, refl, refl, refl, refl, refl, refl, refl, refl)

@@ -1,5 +1,6 @@
 pub mod Record
 pub mod Pass
+pub mod Asked
 pub mod OnePlan
 pub mod Calls
 pub mod Settled

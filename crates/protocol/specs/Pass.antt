@@ -71,9 +71,9 @@ writes r (decide p) = Decision (r .view) p ∷ []
 -- ---- when a step does something
 
 module _ (r : Record) where
-  -- Enough kept view-changes are for w.
+  -- Enough kept view-changes are for w or later: 'a kept view-change for w counts for every view up to w' (document 02, wish 3).
   abbrev pub asked : (Vaults → Set → Bool) → ℕ → Bool
-  asked enough w = enough (vaults r) (λ j. holds (eqb w) (changeOf r j))
+  asked enough w = enough (vaults r) (λ j. holds (leb w) (changeOf r j))
 
   -- 'above the current view and above the vault's own view-change, where it has sent one'.
   abbrev pub isNews : ℕ → Bool

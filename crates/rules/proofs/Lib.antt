@@ -1,6 +1,7 @@
 pub mod Bools
 pub mod Quorums
 pub mod Laws
+pub mod Least
 pub mod Single
 pub mod Views
 pub mod Reports

@@ -18,7 +18,7 @@ ghost use Rattle.record.specs.Layout.{slotSize, sharedSize, slotIn};
 ghost use Rattle.record.specs.inside.Layout.{blockSize};
 ghost use Rattle.safe.specs.Choices.{chosen};
 ghost use Rattle.tally.specs.inside.Parts.{blockPlace};
-ghost use Rattle.tally.specs.inside.Changes.{asks, changeIn, newsFrom, enough, times, raisedAt, Gathered, Highest};
+ghost use Rattle.tally.specs.inside.Changes.{asks, changeIn, newsFrom, enough, asking, raisedAt, Gathered, Highest};
 ghost use Rattle.tally.specs.inside.Votes.{voted, voteInBlock, rowVotes, leadWith, leadAfter, agreedIn, Leads};
 ghost use Rattle.tally.specs.inside.Reports.{reportsBy, aboveOf, withVote, withReport, Filled};
 
@@ -70,29 +70,28 @@ fn views_above(shared: &[u8], n: usize, need: usize, low: u32, views: &mut [u32]
     count
 }
 
-// What a view adds to those that are w.
-fn share_same(x: u32, w: u32) -> u32
-    ensures { λ c. ⌜ c ≡ cond (eqb w x) 1 0 ⌝ }
+// What a view adds to those that ask for w: 'a kept view-change for w counts for every view up to w'.
+fn share_asking(x: u32, w: u32) -> u32
+    ensures { λ c. ⌜ c ≡ cond (leb w x) 1 0 ⌝ }
 {
-    if w == x { 1 } else { 0 }
+    if w <= x { 1 } else { 0 }
 }
 
-// How many of the views from a place on are w.
-fn times_from(views: &[u32], from: usize, w: u32) -> usize
-    requires { ⌜ (from ≤ length (now views)) × (length (now views) ≤ rows) ⌝ }
-    ensures { λ c. ⌜ times (now (views .entry)) from w + c ≡ times (now (views .entry)) (length (now (views .entry))) w ⌝ }
+// How many of the views ask for w.
+fn count_asking(views: &[u32], w: u32) -> usize
+    requires { ⌜ length (now views) ≤ rows ⌝ }
+    ensures { λ c. ⌜ c ≡ asking (now (views .entry)) (length (now (views .entry))) w ⌝ }
 {
     let mut count: u32 = 0;
-    let mut j = from;
+    let mut j: usize = 0;
     while j < views.len() {
-        count += share_same(views[j], w);
+        count += share_asking(views[j], w);
         j += 1;
     }
     count as usize
 }
 
 // The highest view so far, once the one at a place is tried.
-// A view met here for the first time has all its askers from here on; one met before has passed or failed there.
 fn raised(views: &[u32], i: usize, need: usize, best: u32) -> u32
     requires { ⌜ (i < length (now views)) × (length (now views) ≤ rows) ⌝ }
     ensures { λ r. ⌜ r ≡ raisedAt (now (views .entry)) i need best ⌝ }
@@ -101,27 +100,31 @@ fn raised(views: &[u32], i: usize, need: usize, best: u32) -> u32
     if w <= best {
         return best;
     }
-    if times_from(views, i, w) < need {
+    if count_asking(views, w) < need {
         return best;
     }
     w
 }
 
-// The highest view above low that is there as often as is needed, low where there is none. It stops where too few are left.
+// The highest view above low that as many of the views ask for as are needed, low where there is none. It is one of the views: where enough
+// ask for a view, they ask for the least of theirs too.
 fn highest_of(views: &[u32], need: usize, low: u32) -> u32
-    requires { ⌜ (length (now views) ≤ rows) × (0 < need) × (need ≤ rows) ⌝ }
-    ensures { λ r. ⌜ Highest (λ w. leb need (times (now (views .entry)) (length (now (views .entry))) w)) low r ⌝ }
+    requires { ⌜ (length (now views) ≤ rows) × (0 < need) ⌝ }
+    ensures { λ r. ⌜ Highest (λ w. leb need (asking (now (views .entry)) (length (now (views .entry))) w)) low r ⌝ }
 {
+    if views.len() < need {
+        return low;
+    }
     let mut best = low;
     let mut i: usize = 0;
-    while i + need <= views.len() {
+    while i < views.len() {
         best = raised(views, i, need, best);
         i += 1;
     }
     best
 }
 
-// The highest view above low that as many of n view-changes as are needed are for, low where there is none.
+// The highest view above low that as many of n view-changes as are needed ask for, low where there is none.
 pub fn highest_change(shared: &[u8], n: usize, need: usize, low: u32) -> u32
     requires { ⌜ (length (now shared) ≡ sharedSize) × (n ≤ rows) × (0 < need) × (need ≤ rows) ⌝ }
     ensures { λ r. ⌜ Highest (enough (changeIn (now (shared .entry))) n need) low r ⌝ }

@@ -1,11 +1,11 @@
 -- View-changes, slot by slot, and the highest view with enough of them (document 01, 'One pass', A and B).
 -- Assumes nothing.
-use Prim.Native.Nat.{ℕ, _+_, _≤_, _<_, max}
+use Prim.Native.Nat.{ℕ, _≤_, _<_, max}
 use mathlib.Core.Path.{_≡_}
 use mathlib.Core.Bool.{Bool, true, cond, _&&_}
 use mathlib.Core.List.{List}
 use mathlib.Core.Option.{Option, none, some}
-use lib.Dec.{leb, ltb, eqb}
+use lib.Dec.{leb, ltb}
 use lib.ListN.{length, getD}
 use Rattle.rules.specs.Sets.{Set, weigh}
 use Rattle.rules.specs.Options.{holds}
@@ -27,27 +27,26 @@ abbrev pub newsFrom : ℕ → Option ℕ → ℕ
 newsFrom view none = view
 newsFrom view (some own) = max view own
 
--- 'kept view-changes are for w': their senders.
+-- 'a kept view-change for w counts for every view up to w' (document 02, wish 3): those who ask for w are the senders for w or later.
 abbrev pub askers : (ℕ → Option ℕ) → ℕ → Set
-askers change w j = holds (eqb w) (change j)
+askers change w j = holds (leb w) (change j)
 
 -- They are as many as are needed, of n.
 unfoldable pub enough : (ℕ → Option ℕ) → ℕ → ℕ → ℕ → Bool
 enough change n need w = leb need (weigh (λ i. 1) (askers change w) n)
 
--- How many of the first k views are w.
-abbrev pub times : List ℕ → ℕ → ℕ → ℕ
-times views k w = weigh (λ i. 1) (λ j. eqb w (getD views j 0)) k
+-- How many of the first k views ask for w: they are w or later.
+abbrev pub asking : List ℕ → ℕ → ℕ → ℕ
+asking views k w = weigh (λ i. 1) (λ j. leb w (getD views j 0)) k
 
--- The first `count` views have each view above low as often as is needed where so many of n view-changes are for it.
+-- As many of the first `count` views as are needed ask for a view above low where so many of n view-changes do.
 pub record Gathered (change : ℕ → Option ℕ) (n need low : ℕ) (views : List ℕ) (count : ℕ) : Type 0 where
   pub most : count ≤ n
-  pub same : (w : ℕ) → low < w → leb need (times views count w) ≡ enough change n need w
+  pub same : (w : ℕ) → low < w → leb need (asking views count w) ≡ enough change n need w
 
--- The highest view so far, once the one at place i is tried: it is there as often as is needed, from here on.
+-- The highest view so far, once the one at place i is tried: it is above that, and enough ask for it.
 unfoldable pub raisedAt : List ℕ → ℕ → ℕ → ℕ → ℕ
-raisedAt views i need best =
-    cond (ltb best (getD views i 0) && leb (times views i (getD views i 0) + need) (times views (length views) (getD views i 0))) (getD views i 0) best
+raisedAt views i need best = cond (ltb best (getD views i 0) && leb need (asking views (length views) (getD views i 0))) (getD views i 0) best
 
 -- 'Take the highest ..': the highest view above low that passes a test, low where there is none.
 pub record Highest (test : ℕ → Bool) (low best : ℕ) : Type 0 where
