@@ -22,15 +22,13 @@ use Rattle.protocol.proofs.Tables.{highestHas, highestMost}
 
 -- ---- who asks for a view asks for every lower one
 
-module _ (r : Record) (enough : Vaults → Set → Bool) (by : ByWeight (vaults r) (enough (vaults r))) where
-  -- A view that enough ask for has enough at every lower view.
-  lower : (w x : ℕ) → w ≤ x → asked r enough x ≡ true → asked r enough w ≡ true
-  lower w x le = enoughMono (vaults r) (enough (vaults r)) by (upFrom (changeOf r) x) (upFrom (changeOf r) w)
-      (λ j low. holdsMap (changeOf r j) (leb x) (leb w) (λ y is later. le-leb w y (omega (arith, leb-true x y later))))
-
 -- A view that enough ask for has enough at every lower view.
 pub askedFalls : AskedFalls
-askedFalls r w x le = (lower r isBlocking (blockingByWeight (vaults r)) w x le, lower r isQuorum (quorumByWeight (vaults r)) w x le)
+askedFalls r w x le = (lower isBlocking (blockingByWeight (vaults r)), lower isQuorum (quorumByWeight (vaults r)))
+  where
+    lower : (enough : Vaults → Set → Bool) → ByWeight (vaults r) (enough (vaults r)) → asked r enough x ≡ true → asked r enough w ≡ true
+    lower enough by = enoughMono (vaults r) (enough (vaults r)) by _ _
+        (λ j low. holdsMap (changeOf r j) _ _ (λ y is later. le-leb w y (omega (arith, leb-true x y later))))
 
 -- ---- the highest of the kept views is the highest of all
 
