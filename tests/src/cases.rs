@@ -25,7 +25,7 @@ fn quiet(n: u8, f: u8) -> Vec<Case> {
         follows.case("start, does not lead view 0", start, none()),
         Scene::started(n, f, 1).case("vote, nothing kept", vote(0), none()),
         full(n, f).case("vote, all kept", vote(20_000), none()),
-        full(n, f).case("view-change, all kept", heard(Frame::view_change(2, 20_000)), none()),
+        full(n, f).case("view-change, all kept", heard(Frame::view_change(n - 1, 20_000)), none()),
         full(n, f).case("proof, all kept", heard(Frame::with_reports(PROOF, 2, 20_000, lone(0))), none()),
         Case { searches: true, ..leader_waits.case("vote, C searches n suggests in vain", vote(view), none()) },
         Case { searches: true, ..voter_waits.case("vote, D searches n proofs in vain", vote(view), none()) },
@@ -65,14 +65,21 @@ fn stepping(n: u8, f: u8) -> Vec<Case> {
     let late = n - 1;
     let blocking = usize::from(f) + 1;
     let change = |sender, _| Frame::view_change(sender, 1);
+    let apart = |sender, i| Frame::view_change(sender, 100 - i);
     let a = Scene::started(n, f, late).hear_some(blocking, change);
+    let a_apart = Scene::started(n, f, late).hear_some(blocking, apart);
     let quorum = a.quorum();
-    // Of 4 vaults two others and the vault itself are a quorum: B follows at once.
-    let a_steps: &[Step] = if blocking + 1 < quorum { &[Step::A] } else { &[Step::A, Step::B] };
+    // Of 4 vaults two others and the vault itself are a quorum: A and B act at once.
+    let four = blocking + 1 == quorum;
+    let both = &[Step::A, Step::B];
+    let a_steps = || Expected::Steps(if four { both } else { &[Step::A] });
     let b = Scene::started(n, f, late).timer(0).hear_some(quorum - 1, change);
+    let b_apart = Scene::started(n, f, late).timer(0).hear_some(quorum - 1, apart);
     vec![
-        a.last("view-change: A (n = 4: and B)", Expected::Steps(a_steps)),
+        a.last("view-change: A (n = 4: and B)", a_steps()),
+        a_apart.last("view-change, views apart: A (n = 4: and B)", a_steps()),
         b.last("view-change: B", Expected::Steps(&[Step::B])),
+        b_apart.last("view-change, views apart: B (n = 4: and A)", Expected::Steps(if four { both } else { &[Step::B] })),
         voting(n, f, VOTE_1).last("vote-1: E", Expected::Steps(&[Step::E])),
         voting(n, f, VOTE_2).last("vote-2: F", Expected::Steps(&[Step::F])),
         voting(n, f, VOTE_3).last("vote-3: G", Expected::Steps(&[Step::G])),

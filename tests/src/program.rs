@@ -6,6 +6,22 @@ use std::process::{Command, Stdio};
 
 use reference::{lines, rehearsal};
 
+/// Lines with their ends, each with what it prints.
+pub type Talk = Vec<(String, String)>;
+
+/// Of rows: a line and what it prints; where the line is left out, what the line above prints too.
+pub fn talk(rows: &str) -> Talk {
+    let mut talk = Talk::new();
+    for row in rows.lines() {
+        let (line, printed) = row.split_once(' ').map_or((row, String::new()), |(line, printed)| (line, format!("{}\n", printed.trim())));
+        match talk.last_mut() {
+            Some(above) if line.is_empty() => above.1 += &printed,
+            _ => talk.push((format!("{line}\n"), printed)),
+        }
+    }
+    talk
+}
+
 /// A program, and what the reference makes of the same lines.
 pub struct Program {
     path: &'static str,

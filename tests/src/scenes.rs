@@ -137,18 +137,21 @@ pub fn two_sets(scene: Scene, view: u32) -> Scene {
 }
 
 /// A vault in view 2 that keeps a frame of every kind from every other vault, all of later views
-/// and with different plans and reports. No step acts.
+/// and with different plans and reports; of the view-changes f are for later views, and the others
+/// for this one. No step acts.
 pub fn full(n: u8, f: u8) -> Scene {
     let id = 1;
-    let scene = Scene::entered(n, f, id, 2);
-    let kinds = PROPOSAL..=PROOF;
-    kinds.fold(scene, |scene, kind| {
+    let later = |scene: Scene| {
+        let ahead = scene.others().split_off(scene.quorum() - 1);
+        (10_000..).zip(ahead).fold(scene, |scene, (view, sender)| scene.hear(Frame::view_change(sender, view)))
+    };
+    let kinds = (PROPOSAL..=PROOF).filter(|&kind| kind != VIEW_CHANGE);
+    kinds.fold(later(Scene::entered(n, f, id, 2)), |scene, kind| {
         let count = usize::from(n) - 1;
         scene.hear_some(count, |sender, i| {
             let (view, plan) = (10_000 + i, 100 * u64::from(kind) + u64::from(i));
             match kind {
                 PROPOSAL => Frame::with_plan(kind, sender, led_by(sender, n), plan),
-                VIEW_CHANGE => Frame::view_change(sender, view),
                 SUGGEST => Frame::with_reports(kind, sender, led_by(id, n), lone(i)),
                 PROOF => Frame::with_reports(kind, sender, view, lone(i)),
                 _ => Frame::with_plan(kind, sender, view, plan),

@@ -1,5 +1,5 @@
 //! The Rattle line program against the reference's, on random scripts; and what document 01 and our readings say of its input and output.
-use comparison::program::PROGRAM;
+use comparison::program::{talk, Talk, PROGRAM};
 use reference::scripts::{cover, script, Coverage};
 
 const SCRIPTS: u64 = 2_500;
@@ -51,6 +51,18 @@ fn a_bad_report_is_told_by_its_part() {
     let [said, answers] =
         [talk.clone().map(|(line, _)| line), talk.map(|(_, answer)| answer.into())].map(|lines: [String; 7]| lines.join("\n") + "\n");
     assert_eq!(String::from_utf8_lossy(&PROGRAM.printed("wish 1", said.as_bytes())), answers);
+}
+
+/// Document 02, wish 3: a line and what it prints; where the line is left out, what the line above prints too. An empty row ends an input.
+const BACKED: &str = include_str!("../backed.txt");
+
+#[test]
+fn a_later_view_change_backs_the_earlier_views() {
+    let talks: Vec<Talk> = BACKED.split("\n\n").map(talk).collect();
+    assert_eq!(talks.iter().map(Vec::len).collect::<Vec<_>>(), [5, 6, 4]);
+    for talk in talks {
+        PROGRAM.answers_in_turn(talk.iter().map(|(line, answer)| (line.as_str(), answer.as_str())));
+    }
 }
 
 /// "A line ends at byte 0a or at the input's end; after a final 0a there is no further line, and an empty line is an empty frame."

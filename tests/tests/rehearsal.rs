@@ -1,7 +1,7 @@
 //! The Rattle rehearsal (document 02, wish 2) against the reference's, on random scripts; and what our readings of it say, word for word.
 use std::fmt::Write;
 
-use comparison::program::REHEARSAL;
+use comparison::program::{talk, Talk, REHEARSAL};
 use reference::rehearsals::{cover, script, Coverage};
 
 const SCRIPTS: u64 = 1_000;
@@ -24,18 +24,8 @@ fn random_scripts_print_the_same() {
 /// A line and what it prints; where the line is left out, what the line above prints too.
 const ONE_SCRIPT: &str = include_str!("../../reference/tests/rehearsal.txt");
 
-/// Lines with their ends, each with what it prints.
-type Talk = Vec<(String, String)>;
-
 fn one_script() -> Talk {
-    let mut talk = Talk::new();
-    for row in ONE_SCRIPT.lines() {
-        let (line, printed) = row.split_once(' ').map_or((row, String::new()), |(line, printed)| (line, format!("{}\n", printed.trim())));
-        match talk.last_mut() {
-            Some(above) if line.is_empty() => above.1 += &printed,
-            _ => talk.push((format!("{line}\n"), printed)),
-        }
-    }
+    let talk = talk(ONE_SCRIPT);
     assert_eq!(talk.len(), 18);
     talk
 }

@@ -21,22 +21,24 @@ impl Asked {
         asked
     }
 
-    /// How often a view above the current one is asked for.
+    /// How many ask for a view above the current one: those for it or for a later one.
     #[inline(always)]
-    fn times(&self, w: u32) -> usize {
+    fn asking(&self, w: u32) -> usize {
         let parts = self.views.chunks_exact(16).take(self.count.div_ceil(16));
-        let times = |part: &[u32]| part.iter().map(|&x| u32::from(x == w)).sum::<u32>();
-        parts.map(times).sum::<u32>() as usize
+        let asking = |part: &[u32]| part.iter().map(|&x| u32::from(w <= x)).sum::<u32>();
+        parts.map(asking).sum::<u32>() as usize
     }
 
-    /// The highest view above `low` that is asked for `need` times.
+    /// The highest view above `low` that `need` ask for: it is the view of one of them.
     #[inline(always)]
     pub fn highest(&self, need: usize, low: u32) -> Option<u32> {
+        if self.count < need {
+            return None;
+        }
         let mut best = low;
-        // One of the first askers is met for every view that has so many.
-        for i in 0..(self.count + 1).saturating_sub(need) {
+        for i in 0..self.count {
             let w = self.views[i & 63];
-            if w > best && (i == 0 || self.views[(i - 1) & 63] != w) && self.times(w) >= need {
+            if w > best && (i == 0 || self.views[(i - 1) & 63] != w) && self.asking(w) >= need {
                 best = w;
             }
         }
