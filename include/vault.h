@@ -45,7 +45,8 @@
  *
  * Version, targets, stack
  *   VAULT_VERSION is that of this header, vault_version() that of the library. The major number changes where frames or stored
- *   records of an earlier version are no longer understood, the minor one where something is added.
+ *   records of an earlier version are no longer understood, the minor one where something is added, the patch number where calls do
+ *   something else with the same bytes.
  *   The library is for Linux on x86-64 (the C calling convention of that platform). It needs memcpy and memset, and nothing else.
  *   A call needs less than VAULT_STACK_SIZE bytes of stack; that bound is tested, not proved.
  */
@@ -61,7 +62,7 @@ extern "C" {
 
 #define VAULT_VERSION_MAJOR 1
 #define VAULT_VERSION_MINOR 1
-#define VAULT_VERSION_PATCH 0
+#define VAULT_VERSION_PATCH 1
 #define VAULT_VERSION (VAULT_VERSION_MAJOR * 10000 + VAULT_VERSION_MINOR * 100 + VAULT_VERSION_PATCH)
 
 #define VAULT_RECORD_SIZE 11703   /* bytes of a record */

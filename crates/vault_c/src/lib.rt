@@ -25,7 +25,7 @@ const DECIDED: u32 = 257;
 const SHORT: u32 = frame::numbers::REFUSED_OUTPUT as u32;
 
 // Major * 10000 + minor * 100 + patch.
-const VERSION: u32 = 10100;
+const VERSION: u32 = 10101;
 
 // The number that stands for an answer.
 fn number(a: Answer) -> u32
