@@ -30,13 +30,15 @@ pub struct Seen {
     pub refusals: [u64; 23],
     /// By letter, as the entries tell.
     pub steps: [u64; 8],
+    /// Passes in which A asked for one view and B entered another.
+    pub apart: u64,
     /// Calls on records of n vaults.
     pub sizes: [u64; 65],
 }
 
 impl Default for Seen {
     fn default() -> Seen {
-        Seen { calls: 0, accepted: 0, refusals: [0; 23], steps: [0; 8], sizes: [0; 65] }
+        Seen { calls: 0, accepted: 0, refusals: [0; 23], steps: [0; 8], apart: 0, sizes: [0; 65] }
     }
 }
 
@@ -46,12 +48,19 @@ impl Seen {
         self.accepted += other.accepted;
         add_each(&mut self.refusals, &other.refusals);
         add_each(&mut self.steps, &other.steps);
+        self.apart += other.apart;
         add_each(&mut self.sizes, &other.sizes);
     }
 
     fn accept(&mut self, call: &Call, written: &[u8]) {
         self.accepted += 1;
+        let mut asked = None;
         for entry in parse_entries(written).expect("difference: the output spells no entries") {
+            match entry {
+                Entry::All(frame) if frame.kind == 6 => asked = Some(frame.view),
+                Entry::Timer { view, .. } => self.apart += u64::from(asked.is_some_and(|asked| asked != view)),
+                _ => {}
+            }
             let step = match (entry, call) {
                 (Entry::Timer { .. }, Call::Start { .. }) => continue,
                 (Entry::Timer { .. }, _) => 1,

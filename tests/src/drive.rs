@@ -57,7 +57,8 @@ impl Driver {
         let _ = self.call(rec, &Call::Frame { link: sender, bytes });
     }
 
-    /// One frame from many senders: the leader's plan or another, a view that comes soon or that this vault leads.
+    /// One frame from many senders: the leader's plan or another, a view that comes soon or that this vault leads; view-changes for scattered
+    /// views too.
     fn frames(&mut self, rec: &mut [u8]) {
         let (n, id, view) = known(rec);
         let rng = &mut self.rng;
@@ -71,10 +72,12 @@ impl Driver {
             _ if rng.one_in(12) => view.saturating_add(1),
             _ => view,
         };
+        let spread = if kind == 6 && rng.one_in(2) { 9 } else { 1 };
         let (first, mixed) = (rng.below(u64::from(n)) as u32, rng.one_in(3));
         let count = if rng.one_in(3) { rng.below(u64::from(n) + 1) as u32 } else { n };
         for s in 0..count {
             let plan = if mixed && self.rng.one_in(4) { random::plan(&mut self.rng) } else { plan };
+            let at = at.saturating_add(self.rng.below(spread) as u32);
             self.frame(rec, kind, ((first + s) % n) as u8, at, plan);
         }
     }

@@ -147,10 +147,13 @@ pub fn sound(rng: &mut Rng) -> Vec<u8> {
     for kind in 1..=8u8 {
         let full = rng.below(101);
         let (usual_view, usual_plan) = (view.saturating_add(rng.below(3) as u32), plan(rng));
+        // View-changes are for scattered views as often as for one.
+        let spread = if kind == 6 && rng.one_in(2) { 9 } else { 1 };
         for s in 0..n {
             if rng.below(100) >= full {
                 continue;
             }
+            let usual_view = usual_view.saturating_add(rng.below(spread) as u32);
             let Some(at) = kept_view(rng, &rec, kind, s, usual_view) else { continue };
             let plan = if rng.one_in(6) { plan(rng) } else { usual_plan };
             let (kind, sender) = (usize::from(kind), usize::from(s));

@@ -44,11 +44,12 @@ fn lent(rng: &mut Rng, record: &Record) -> Vec<u8> {
     bytes
 }
 
-/// A frame that is likely to be taken: for the record's view or the next, with a plan that is there already.
+/// A frame that is likely to be taken: for the record's view or the next, a view-change for a later one too, with a plan that is there already.
 fn likely(rng: &mut Rng, record: &Record) -> Vec<u8> {
     let Settings { n, id, .. } = record.settings;
     let kind = 1 + rng.below(8) as u8;
-    let view = if kind >= 6 && rng.one_in(2) { record.view.saturating_add(1) } else { record.view };
+    let ahead = if kind == 6 { 1 + rng.below(4) as u32 } else { 1 };
+    let view = if kind >= 6 && rng.one_in(2) { record.view.saturating_add(ahead) } else { record.view };
     let sender = match kind {
         1 => (view % u32::from(n)) as u8,
         _ => (id + 1 + rng.below(u64::from(n) - 1) as u8) % n,

@@ -19,9 +19,11 @@ fn in_place_vault_and_library_leave_the_same_bytes() {
     }
     let seen = driver.compared.seen;
     println!("{} calls, accepted {}, steps {:?}, refusals {:?}", seen.calls, seen.accepted, seen.steps, seen.refusals);
+    println!("A and B at different views: {}", seen.apart);
     println!("least calls of an n from 4 to 64: {}", seen.sizes[4..].iter().min().unwrap());
     assert!(seen.accepted > calls / 10);
     assert!(seen.steps.iter().all(|&count| count > 100), "{:?}", seen.steps);
+    assert!(seen.apart > 100, "{}", seen.apart);
     // 20 is a line's.
     assert!((1..=22).all(|number| (seen.refusals[number] > 20) == (number != 20)), "{:?}", seen.refusals);
     assert!(seen.sizes[4..].iter().all(|&count| count > 100), "{:?}", seen.sizes);

@@ -178,7 +178,7 @@ module _ (views : List ℕ) (need low : ℕ) where
 
     -- With all places tried, the highest so far is the highest of all views: where enough ask for w, they ask for the least of their views.
     pub searchDone : 0 < need → i ≡ length views → Highest (λ w. leb need (asking views (length views) w)) low best
-    searchDone some-need all = record { least = was .least; passes = was .passes; most = most }
+    searchDone needed all = record { least = was .least; passes = was .passes; most = most }
       where
         most : (w : ℕ) → low < w → leb need (asking views (length views) w) ≡ true → w ≤ best
         most w above enough =

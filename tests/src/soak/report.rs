@@ -20,5 +20,5 @@ pub fn counts(when: &str) {
         println!("    n = {} to {}: runs {runs}, some decided in {some}, all in {all}, decisions {decisions}", sizes.start(), sizes.end());
     }
     println!("    refusals met, 1 to 22: {:?}", &seen.refusals[1..]);
-    println!("    steps met, A to H: {:?}", seen.steps);
+    println!("    steps met, A to H: {:?}; A and B at different views: {}", seen.steps, seen.apart);
 }
