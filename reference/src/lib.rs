@@ -1,5 +1,5 @@
 //! An independent reference vault. Every function renders a sentence of document 01, or of those
-//! wishes of document 02 that were made (so far wishes 1 and 2); where they are silent the reading
+//! wishes of document 02 that were made (so far wishes 1 to 3); where they are silent the reading
 //! taken is in READINGS.md.
 
 pub mod calls;

@@ -6,8 +6,11 @@
 //! - 3: records begin blank, and accepted calls leave only sound ones.
 //! - 5, 6 and 7: n is 4 and f is 1, and a vault above 3 has 23 before the call.
 //! - 18: the timer names the vault's current view.
-//! - 19: a view is entered by three view-changes for it, and the vaults that do not lie ask for one
-//!   view more at a time. The last view is billions of lines away.
+//! - 19: a view is entered by three view-changes for it or for later ones, and the vaults that do
+//!   not lie ask for one view more at a time. The last view is billions of lines away.
+//! - A and B at different views in one pass, an entry by view-changes for three views, a timer that
+//!   repeats a view-change beyond the next view: f + 1 others that make a vault ask for a view are,
+//!   with the vault itself, n - f of 4, so it enters that view in the same pass.
 //! - 10 of a line 04 that is longer: 48 bytes are 96 digits, which 20 refuses.
 //! - 10 of a suggest or a proof that is longer: a made-up frame has at most 45 bytes.
 //! - 11 by a link's sender of n or more: every writer is one of the four vaults.
@@ -20,9 +23,11 @@ use std::collections::BTreeMap;
 
 use crate::entry::ALL;
 use crate::frame::{self, Frame, PROOF, PROPOSAL, SUGGEST, VIEW_CHANGE};
+use crate::record::Record;
 use crate::rehearsal::{Decision, Outcome, Rehearsal, Waiting, MAX_DIGITS, N, PLACES};
 use crate::report_faults::{faults_of, ReportFault};
 use crate::scripts::{from_hex, split_lines};
+use crate::vault::{self, Done, Fault};
 
 /// What scripts reached when they were rehearsed.
 #[derive(Clone, Default, PartialEq, Eq, Debug)]
@@ -130,7 +135,7 @@ const BY_THE_CALL: [&str; 19] = [
 ];
 
 /// What happens on the stage and in a whole script.
-const EVENTS: [&str; 28] = [
+const EVENTS: [&str; 30] = [
     "suggest to its leader accepted",
     "suggest to another vault: 11",
     "suggest to another vault: 15",
@@ -141,6 +146,8 @@ const EVENTS: [&str; 28] = [
     "fc and fb of one line",
     "view entered while 256 wait",
     "decision while 256 wait",
+    "view entered by view-changes for two views",
+    "view entered where the old count would do nothing",
     "declared before it sent a frame",
     "declared after it had sent frames",
     "declared after it had decided",
@@ -215,6 +222,22 @@ fn text_fault(text: &[u8]) -> &'static str {
 // ---------------------------------------------------------------------------------------------
 // The walk through a script.
 
+/// A call that may bring a vault into another view, with the record as it is before.
+struct Move {
+    record: Box<Record>,
+    /// The view-change that is delivered; a timer expires where there is none.
+    frame: Option<Waiting>,
+}
+
+impl Move {
+    fn done(&self, fault: Fault) -> Result<Done, u8> {
+        match &self.frame {
+            Some(frame) => vault::frame_with(fault, &self.record, frame.writer, &frame.bytes),
+            None => vault::timer_with(fault, &self.record, self.record.view),
+        }
+    }
+}
+
 struct Walk<'a> {
     coverage: &'a mut Coverage,
     stage: Rehearsal,
@@ -235,8 +258,9 @@ impl Walk<'_> {
     fn line(&mut self, text: &[u8]) {
         self.coverage.lines += 1;
         let liar = self.stage.liar();
-        let outcome = self.stage.obey(text, &mut Vec::new());
         let bytes = from_hex(text, MAX_DIGITS);
+        let step = bytes.as_deref().and_then(|bytes| self.may_move(bytes));
+        let outcome = self.stage.obey(text, &mut Vec::new());
         match (outcome.refusal, bytes) {
             // A refusal leaves the stage as it was, so it still shows why.
             (Some(20), _) | (_, None) => self.coverage.count(text_fault(text)),
@@ -247,7 +271,34 @@ impl Walk<'_> {
                 self.count_frames(bytes[0], &outcome);
                 self.count_host_entries(&outcome);
                 self.count_decisions(&outcome);
+                step.iter().for_each(|step| self.count_move(step));
             }
+        }
+    }
+
+    /// What a line may do to a vault's view: it delivers a view-change, or a timer expires.
+    fn may_move(&self, bytes: &[u8]) -> Option<Move> {
+        let (vault, frame) = match *bytes {
+            // Where no frame waits the line is refused, and nothing is counted.
+            [1, place, vault] => (vault, self.stage.waiting(place)),
+            [5, vault] => (vault, None),
+            _ => return None,
+        };
+        let other_kind = frame.is_some_and(|frame| frame.bytes.first() != Some(&VIEW_CHANGE));
+        if vault >= N || other_kind {
+            return None;
+        }
+        let record = Box::new(self.stage.record(vault)?);
+        Some(Move { record, frame: frame.cloned() })
+    }
+
+    fn count_move(&mut self, step: &Move) {
+        let Some(moved) = step.done(Fault::None).ok().and_then(|done| done.moved()) else { return };
+        if moved.entered_by(2) {
+            self.coverage.count("view entered by view-changes for two views");
+        }
+        if moved.idle_before_wish_3(|| step.done(Fault::OwnViewOnly)) {
+            self.coverage.count("view entered where the old count would do nothing");
         }
     }
 

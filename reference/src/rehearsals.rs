@@ -337,12 +337,11 @@ impl Writer {
         if self.rng.one_in(2) {
             self.lie_view_change();
         }
-        for _ in 0..4 + self.rng.below(20) {
-            let mut useful = self.useful();
-            useful.retain(|useful| useful.frame.kind == VIEW_CHANGE);
-            let Some(Useful { number, vault, .. }) = self.choose(&useful) else { break };
-            self.deliver(number, vault);
+        if self.rng.one_in(3) {
+            self.move_on_alone();
         }
+        let lines = 4 + self.rng.below(20);
+        self.give_view_changes(lines, &VAULTS);
         if let Some(liar) = self.stage.liar().filter(|_| self.rng.one_in(2)) {
             self.lie_throughout(liar);
         }
@@ -351,6 +350,27 @@ impl Writer {
         if let Some(&late) = blank.first().filter(|_| self.rng.one_in(3)) {
             self.start(late, None);
         }
+    }
+
+    fn give_view_changes(&mut self, lines: u64, to: &[u8]) {
+        for _ in 0..lines {
+            let mut useful = self.useful();
+            useful.retain(|useful| useful.frame.kind == VIEW_CHANGE && to.contains(&useful.vault));
+            let Some(Useful { number, vault, .. }) = self.choose(&useful) else { return };
+            self.deliver(number, vault);
+        }
+    }
+
+    /// One vault hears the others and moves on. Its own view-change is lost, and its timer asks for
+    /// the view after it before the others have heard of it: they hung before wish 3.
+    fn move_on_alone(&mut self) {
+        let Some(&ahead) = self.vaults(true).first() else { return };
+        self.give_view_changes(4, &[ahead]);
+        let asks = |waiting: &Waiting| waiting.bytes.first() == Some(&VIEW_CHANGE);
+        for number in self.numbers(|waiting| waiting.writer == ahead && asks(waiting)) {
+            self.bytes_line(&[2, number]);
+        }
+        self.expire(ahead);
     }
 
     fn afterwards(&mut self) {

@@ -12,7 +12,7 @@ use crate::report_faults::{faults_of, wanted_faults, Carrier, Place, ReportFault
 use crate::rng::Rng;
 use crate::rules::{Clause, Reports};
 use crate::sim::{below, chance, false_reports, kept_reports, lower_report, shuffle};
-use crate::vault::{self, Done, Step};
+use crate::vault::{self, Done, Fault, Moved, Step};
 
 /// The longest line that may be read, in digits.
 const MOST_DIGITS: usize = 90;
@@ -85,20 +85,31 @@ struct Driven {
 }
 
 impl Driven {
-    fn apply(&mut self, line: &Line) -> Result<Done, u8> {
-        let done = match (line, self.record.as_deref()) {
+    /// What a line would do; the vault stays as it is.
+    fn answer(&self, fault: Fault, line: &Line) -> Result<Done, u8> {
+        match (line, self.record.as_deref()) {
             (&Line::Refused(refusal), _) => Err(refusal),
             (Line::Start { .. }, Some(_)) => Err(4),
-            (&Line::Start { n, f, id, class, plan }, None) => vault::start(n, f, id, class, plan),
+            (&Line::Start { n, f, id, class, plan }, None) => {
+                vault::start_with(fault, n, f, id, class, plan)
+            }
             (_, None) => Err(2),
-            (&Line::Timer { view }, Some(record)) => vault::timer(record, view),
+            (&Line::Timer { view }, Some(record)) => vault::timer_with(fault, record, view),
             // A line too short for a sender is refused for its length, whatever the link.
             (Line::Frame(bytes), Some(record)) => {
-                vault::frame(record, bytes.get(1).copied().unwrap_or(0), bytes)
+                vault::frame_with(fault, record, bytes.get(1).copied().unwrap_or(0), bytes)
             }
-        }?;
-        self.record = Some(Box::new(done.record.clone()));
-        Ok(done)
+        }
+    }
+
+    fn apply(&mut self, line: &Line) {
+        if let Ok(done) = self.answer(Fault::None, line) {
+            self.keep(done);
+        }
+    }
+
+    fn keep(&mut self, done: Done) {
+        self.record = Some(Box::new(done.record));
     }
 }
 
@@ -131,6 +142,16 @@ pub struct Coverage {
     /// beyond the next.
     pub timer_repeats: u64,
     pub far_repeats: u64,
+    /// Passes in which A asked for one view and B entered another.
+    pub moves_apart: u64,
+    /// Views entered by view-changes for three or more different views.
+    pub mixed_entries: u64,
+    /// Views entered below the vault's own view-change, and timers that repeated it there, beyond
+    /// the next view.
+    pub low_entries: u64,
+    pub low_repeats: u64,
+    /// Passes in which A or B acted and under the count before wish 3 neither would have.
+    pub later_backed: u64,
     /// Times that the last view of all was entered.
     pub last_views: u64,
     /// Decisions among 64 vaults.
@@ -147,21 +168,75 @@ impl Coverage {
         self.steps[step as usize]
     }
 
-    /// The faults in reports that were not reached, and whether any was refused with a wrong number.
-    pub fn missing(&self) -> Vec<String> {
-        let mut missing = Vec::new();
+    /// What wish 3 of document 02 has brought, each with its count. Addition to the interface.
+    pub fn wish_3(&self) -> [(&'static str, u64); 6] {
+        [
+            ("A and B in one pass at different views", self.moves_apart),
+            ("an entry by view-changes for three different views", self.mixed_entries),
+            ("a timer that repeats a view-change beyond the next view", self.far_repeats),
+            ("a pass in which the old count would do nothing", self.later_backed),
+            ("an entry below the own view-change", self.low_entries),
+            ("a timer that repeats it there", self.low_repeats),
+        ]
+    }
+
+    /// What scripts are to reach of wish 3 and of the faults in reports, each with its count.
+    fn wanted(&self) -> Vec<(u64, String)> {
+        let mut wanted: Vec<(u64, String)> =
+            self.wish_3().map(|(name, count)| (count, name.to_string())).to_vec();
         for carrier in Carrier::ALL {
-            for faults in wanted_faults() {
+            wanted.extend(wanted_faults().into_iter().map(|faults| {
                 let names: Vec<String> = faults.iter().map(ToString::to_string).collect();
-                if !self.report_faults.contains_key(&(carrier, faults)) {
-                    missing.push(format!("{carrier}: {}", names.join(", ")));
-                }
-            }
+                let count = self.report_faults.get(&(carrier, faults)).copied().unwrap_or(0);
+                (count, format!("{carrier}: {}", names.join(", ")))
+            }));
         }
+        wanted
+    }
+
+    /// The counts of what may be rare, the lowest first. Addition to the interface.
+    pub fn rarest(&self) -> Vec<(u64, String)> {
+        let mut counts = self.wanted();
+        let steps = ('A'..='H').zip(self.steps);
+        counts.extend(steps.map(|(step, count)| (count, format!("step {step}"))));
+        let others = [
+            ("two sets", self.two_sets),
+            ("another plan proposed", self.proposed_other),
+            ("no plan safe", self.none_safe),
+            ("late decision", self.late_decisions),
+            ("last view", self.last_views),
+            ("decision of 64", self.decisions_of_64),
+        ];
+        counts.extend(others.map(|(name, count)| (count, name.to_string())));
+        counts.sort();
+        counts
+    }
+
+    /// What wish 3 has brought and the faults in reports, where they were not reached, and whether
+    /// any fault was refused with a wrong number.
+    pub fn missing(&self) -> Vec<String> {
+        let lacking = self.wanted().into_iter().filter(|&(count, _)| count == 0);
+        let mut missing: Vec<String> = lacking.map(|(_, name)| name).collect();
         if self.misjudged > 0 {
             missing.push(format!("the right refusal of {} suggests or proofs", self.misjudged));
         }
         missing
+    }
+
+    /// Counts what A and B did in a pass; `idle_before` where they would not have before wish 3.
+    fn count_moved(&mut self, moved: &Moved, idle_before: bool) {
+        self.moves_apart += u64::from(moved.apart());
+        self.mixed_entries += u64::from(moved.entered_by(3));
+        self.low_entries += u64::from(moved.below_own);
+        self.later_backed += u64::from(idle_before);
+    }
+
+    /// Counts a timer that repeats a view-change so far above the current view; `low` where that
+    /// view was entered below the own view-change.
+    fn count_repeat(&mut self, ahead: u32, low: bool) {
+        self.timer_repeats += u64::from(ahead > 0);
+        self.far_repeats += u64::from(ahead > 1);
+        self.low_repeats += u64::from(ahead > 1 && low);
     }
 
     /// Counts the faults in a line's reports, given how the vault in this state answered.
@@ -181,13 +256,15 @@ impl Coverage {
 /// Runs one script through the vault by contents and counts what it reached.
 pub fn cover(script: &[u8], coverage: &mut Coverage) {
     let mut vault = Driven::default();
+    // The current view was entered below the own view-change.
+    let mut low = false;
     coverage.scripts += 1;
     for text in split_lines(script) {
         coverage.lines += 1;
         let line = read_line(text);
         let ahead = vault.record.as_deref().map_or(0, view_change_ahead);
         let settled = vault.record.as_deref().map(Settled::of);
-        let result = vault.apply(&line);
+        let result = vault.answer(Fault::None, &line);
         if let Some(settled) = settled {
             coverage.count_faults(&line, settled, result.as_ref().err().copied());
         }
@@ -195,10 +272,15 @@ pub fn cover(script: &[u8], coverage: &mut Coverage) {
             Err(refusal) => coverage.refusals[usize::from(refusal)] += 1,
             Ok(done) => {
                 if matches!(line, Line::Timer { .. }) {
-                    coverage.timer_repeats += u64::from(ahead > 0);
-                    coverage.far_repeats += u64::from(ahead > 1);
+                    coverage.count_repeat(ahead, low);
+                }
+                if let Some(moved) = done.moved() {
+                    let idle = moved.idle_before_wish_3(|| vault.answer(Fault::OwnViewOnly, &line));
+                    coverage.count_moved(&moved, idle);
+                    low = if moved.entered.is_some() { moved.below_own } else { low };
                 }
                 count_done(&done, coverage);
+                vault.keep(done);
             }
         }
     }
@@ -316,7 +398,7 @@ impl Writer {
         self.text.push(b'\n');
         // A line feed inside the text would make it two lines.
         debug_assert!(!text.contains(&b'\n'));
-        let _ = self.vault.apply(&read_line(text));
+        self.vault.apply(&read_line(text));
     }
 
     fn bytes_line(&mut self, bytes: &[u8]) {
@@ -470,7 +552,7 @@ impl Writer {
         let moves =
             if self.settled().n > 16 { 6 + self.rng.below(6) } else { 10 + self.rng.below(30) };
         for _ in 0..moves {
-            match self.rng.below(21) {
+            match self.rng.below(23) {
                 0..=3 => self.whole_view(),
                 4 | 5 => self.vote_round(),
                 6 => self.some_view_changes(),
@@ -483,6 +565,7 @@ impl Writer {
                 17 => self.wrong_length(),
                 18 => self.again(),
                 19 => self.damaged_reports(),
+                20 | 21 => self.scattered_view_changes(),
                 _ => self.text_line(b""),
             }
         }
@@ -532,12 +615,39 @@ impl Writer {
         }
     }
 
-    /// The vault's own view-change counts too, once f + 1 others made it join.
+    /// The vault's own view-change counts too, once f + 1 others made it join. Now and then some ask
+    /// for later views, which back this one as well.
     fn enter(&mut self, view: u32) {
         let needed = self.settled().quorum - usize::from(self.rng.one_in(2));
+        let spread = self.rng.pick(&[1, 1, 1, 4]);
         for sender in self.senders(VIEW_CHANGE, view).into_iter().take(needed) {
-            self.frame(VIEW_CHANGE, sender, view, Body::Empty);
+            let asked = view.saturating_add(self.rng.below(spread) as u32);
+            self.frame(VIEW_CHANGE, sender, asked, Body::Empty);
         }
+    }
+
+    /// Several vaults ask for several views at once, in any order, and the vault's own timer may
+    /// expire in between; one afterwards repeats what the vault has asked for.
+    fn scattered_view_changes(&mut self) {
+        let others = self.others();
+        let count = 1 + self.rng.below(others.len() as u64) as usize;
+        let spread = 2 + self.rng.below(5);
+        let timer = self.rng.below(2 * count as u64) as usize;
+        for (turn, &sender) in others.iter().take(count).enumerate() {
+            if turn == timer {
+                self.own_timer();
+            }
+            let asked = self.view().saturating_add(1 + self.rng.below(spread) as u32);
+            self.frame(VIEW_CHANGE, sender, asked, Body::Empty);
+        }
+        if self.rng.one_in(2) {
+            self.own_timer();
+        }
+    }
+
+    fn own_timer(&mut self) {
+        let view = self.view();
+        self.timer(view);
     }
 
     /// Few view-changes, enough to join or not; a timer afterwards repeats what was joined.
@@ -548,8 +658,7 @@ impl Writer {
             self.frame(VIEW_CHANGE, sender, view, Body::Empty);
         }
         if self.rng.one_in(2) {
-            let view = self.view();
-            self.timer(view);
+            self.own_timer();
         }
     }
 

@@ -13,7 +13,7 @@ use crate::frame::{
 use crate::record::{self, Record, Settings, RECORD_LEN};
 use crate::rng::Rng;
 use crate::rules::{Clause, Reports};
-use crate::vault::{self, Done, Fault};
+use crate::vault::{self, Acts, Done, Fault, Moved};
 
 /// No call may write more than this.
 const OUTPUT_LIMIT: usize = 256;
@@ -118,6 +118,13 @@ pub struct Tally {
     pub no_lock: u64,
     pub one_set: u64,
     pub two_sets: u64,
+    // Like the clauses, these three are not known where the calls over bytes run alone.
+    /// Passes in which A asked for one view and B entered another. There is none with four vaults.
+    pub moves_apart: u64,
+    /// Views entered by view-changes for different views.
+    pub mixed_entries: u64,
+    /// Passes in which A or B acted and under the count before wish 3 neither would have.
+    pub later_backed: u64,
 }
 
 impl Tally {
@@ -136,6 +143,9 @@ impl Tally {
         self.no_lock += other.no_lock;
         self.one_set += other.one_set;
         self.two_sets += other.two_sets;
+        self.moves_apart += other.moves_apart;
+        self.mixed_entries += other.mixed_entries;
+        self.later_backed += other.later_backed;
     }
 
     fn count_clause(&mut self, clause: Clause) {
@@ -197,6 +207,28 @@ pub enum Call {
     Start { settings: Settings, plan: u64 },
     Frame { link: u8, bytes: Vec<u8> },
     Timer { view: u32 },
+}
+
+impl Call {
+    /// Whether A or B may act in its pass.
+    fn may_move(&self) -> bool {
+        match self {
+            Call::Start { .. } => false,
+            Call::Frame { bytes, .. } => bytes.first() == Some(&VIEW_CHANGE),
+            Call::Timer { .. } => true,
+        }
+    }
+
+    /// What the call would do if a view-change counted for its own view only.
+    fn before_wish_3(&self, record: &Record) -> Result<Done, u8> {
+        match self {
+            Call::Start { .. } => Err(4),
+            Call::Frame { link, bytes } => {
+                vault::frame_with(Fault::OwnViewOnly, record, *link, bytes)
+            }
+            Call::Timer { view } => vault::timer_with(Fault::OwnViewOnly, record, *view),
+        }
+    }
 }
 
 /// One item of a run. Only a sabotaged host restores a record that is not the latest.
@@ -353,6 +385,11 @@ impl Network {
         self.vaults[usize::from(id)].as_mut().expect("a rule-keeping vault")
     }
 
+    /// The views of the started vaults, by vault.
+    fn views(&self) -> Vec<(u8, u32)> {
+        self.keepers().into_iter().filter_map(|id| Some((id, self.view(id)?))).collect()
+    }
+
     fn keepers(&self) -> Vec<u8> {
         (0..self.n).filter(|&id| self.vaults[usize::from(id)].is_some()).collect()
     }
@@ -391,7 +428,7 @@ impl Network {
 
     fn answered(&mut self, id: u8, call: &Call) -> Result<(), u8> {
         let answer = match self.mode {
-            Mode::Contents => self.by_contents(id, call).map(|done| self.keep(id, done)),
+            Mode::Contents => self.by_contents(id, call),
             Mode::Bytes => self.by_bytes(id, call).map(|entries| (entries, None)),
             Mode::Both => self.by_both(id, call),
         };
@@ -411,28 +448,43 @@ impl Network {
         }
     }
 
-    /// A blank record stands outside the vault by contents, so 2 and 4 are given here.
-    fn by_contents(&self, id: u8, call: &Call) -> Result<Done, u8> {
-        match (call, self.keeper(id).record.as_deref()) {
+    /// The call on the keeper's record. Only a view-change or a timer sets off A or B, so only then
+    /// the record from before is wanted, to tell what they would have done before wish 3.
+    fn by_contents(&mut self, id: u8, call: &Call) -> Result<(Vec<Entry>, Option<Clause>), u8> {
+        let before = if call.may_move() { self.keeper(id).record.clone() } else { None };
+        let acts = self.in_place(id, call)?;
+        if let (Some(before), Some(record)) = (before, &self.keeper(id).record) {
+            if let Some(moved) = acts.moved(record) {
+                self.count_moved(&moved, moved.idle_before_wish_3(|| call.before_wish_3(&before)));
+            }
+        }
+        Ok((acts.entries, acts.clause))
+    }
+
+    /// A record is large, so it is changed in place. A blank one stands outside the vault by
+    /// contents, so 2 and 4 are given here.
+    fn in_place(&mut self, id: u8, call: &Call) -> Result<Acts, u8> {
+        let fault = self.fault;
+        match (call, &mut self.keeper_mut(id).record) {
             (Call::Start { .. }, Some(_)) => Err(4),
-            (&Call::Start { settings: Settings { n, f, id, class }, plan }, None) => {
-                vault::start_with(self.fault, n, f, id, class, plan)
+            (&Call::Start { settings, plan }, place) => {
+                let mut record = Box::new(Record::empty());
+                let acts = vault::start_on(&mut record, fault, settings, plan)?;
+                *place = Some(record);
+                Ok(acts)
             }
             (_, None) => Err(2),
             (Call::Frame { link, bytes }, Some(record)) => {
-                vault::frame_with(self.fault, record, *link, bytes)
+                vault::frame_on(record, fault, *link, bytes)
             }
-            (Call::Timer { view }, Some(record)) => vault::timer_with(self.fault, record, *view),
+            (Call::Timer { view }, Some(record)) => vault::timer_on(record, fault, *view),
         }
     }
 
-    fn keep(&mut self, id: u8, done: Done) -> (Vec<Entry>, Option<Clause>) {
-        // A record is large, so it is copied once and no new place is taken for it.
-        match &mut self.keeper_mut(id).record {
-            Some(place) => **place = done.record,
-            place => *place = Some(Box::new(done.record)),
-        }
-        (done.entries, done.clause)
+    fn count_moved(&mut self, moved: &Moved, idle_before: bool) {
+        self.tally.moves_apart += u64::from(moved.apart());
+        self.tally.mixed_entries += u64::from(moved.entered_by(2));
+        self.tally.later_backed += u64::from(idle_before);
     }
 
     fn by_bytes(&mut self, id: u8, call: &Call) -> Result<Vec<Entry>, u8> {
@@ -492,13 +544,14 @@ impl Network {
         let by_contents = self.by_contents(id, call);
         let by_bytes = self.by_bytes(id, call);
         match (by_contents, by_bytes) {
-            (Ok(done), Ok(entries)) => {
-                if entries != done.entries
-                    || record::decode(&self.keeper(id).bytes) != Some(done.record.clone())
+            (Ok((entries, clause)), Ok(by_bytes)) => {
+                let keeper = self.keeper(id);
+                if entries != by_bytes
+                    || record::decode(&keeper.bytes).as_ref() != keeper.record.as_deref()
                 {
                     self.note(Wrong::ModesDiffer { vault: id });
                 }
-                Ok(self.keep(id, done))
+                Ok((entries, clause))
             }
             (Err(one), Err(other)) if one == other => Err(one),
             _ => {
@@ -1549,6 +1602,138 @@ fn finish_view(net: &mut Network, view: u32) {
     for kind in [PROOF, PROPOSAL, VOTE_1, VOTE_2, VOTE_3, VOTE_4] {
         for &to in &keepers {
             give_all(net, kind, view, to, &keepers);
+        }
+    }
+}
+
+// ---------------------------------------------------------------------------------------------
+// Runs in which view-changes are lost (02, wish 3).
+
+/// What a run came to in which frames were lost and later got through again.
+#[derive(Clone, Debug)]
+pub struct LossRun {
+    /// Where the started vaults are at the end.
+    pub views: Vec<(u8, u32)>,
+    pub outcome: Outcome,
+}
+
+impl LossRun {
+    pub fn all_decided(&self) -> bool {
+        self.outcome.decisions.len() == self.outcome.started
+    }
+
+    pub fn in_one_view(&self) -> bool {
+        self.views.windows(2).all(|pair| pair[0].1 == pair[1].1)
+    }
+}
+
+/// "Three vaults hung: one had moved on to ask for view 2, and the two behind it could no longer
+/// count it for view 1." Of any n vaults just n - f start and none of them lies. All ask for view 1.
+/// The last alone hears the others: it enters, asks for view 2, and only then the others hear of it.
+/// Then come so many rounds, fewer if all have decided: each vault's timer expires, and all frames
+/// that were ever sent come again and again, the last vault's first view-change among them. The
+/// style of the setup is not read; its liars, f at most, keep silent.
+pub fn hang_run(setup: &Setup, rounds: u32) -> LossRun {
+    hang_run_told(setup, rounds, |_, _| {})
+}
+
+/// `hang_run`, with each act told before it is done.
+pub fn hang_run_told(setup: &Setup, rounds: u32, told: fn(u8, &Act)) -> LossRun {
+    let mut director = Director::new(setup);
+    director.net.told = told;
+    director.move_on_alone();
+    director.until_decided(rounds, Director::redeliver_all)
+}
+
+/// All vaults that keep the rules start, and frames get to them or are lost at random, while timers
+/// expire at random. Then what is on its way is lost, and from there on links lose nothing and keep
+/// their order. So many rounds follow, fewer if all have decided: each vault's timer expires, and
+/// what is sent gets through. The style of the setup is not read; its liars keep silent.
+pub fn loss_run(setup: &Setup, rounds: u32) -> LossRun {
+    loss_run_told(setup, rounds, |_, _| {})
+}
+
+/// `loss_run`, with each act told before it is done.
+pub fn loss_run_told(setup: &Setup, rounds: u32, told: fn(u8, &Act)) -> LossRun {
+    let mut director = Director::new(setup);
+    director.net.told = told;
+    director.start_vaults(Style::Calm);
+    director.lose_frames();
+    director.until_decided(rounds, Director::calm_round)
+}
+
+impl Director {
+    fn until_decided(mut self, rounds: u32, round: fn(&mut Director)) -> LossRun {
+        for _ in 0..rounds {
+            if self.net.wrong.is_some() || self.started().iter().all(|&id| self.net.decided(id)) {
+                break;
+            }
+            self.expire_all();
+            round(&mut self);
+        }
+        LossRun { views: self.net.views(), outcome: self.net.finish() }
+    }
+
+    fn expire_all(&mut self) {
+        for (id, view) in self.net.views() {
+            let _ = self.net.timer(id, view);
+        }
+    }
+
+    /// n - f vaults start and ask for view 1; one of them enters it and asks for view 2.
+    fn move_on_alone(&mut self) {
+        let cast = self.keepers[..usize::from(self.net.n - self.net.f)].to_vec();
+        cast.iter().for_each(|&id| self.start(id));
+        self.expire_all();
+        let Some((&ahead, behind)) = cast.split_last() else { return };
+        give_all(&mut self.net, VIEW_CHANGE, 1, ahead, behind);
+        let _ = self.net.timer(ahead, 1);
+        for &to in behind {
+            give_all(&mut self.net, VIEW_CHANGE, 2, to, &[ahead]);
+        }
+    }
+
+    /// All frames ever sent, in any order, until nobody takes one of them any more.
+    fn redeliver_all(&mut self) {
+        loop {
+            let mut frames = Vec::new();
+            for (index, sent) in self.net.sent.iter().enumerate() {
+                let meant = |&to: &u8| to != sent.frame.sender && sent.to.is_none_or(|id| id == to);
+                frames.extend(self.started().into_iter().filter(meant).map(|to| (index, to)));
+            }
+            shuffle(&mut self.rng, &mut frames);
+            let taken =
+                frames.into_iter().filter(|&(index, to)| self.net.deliver(index, to).is_ok());
+            if taken.count() == 0 {
+                return;
+            }
+        }
+    }
+
+    /// Deliveries, losses and timers at random; in the end all that is on its way is lost.
+    fn lose_frames(&mut self) {
+        let haste = 1 + self.rng.below(8);
+        for _ in 0..self.scaled(50, 300) {
+            match self.rng.below(16) {
+                0..=9 => self.deliver_any(),
+                10..=12 => self.lose_any(),
+                _ => self.any_timer(haste),
+            }
+        }
+        self.net.pending.clear();
+    }
+
+    fn lose_any(&mut self) {
+        let pending = self.net.pending.len() as u64;
+        if pending > 0 {
+            let at = self.rng.below(pending) as usize;
+            self.net.pending.swap_remove(at);
+        }
+    }
+
+    fn calm_round(&mut self) {
+        while !self.net.pending.is_empty() {
+            self.deliver_in_order();
         }
     }
 }

@@ -1,4 +1,7 @@
-//! One vault by its contents: start, frame and timer, each ending in one pass (01, "One pass").
+//! One vault by its contents: start, frame and timer, each ending in one pass (01, "One pass"), with
+//! view-changes counted as document 02, wish 3 has it.
+
+use std::collections::BTreeSet;
 
 use crate::entry::Entry;
 use crate::frame::{
@@ -32,6 +35,8 @@ pub enum Fault {
     ForgetPrevious,
     /// Vote-1 without Rule 3.
     VoteEveryProposal,
+    /// A view-change counts for its own view only: the count before wish 3 of document 02.
+    OwnViewOnly,
 }
 
 /// An accepted call: the record afterwards and the entries written, in order. `steps` are the
@@ -55,6 +60,69 @@ impl Acts {
     fn done(self, record: Record) -> Done {
         Done { record, entries: self.entries, steps: self.steps, clause: self.clause }
     }
+}
+
+/// What steps A and B did in a pass, for those who count such things. Addition to the interface.
+#[derive(Clone, Copy, PartialEq, Eq, Debug)]
+pub struct Moved {
+    /// The view that A asked for.
+    pub asked: Option<u32>,
+    /// The view that B entered.
+    pub entered: Option<u32>,
+    /// How many different views the view-changes are for that count for the view entered, or for
+    /// the view asked for where none was entered.
+    pub views: usize,
+    /// The vault's own view-change is for a view above the one entered.
+    pub below_own: bool,
+}
+
+impl Moved {
+    /// A and B acted in one pass, at different views.
+    pub fn apart(&self) -> bool {
+        self.asked.is_some() && self.entered.is_some() && self.asked != self.entered
+    }
+
+    /// B entered a view by view-changes for so many different views, or more.
+    pub fn entered_by(&self, views: usize) -> bool {
+        self.entered.is_some() && self.views >= views
+    }
+
+    /// Neither A nor B would have acted if a view-change counted for its own view only. The same
+    /// call with Fault::OwnViewOnly is made only where it could answer otherwise.
+    pub fn idle_before_wish_3(&self, old: impl FnOnce() -> Result<Done, u8>) -> bool {
+        self.views > 1 && old().is_ok_and(|done| done.moved().is_none())
+    }
+}
+
+impl Done {
+    /// What A and B did; None where neither acted. Addition to the interface.
+    pub fn moved(&self) -> Option<Moved> {
+        moved(&self.record, &self.entries, &self.steps)
+    }
+}
+
+impl Acts {
+    /// What A and B did in the pass that left this record; None where neither acted.
+    pub fn moved(&self, record: &Record) -> Option<Moved> {
+        moved(record, &self.entries, &self.steps)
+    }
+}
+
+fn moved(record: &Record, entries: &[Entry], steps: &[Step]) -> Option<Moved> {
+    let asked = if steps.contains(&Step::A) { last_view_change(entries) } else { None };
+    let entered = steps.contains(&Step::B).then_some(record.view);
+    let w = entered.or(asked)?;
+    let backing: BTreeSet<u32> = kept_view_changes(record).filter(|&kept| kept >= w).collect();
+    let below_own = entered.is_some() && record.own(VIEW_CHANGE).is_some_and(|own| own.view > w);
+    Some(Moved { asked, entered, views: backing.len(), below_own })
+}
+
+/// A timer's own view-change comes before that of A, so the last one is A's.
+fn last_view_change(entries: &[Entry]) -> Option<u32> {
+    entries.iter().rev().find_map(|entry| match entry {
+        Entry::All(frame) if frame.kind == VIEW_CHANGE => Some(frame.view),
+        _ => None,
+    })
 }
 
 /// Start, from any blank record. Err: 5 to 8.
@@ -200,9 +268,9 @@ impl Pass<'_> {
 
     /// "Take the highest view w for which f + 1 kept view-changes are for w. If w is above the
     /// current view and above the vault's own view-change, where it has sent one, broadcast
-    /// view-change w."
+    /// view-change w." Those for later views count too, see `highest_backed`.
     fn step_a(&mut self) {
-        let Some(w) = self.highest_view_changed(self.sizes().blocking) else {
+        let Some(w) = self.highest_backed(self.sizes().blocking) else {
             return;
         };
         let above_own = self.record.own(VIEW_CHANGE).is_none_or(|own| w > own.view);
@@ -212,10 +280,11 @@ impl Pass<'_> {
         }
     }
 
-    /// "Take the highest w above the current view with n - f kept view-changes for w. Enter it"
+    /// "Take the highest w above the current view with n - f kept view-changes for w. Enter it".
+    /// Those for later views count too, see `highest_backed`. So w may be below the view that A has
+    /// just asked for.
     fn step_b(&mut self) {
-        if let Some(w) = self.highest_view_changed(self.sizes().quorum).filter(|&w| w > self.view())
-        {
+        if let Some(w) = self.highest_backed(self.sizes().quorum).filter(|&w| w > self.view()) {
             self.acts.steps.push(Step::B);
             self.enter(w);
         }
@@ -345,19 +414,28 @@ impl Pass<'_> {
         previous.filter(|_| self.fault != Fault::ForgetPrevious)
     }
 
-    /// The highest view for which so many kept view-changes are.
-    fn highest_view_changed(&self, enough: usize) -> Option<u32> {
-        let record = &*self.record;
+    /// The highest view for which so many kept view-changes count. "From now on a kept view-change
+    /// for w counts for every view up to w, in A and in B alike. Highest is meant as before." (02,
+    /// wish 3.) That is over all views, but the count falls only right above a view that some kept
+    /// view-change is for, so the highest is one of those.
+    fn highest_backed(&self, enough: usize) -> Option<u32> {
         let mut views = [0; VAULTS];
         let mut count = 0;
-        for sender in 0..record.settings.n {
-            if let Some(kept) = record.kept(sender, VIEW_CHANGE) {
-                views[count] = kept.view;
-                count += 1;
-            }
+        for view in kept_view_changes(self.record) {
+            views[count] = view;
+            count += 1;
         }
         let views = &views[..count];
-        views.iter().copied().filter(|&w| times(views, w) >= enough).max()
+        views.iter().copied().filter(|&w| self.backers(views, w) >= enough).max()
+    }
+
+    /// How many view-changes count for w, of kept ones for these views.
+    fn backers(&self, views: &[u32], w: u32) -> usize {
+        // FAULT OwnViewOnly: those for later views do not count.
+        if self.fault == Fault::OwnViewOnly {
+            return times(views, w);
+        }
+        views.iter().filter(|&&kept| kept >= w).count()
     }
 
     /// The plan for which a quorum of kept votes of a kind are, in this view. Each sender has one
@@ -428,6 +506,13 @@ impl Pass<'_> {
     fn leader(&self) -> u8 {
         leader(self.view(), self.record.settings.n)
     }
+}
+
+/// The views that the kept view-changes are for, the vault's own among them.
+fn kept_view_changes(record: &Record) -> impl Iterator<Item = u32> + '_ {
+    (0..record.settings.n)
+        .filter_map(|sender| record.kept(sender, VIEW_CHANGE))
+        .map(|kept| kept.view)
 }
 
 /// How many times an item stands in a list.

@@ -144,6 +144,22 @@ fn the_worked_lines_of_wish_1() {
     assert_eq!(run_lines(input.as_bytes()), output);
 }
 
+/// The worked lines of the readings of wish 3 (document 02), as they are printed there: the hang; A and
+/// B at two views in one pass, and a timer that repeats what A asked for; A and B at one view.
+#[test]
+fn the_worked_lines_of_wish_3() {
+    let parts: Vec<&str> = include_str!("wish_3.txt").split("\n\n").collect();
+    assert_eq!(parts.len(), 3);
+    for part in parts {
+        let (mut input, mut output) = (String::new(), String::new());
+        for (line, printed) in worked(part) {
+            input += &format!("{line}\n");
+            output += &printed;
+            assert_eq!(run_lines(input.as_bytes()), output, "{line}");
+        }
+    }
+}
+
 #[test]
 fn a_timer_and_a_longest_line() {
     // vault 0 of 4 in view 0; its timer; then two view-changes enter view 1

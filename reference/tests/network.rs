@@ -1,10 +1,14 @@
 //! Whole networks under the adversary of sim.rs: the claim of document 01 over runs, and that the
 //! check finds vaults which break a rule.
 
+use std::cell::RefCell;
+
 use reference::frame::Report;
 use reference::literal;
 use reference::rules::{Clause, Question, Reports, Rule};
-use reference::sim::{self, Accepted, Mode, Setup, Style, Tally, Wrong, LOCKED, MADE_UP, SWITCHED};
+use reference::sim::{
+    self, Accepted, Act, LossRun, Mode, Setup, Style, Tally, Wrong, LOCKED, MADE_UP, SWITCHED,
+};
 use reference::vault::Fault;
 
 /// A debug build is slower, so it runs fewer seeds.
@@ -51,6 +55,7 @@ fn assert_eventful(tally: &Tally) {
     assert!(tally.no_lock > 0, "{tally:?}");
     assert!(tally.one_set > 0, "{tally:?}");
     assert!(tally.two_sets > 0, "{tally:?}");
+    assert!(tally.later_backed > 0 && tally.mixed_entries > 0, "{tally:?}");
 }
 
 #[test]
@@ -72,6 +77,7 @@ fn agreement_holds_with_seven_vaults_and_two_liars() {
     let mut tally = hold_styles(7, 2, &styles);
     tally.add(&hold(7, 2, 1, Mode::Contents, Style::Rounds, 150));
     assert_eventful(&tally);
+    assert!(tally.moves_apart > 0, "{tally:?}");
 }
 
 #[test]
@@ -117,9 +123,18 @@ fn the_calls_over_bytes_do_the_same() {
     assert_eventful(&both);
     let alone = hold(4, 1, 1, Mode::Bytes, Style::Rounds, 60);
     let contents = hold(4, 1, 1, Mode::Contents, Style::Rounds, 60);
-    let unclaused =
-        |tally: Tally| Tally { view_zero: 0, no_lock: 0, one_set: 0, two_sets: 0, ..tally };
-    assert_eq!(alone, unclaused(contents));
+    // What bytes do not show: clauses, and what steps A and B did.
+    let shown = Tally {
+        view_zero: 0,
+        no_lock: 0,
+        one_set: 0,
+        two_sets: 0,
+        moves_apart: 0,
+        mixed_entries: 0,
+        later_backed: 0,
+        ..contents
+    };
+    assert_eq!(alone, shown);
 }
 
 /// Lossless links in order and liars who keep silent: every vault decides.
@@ -142,6 +157,95 @@ fn calm_networks_decide() {
                 assert_eq!(outcome.decisions.len(), usize::from(n - liars), "{setup:?}");
             }
         }
+    }
+}
+
+// ---------------------------------------------------------------------------------------------
+// Wish 3 of document 02: vaults that have lost view-changes find each other again.
+
+/// Many more rounds than views that could have a silent leader.
+const ROUNDS: u32 = 40;
+const SIZES: [(u8, u8); 5] = [(4, 1), (5, 1), (7, 2), (10, 3), (13, 4)];
+
+/// A setup for runs that read no style.
+fn losing(n: u8, f: u8, liars: u8, mode: Mode, fault: Fault, seed: u64) -> Setup {
+    Setup { n, f, liars, mode, fault, style: Style::Calm, seed }
+}
+
+/// The run that hung, twice: where a view-change counts for its own view only the vaults stay apart for
+/// ever and nothing is decided; where it backs the earlier views too, all decide.
+#[test]
+fn the_run_that_hung_goes_on() {
+    for (n, f) in SIZES {
+        for (liars, seed) in [(0, 1), (f, 2), (f, 3)] {
+            let played =
+                |mode, fault| sim::hang_run(&losing(n, f, liars, mode, fault, seed), ROUNDS);
+            let hung = played(Mode::Contents, Fault::OwnViewOnly);
+            assert_eq!(hung.outcome.wrong, None);
+            assert_eq!(hung.outcome.started, usize::from(n - f));
+            assert_eq!(hung.outcome.decisions, []);
+            // the last is in view 1, and all the others are still in view 0
+            let views: Vec<u32> = hung.views.iter().map(|&(_, view)| view).collect();
+            let mut apart = vec![0; usize::from(n - f)];
+            *apart.last_mut().expect("vaults") = 1;
+            assert_eq!(views, apart);
+            for mode in [Mode::Contents, Mode::Bytes, Mode::Both] {
+                let run = played(mode, Fault::None);
+                assert_recovered(&run);
+                assert!(run.in_one_view(), "{run:?}");
+            }
+        }
+    }
+}
+
+thread_local! {
+    /// The acts that runs on this thread were told of.
+    static ACTS: RefCell<Vec<(u8, Act)>> = const { RefCell::new(Vec::new()) };
+}
+
+/// The very calls of the run that hung bring all vaults into view 1 under the new count.
+#[test]
+fn the_calls_of_the_run_that_hung() {
+    let hung = losing(4, 1, 0, Mode::Contents, Fault::OwnViewOnly, 5);
+    let told = |id, act: &Act| ACTS.with_borrow_mut(|acts| acts.push((id, act.clone())));
+    let run = sim::hang_run_told(&hung, ROUNDS, told);
+    assert_eq!(run.outcome.tally.views_entered, 1);
+    let acts = ACTS.take();
+    for (mode, fault, entered) in [
+        (Mode::Contents, Fault::OwnViewOnly, 1),
+        (Mode::Contents, Fault::None, 3),
+        (Mode::Both, Fault::None, 3),
+    ] {
+        let outcome = sim::replay(&Setup { mode, fault, ..hung }, &acts);
+        assert_eq!((outcome.wrong, outcome.tally.views_entered), (None, entered), "{mode:?}");
+    }
+}
+
+fn assert_recovered(run: &LossRun) {
+    assert_eq!(run.outcome.wrong, None);
+    assert!(run.all_decided(), "{run:?}");
+}
+
+/// Frames lost at random. Afterwards every network decides; under the old count some never do.
+#[test]
+fn vaults_that_lost_frames_decide() {
+    for sizes in [&SIZES[..1], &SIZES[1..]] {
+        let (mut hung, mut tally) = (0, Tally::default());
+        for &(n, f) in sizes {
+            for seed in 0..seeds(60) {
+                let liars = (seed % u64::from(f + 1)) as u8;
+                let setup = losing(n, f, liars, Mode::Contents, Fault::None, seed);
+                let run = sim::loss_run(&setup, ROUNDS);
+                assert_recovered(&run);
+                tally.add(&run.outcome.tally);
+                let old = sim::loss_run(&Setup { fault: Fault::OwnViewOnly, ..setup }, ROUNDS);
+                hung += u64::from(!old.all_decided());
+            }
+        }
+        println!("{sizes:?}: {hung} hung under the old count; {tally:?}");
+        assert!(hung > 0 && tally.later_backed > 0 && tally.mixed_entries > 0, "{tally:?}");
+        // with four vaults A and B never act at different views in one pass
+        assert_eq!(tally.moves_apart > 0, sizes.len() > 1, "{tally:?}");
     }
 }
 

@@ -2,9 +2,10 @@
 mod common;
 use common::*;
 use reference::entry::Entry;
-use reference::frame::write;
+use reference::frame::{write, Frame, VIEW_CHANGE};
+use reference::rng::Rng;
 use reference::rules::Clause;
-use reference::vault::{self, Fault, Step};
+use reference::vault::{self, Done, Fault, Step};
 
 const LAST: u32 = u32::MAX;
 
@@ -107,7 +108,7 @@ fn quorums_are_n_minus_f() {
     }
 }
 
-/// Step A: f + 1 view-changes for w are echoed; step B: n - f enter it.
+/// Step A: f + 1 view-changes for w or later are echoed; step B: n - f enter it.
 #[test]
 fn view_changes_are_echoed_and_entered() {
     let mut vault = Vault::started(7, 2, 6, 9);
@@ -155,47 +156,178 @@ fn no_echo_at_or_below_the_own_view_change() {
     assert_eq!(vault.take(&view_change(3, 5)), [Entry::All(view_change(6, 5))]);
 }
 
-/// View-changes are counted for one view each, not for all up to theirs.
-#[test]
-fn view_changes_for_different_views_are_not_added_up() {
-    let mut vault = Vault::started(7, 2, 6, 9);
-    for (sender, view) in (0..6).zip(1..) {
-        assert_eq!(vault.take(&view_change(sender, view)), []);
-    }
-    assert_eq!(vault.record().view, 0);
+/// What A and B did in a pass: a and the view that A asked for, e and the view that B entered.
+fn moved(done: &Done) -> String {
+    let Some(moved) = done.moved() else { return String::new() };
+    let asked = moved.asked.map(|view| format!("a{view}"));
+    let entered = moved.entered.map(|view| format!("e{view}"));
+    asked.into_iter().chain(entered).collect()
 }
 
-/// A looks at the highest view with f + 1, B at the highest with n - f.
-#[test]
-fn the_highest_view_is_taken() {
-    // eight vaults, f = 1: a sound record where A has not acted yet
-    let mut frames: Vec<_> = (0..3).map(|sender| view_change(sender, 2)).collect();
-    frames.extend((3..5).map(|sender| view_change(sender, 9)));
-    let mut vault = Vault::of(&record_with(8, 1, 7, 9, 0, &frames));
-    assert_eq!(vault.take(&vote(1, 0, 0, 5)), [Entry::All(view_change(7, 9))]);
-    // own view-change moves on from 9 to 12: the lower view loses a voter
-    vault.take(&view_change(5, 12));
-    assert_eq!(vault.take(&view_change(6, 12)), [Entry::All(view_change(7, 12))]);
+/// Plays acts at vault n - 1: `sender:view` is another's view-change, `t` its own timer. What A and
+/// B must do then stands after `=`, nothing where neither may act.
+fn play(n: u8, f: u8, acts: &str) -> Vault {
+    let mut vault = Vault::started(n, f, n - 1, 9);
+    for act in acts.split_whitespace() {
+        let (act, expected) = act.split_once('=').unwrap_or((act, ""));
+        let record = vault.record();
+        let done = match act.split_once(':') {
+            Some((sender, view)) => {
+                let sender = sender.parse().expect("a vault");
+                let frame = view_change(sender, view.parse().expect("a view"));
+                vault.take(&frame);
+                vault::frame(&record, sender, &write(&frame))
+            }
+            None => {
+                vault.timer(record.view).expect("accepted");
+                vault::timer(&record, record.view)
+            }
+        };
+        let done = done.expect("accepted");
+        assert_eq!(moved(&done), expected, "{act} of {acts} at vault {} of {n}", n - 1);
+    }
+    vault
 }
 
-/// B enters w though the vault's own view-change is for a higher view.
+/// "a kept view-change for w counts for every view up to w, in A and in B alike" (02, wish 3).
 #[test]
-fn entry_below_the_own_view_change() {
-    let mut vault = Vault::started(7, 2, 6, 9);
-    for sender in [0, 1, 2] {
-        vault.take(&view_change(sender, 9));
+fn a_view_change_backs_the_earlier_views_too() {
+    for (n, f, acts) in [
+        // A: f do nothing, one more makes the vault ask for the lowest of their views
+        (4, 1, "0:90 1:89=a89e89"),
+        (5, 1, "0:90 1:89=a89"),
+        (7, 2, "0:90 1:89 2:88=a88"),
+        (7, 2, "0:88 1:90 2:89=a88"),
+        (10, 3, "0:90 1:90 2:89 3:3=a3"),
+        // the old count did nothing at all with these six
+        (7, 2, "0:1 1:2 2:3=a1 3:4=a2e1 4:5=a3e2 5:6=a4e3"),
+        // B: n - f - 1 do not enter, one more does; the own view-change is one of them
+        (4, 1, "t 0:9 1:1=e1"),
+        (5, 1, "t 0:9 1:1 2:1=e1"),
+        (7, 2, "t 0:9 1:8 2:1 3:1=e1"),
+        (7, 2, "t 0:1 1:1 2:1 3:1=e1"),
+        (10, 3, "t 0:9 1:8 2:7 3:1 4:1 5:1=e1"),
+        // the own view-change backs views below it
+        (7, 2, "0:9 1:9 2:9=a9 3:4=e4"),
+        (5, 1, "0:9 1:9=a9 2:4=e4 3:6=e6"),
+        // A asks for one view and B enters a lower one
+        (7, 2, "0:5 1:3 2:9=a3 3:9=a5e3"),
+        (5, 1, "0:9 1:3=a3 2:5=a5e3"),
+        // a vault that moves on goes on backing the views that it asked for before
+        (4, 1, "t 0:1 0:2 0:7 1:1=e1"),
+        (5, 1, "0:1 0:2 1:1=a1 0:3 1:2=a2 2:1=e1"),
+        // the highest view that enough back, and the last views of all
+        (4, 1, "0:3 1:5=a3e3 2:4=a4e4"),
+        (5, 1, "0:4294967295 1:4294967294=a4294967294 2:4294967295=a4294967295e4294967294"),
+        (5, 1, "0:4294967295 1:4294967295=a4294967295 2:1=e1 3:4294967295=e4294967295"),
+    ] {
+        play(n, f, acts);
     }
-    assert_eq!(vault.record().rows[6][5], Some(view_change(6, 9)));
-    // a record where five of seven are for view 4 and the own one is for 9
-    let mut frames: Vec<_> = (0..4).map(|sender| view_change(sender, 4)).collect();
-    frames.push(view_change(6, 9));
+}
+
+/// The same with 64 vaults, each of which asks for a view of its own: f + 1 = 22 of them back 79, and
+/// 42 with the vault's own 59.
+#[test]
+fn sixty_four_views_at_once() {
+    let acts: String = (0..42).map(|sender| format!("{sender}:{} ", 100 - sender)).collect();
+    play(64, 21, &acts.replace("21:79", "21:79=a79").replace("41:59", "41:59=e59"));
+}
+
+/// "Highest is meant as before": over all views. Each is tried here, on any sound record.
+#[test]
+fn the_highest_view_of_all_is_taken() {
+    let mut rng = Rng(3);
+    let mut seen = [0; 4];
+    for _ in 0..20_000 {
+        let n = 4 + rng.below(7) as u8;
+        let f = 1 + rng.below((u64::from(n) - 1) / 3) as u8;
+        let view = rng.below(4) as u32;
+        let asking: Vec<u8> = (0..n).filter(|_| !rng.one_in(4)).collect();
+        let frames: Vec<_> =
+            asking.iter().map(|&id| view_change(id, 1 + rng.below(9) as u32)).collect();
+        let record = record_with(n, f, n - 1, 9, view, &frames);
+        let done = vault::frame(&record, 0, &write(&vote(1, 0, view, 5))).expect("taken");
+        let expected = moved_by_all_views(n, f, view, &frames);
+        assert_eq!(moved(&done), expected, "{:?}", (n, f, view, &frames));
+        let [a, b] = ['a', 'e'].map(|letter| usize::from(expected.contains(letter)));
+        seen[2 * a + b] += 1;
+    }
+    assert!(seen.iter().all(|&count| count > 1000), "{seen:?}");
+}
+
+/// Steps A and B of vault n - 1 by trying every view from the highest down.
+fn moved_by_all_views(n: u8, f: u8, view: u32, kept: &[Frame]) -> String {
+    let mut views: Vec<u32> = kept.iter().map(|frame| frame.view).collect();
+    let own = kept.iter().find(|frame| frame.sender == n - 1).map_or(0, |frame| frame.view);
+    let highest = |views: &[u32], enough: u8| {
+        let backers = |w: u32| views.iter().filter(|&&kept| kept >= w).count();
+        (0..=10).rev().find(|&w| backers(w) >= usize::from(enough)).filter(|&w| w > view)
+    };
+    let asked = highest(&views, f + 1).filter(|&w| w > own);
+    if let Some(w) = asked {
+        // Its own view-change, if it had one, is replaced.
+        views.iter().position(|&kept| kept == own).map(|at| views.swap_remove(at));
+        views.push(w);
+    }
+    let entered = highest(&views, n - f);
+    asked.map(|w| format!("a{w}")).into_iter().chain(entered.map(|w| format!("e{w}"))).collect()
+}
+
+/// A's view-change counts in B of the same pass, for a lower view too: a sound record in which no
+/// echo went out.
+#[test]
+fn the_echo_backs_a_lower_view_in_the_same_pass() {
+    let mut frames: Vec<_> = (0..3).map(|sender| view_change(sender, 9)).collect();
+    frames.push(view_change(3, 4));
     let mut vault = Vault::of(&record_with(7, 2, 6, 9, 0, &frames));
-    assert_eq!(vault.take(&view_change(5, 4)), entered(6, 4, 4));
-    assert_eq!(
-        vault.timer(4),
-        Ok(vec![Entry::All(view_change(6, 9))]),
-        "and repeats 9 at the timer"
-    );
+    let mut expected = vec![Entry::All(view_change(6, 9))];
+    expected.extend(entered(6, 4, 4));
+    assert_eq!(vault.take(&vote(1, 0, 0, 5)), expected);
+}
+
+/// A vault may be in a view below its own view-change: its timer repeats that one each time, and
+/// the view goes its way.
+#[test]
+fn in_a_view_below_the_own_view_change() {
+    for acts in ["0:9 1:9 2:9=a9 3:4=e4", "0:4 1:9 2:9=a4 3:9=a9e4"] {
+        let mut vault = play(7, 2, acts);
+        assert_eq!(vault.record().view, 4);
+        for _ in 0..3 {
+            assert_eq!(vault.timer(4), Ok(vec![Entry::All(view_change(6, 9))]), "{acts}");
+        }
+        for sender in 0..4 {
+            vault.take(&proof(sender, 4, NONE));
+        }
+        assert_eq!(vault.take(&proposal(4, 4, 5)), [Entry::All(vote(1, 6, 4, 5))]);
+        // a fifth vault asks for 9 too
+        assert_eq!(vault.take(&view_change(4, 9))[0], timer(9));
+    }
+}
+
+/// On records that calls reach nothing is left for A and B after a pass: no frame but a view-change
+/// sets them off, and a timer sets off B at most.
+#[test]
+fn what_sets_off_a_and_b() {
+    let mut rng = Rng(38);
+    let mut moves = 0;
+    for _ in 0..100 {
+        let mut vault = wandered(&mut rng, 0);
+        for _ in 0..80 {
+            let record = vault.record();
+            let timer = vault::timer(&record, record.view).expect("not the last view");
+            assert!(!timer.steps.contains(&Step::A));
+            let frame = likely_frame(&mut rng, &record);
+            if let Ok(done) = vault::frame(&record, frame.sender, &write(&frame)) {
+                assert!(frame.kind == VIEW_CHANGE || done.moved().is_none(), "{frame:?}");
+                moves += u32::from(done.moved().is_some());
+                vault.take(&frame);
+            }
+            if rng.one_in(10) {
+                vault.timer(record.view).ok();
+            }
+        }
+    }
+    assert!(moves > 500, "{moves}");
 }
 
 /// "An accepted timer broadcasts view-change for the next view, or repeats the vault's own if that
@@ -456,6 +588,18 @@ fn faults() {
     assert!(done.entries.contains(&Entry::All(proof(3, 5, [rep(4, 5), rep(2, 6), None]))));
     let done = vault::frame_with(Fault::ForgetPrevious, &record, 1, &bytes).expect("taken");
     assert!(done.entries.contains(&Entry::All(proof(3, 5, [rep(4, 5), None, None]))));
+    // OwnViewOnly: the one that moved on is not counted; those for one view are, as ever
+    let hung = record_with(4, 1, 3, 9, 0, &[view_change(3, 1), view_change(2, 2)]);
+    let bytes = write(&view_change(1, 1));
+    let done = vault::frame(&hung, 1, &bytes).expect("taken");
+    assert_eq!(done.steps, [Step::B]);
+    let done = vault::frame_with(Fault::OwnViewOnly, &hung, 1, &bytes).expect("taken");
+    assert_eq!(done.entries, []);
+    let bytes = write(&view_change(1, 2));
+    for fault in [Fault::None, Fault::OwnViewOnly] {
+        let done = vault::frame_with(fault, &hung, 1, &bytes).expect("taken");
+        assert_eq!(moved(&done), "a2e2");
+    }
     // start and timer take a fault too
     assert_eq!(vault::start_with(Fault::SmallQuorum, 4, 1, 0, 2, 7), vault::start(4, 1, 0, 2, 7));
     assert_eq!(vault::timer_with(Fault::None, &record, 4), vault::timer(&record, 4));

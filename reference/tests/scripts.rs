@@ -36,6 +36,8 @@ fn scripts_reach_every_step_refusal_and_clause() {
         cover(&script(seed), &mut coverage);
     }
     println!("{coverage:?}");
+    println!("{:?}", coverage.wish_3());
+    println!("rarest: {:?}", &coverage.rarest()[..12]);
     for step in [Step::A, Step::B, Step::C, Step::D, Step::E, Step::F, Step::G, Step::H] {
         assert!(coverage.step(step) > 0, "{step:?}");
     }
@@ -54,14 +56,15 @@ fn scripts_reach_every_step_refusal_and_clause() {
     assert!(coverage.decisions_of_64 > 0);
     assert!(coverage.timer_repeats > coverage.far_repeats && coverage.far_repeats > 0);
     assert!(coverage.last_views > 0);
-    assert_eq!(coverage.missing(), Vec::<String>::new(), "faults in reports");
+    assert_eq!(coverage.missing(), Vec::<String>::new(), "wish 3, and faults in reports");
 }
 
-/// `missing` names each fault until it was reached, and a wrong number wherever it comes.
+/// `missing` names each fault and each thing of wish 3 until it was reached, and a wrong number
+/// wherever it comes.
 #[test]
 fn missing_names_what_was_not_reached() {
     let mut coverage = Coverage::default();
-    let wanted = 3 * wanted_faults().len();
+    let wanted = 3 * wanted_faults().len() + coverage.wish_3().len();
     assert_eq!(coverage.missing().len(), wanted);
     // at vault 3 of 4, which does not lead view 4: 21 in the lock with 22, first in a proof
     let reports = "00000000000000000000000000\
@@ -76,6 +79,32 @@ fn missing_names_what_was_not_reached() {
     assert_eq!((coverage.missing().len(), coverage.misjudged), (wanted - 1, 0));
     coverage.misjudged = 1;
     assert_eq!(coverage.missing().len(), wanted);
+}
+
+/// Each thing of wish 3 by a script of its own: what it counts, in the order of `wish_3`.
+#[test]
+fn the_counts_of_wish_3() {
+    // vault 0 of 7 with f = 2; A asks for 3, then for 5 while B enters 3; timers repeat 5
+    let seven = "00070200020000000000000007\n060100000005\n060200000003\n060300000009\n";
+    let entered = format!("{seven}060400000009\n");
+    // vault 0 of 4: its own timer, then two view-changes for 1, or for 2 and 1
+    let four = "00040100020000000000000007\n0900000000\n";
+    for (script, counts) in [
+        (seven.to_string(), [0, 0, 0, 1, 0, 0]),
+        (format!("{seven}0900000000\n"), [0, 0, 1, 1, 0, 0]),
+        (entered.clone(), [1, 1, 0, 2, 1, 0]),
+        (format!("{entered}0900000003\n0900000003\n"), [1, 1, 2, 2, 1, 2]),
+        (format!("{four}060100000001\n060200000001\n"), [0; 6]),
+        (format!("{four}060200000002\n060100000001\n"), [0, 0, 0, 1, 0, 0]),
+        // the view after is no far one, and the old count does as much for view-changes for one
+        (format!("{four}0900000000\n060100000003\n060200000003\n"), [0; 6]),
+    ] {
+        let mut coverage = Coverage::default();
+        cover(script.as_bytes(), &mut coverage);
+        assert_eq!(coverage.wish_3().map(|(_, count)| count), counts, "{script}");
+        let lacking = counts.iter().filter(|&&count| count == 0).count();
+        assert_eq!(coverage.missing().len(), 3 * wanted_faults().len() + lacking);
+    }
 }
 
 /// Which refusals lines can reach.
@@ -426,13 +455,13 @@ impl Second {
         self.pass_from_c();
     }
 
-    /// The highest view with so many view-changes.
+    /// The highest view with so many view-changes, for it or for a later one: with the highest
+    /// first, that of the last of so many.
     fn view_with(&self, enough: usize) -> Option<u64> {
-        let mut counts = BTreeMap::new();
-        for (_, kept) in self.kept.range((6, 0)..=(6, 255)) {
-            *counts.entry(kept.view).or_insert(0) += 1;
-        }
-        counts.into_iter().rev().find(|&(_, count)| count >= enough).map(|(view, _)| view)
+        let kept = self.kept.range((6, 0)..=(6, 255));
+        let mut views: Vec<u64> = kept.map(|(_, kept)| kept.view).collect();
+        views.sort_unstable();
+        views.into_iter().rev().nth(enough - 1)
     }
 
     fn enter_view(&mut self, view: u64) {

@@ -154,9 +154,11 @@ fn a_repeated_frame_is_no_second_voter() {
     let mut vault = Vault::started(4, 1, 3, 9);
     assert_eq!(vault.take(&view_change(0, 1)), []);
     assert_eq!(vault.frame(&view_change(0, 1)), Err(17));
-    // a sender's view-change for a higher view replaces the one for a lower
+    // a sender's view-change for a higher view replaces the one for a lower; it is one backer still
     assert_eq!(vault.take(&view_change(0, 2)), []);
-    assert_eq!(vault.take(&view_change(1, 1)), [], "only vault 1 is left for view 1");
+    assert_eq!(vault.take(&view_change(0, 3)), []);
+    // and goes on backing the lower view (02, wish 3)
+    assert_eq!(vault.take(&view_change(1, 1))[0], Entry::All(view_change(3, 1)));
 }
 
 /// A vote for a later view replaces the sender's vote for this one.

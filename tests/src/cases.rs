@@ -65,7 +65,8 @@ fn stepping(n: u8, f: u8) -> Vec<Case> {
     let late = n - 1;
     let blocking = usize::from(f) + 1;
     let change = |sender, _| Frame::view_change(sender, 1);
-    let apart = |sender, i| Frame::view_change(sender, 100 - i);
+    // The vault does not lead the view that it enters by these.
+    let apart = |sender, i| Frame::view_change(sender, 102 - i);
     let a = Scene::started(n, f, late).hear_some(blocking, change);
     let a_apart = Scene::started(n, f, late).hear_some(blocking, apart);
     let quorum = a.quorum();

@@ -142,7 +142,7 @@ fn kept_view(rng: &mut Rng, rec: &[u8], kind: u8, sender: u8, usual: u32) -> Opt
 pub fn sound(rng: &mut Rng) -> Vec<u8> {
     let settings = settings(rng);
     let [n, _, id, _] = settings;
-    let view = if rng.one_in(20) { u32::MAX - rng.below(3) as u32 } else { rng.below(3 * u64::from(n)) as u32 };
+    let view = if rng.one_in(10) { u32::MAX - rng.below(3) as u32 } else { rng.below(3 * u64::from(n)) as u32 };
     let mut rec = fresh(settings, view, plan(rng));
     for kind in 1..=8u8 {
         let full = rng.below(101);

@@ -54,7 +54,7 @@ fn a_bad_report_is_told_by_its_part() {
 }
 
 /// Document 02, wish 3: a line and what it prints; where the line is left out, what the line above prints too. An empty row ends an input.
-const BACKED: &str = include_str!("../backed.txt");
+const BACKED: &str = include_str!("../../reference/tests/wish_3.txt");
 
 #[test]
 fn a_later_view_change_backs_the_earlier_views() {

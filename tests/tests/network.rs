@@ -14,6 +14,8 @@ fn hold(n: u8, f: u8, liars: u8, mode: Mode, style: Style, count: u64) -> Tally 
     tally
 }
 
+/// Many more than views that could have a silent leader.
+const ROUNDS: u32 = 40;
 const STYLES: [Style; 5] = [Style::Rounds, Style::Feints, Style::Partitions, Style::Chaos, Style::Camps];
 
 /// Agreement among the vaults that keep the rules, with every call compared.
@@ -42,6 +44,23 @@ fn networks_of_rattle_vaults_alone_agree() {
     }
     println!("{tally:?}");
     assert!(tally.decisions > tally.runs && tally.late_decisions > 0, "{tally:?}");
+}
+
+/// Document 02, wish 3, over Rattle vaults: the run that hung goes on, and vaults that lost frames find each other again.
+#[test]
+fn vaults_that_hung_go_on() {
+    for (n, f) in [(4, 1), (5, 1), (7, 2), (13, 4)] {
+        for (seed, mode) in (0..20).flat_map(|seed| [(seed, Mode::Both), (seed, Mode::Bytes)]) {
+            let liars = (seed % u64::from(f + 1)) as u8;
+            let setup = Setup { n, f, liars, mode, fault: Fault::None, style: Style::Calm, seed };
+            for run in [sim::hang_run(&setup, ROUNDS), sim::loss_run(&setup, ROUNDS)] {
+                assert_eq!(run.outcome.wrong, None, "{setup:?}");
+                assert!(run.all_decided() && run.in_one_view(), "{setup:?}");
+            }
+            let old = Setup { mode: Mode::Contents, fault: Fault::OwnViewOnly, ..setup };
+            assert_eq!(sim::hang_run(&old, ROUNDS).outcome.decisions, [], "{old:?}");
+        }
+    }
 }
 
 /// Lossless links: every vault decides.

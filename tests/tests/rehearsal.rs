@@ -47,8 +47,15 @@ fn alone() -> [Talk; 3] {
         .map(|(line, printed)| vec![(format!("{line}\n"), printed.into())])
 }
 
+/// Document 02, wish 3: vaults 0 and 1 enter view 1 by the frame with which vault 2 asks for view 2.
+fn hang() -> Talk {
+    let talk = talk(include_str!("../../reference/tests/rehearsal_hang.txt"));
+    assert_eq!(talk.len(), 48);
+    talk
+}
+
 fn worked_scripts() -> Vec<Talk> {
-    [one_script(), another()].into_iter().chain(alone()).collect()
+    [one_script(), another(), hang()].into_iter().chain(alone()).collect()
 }
 
 #[test]

@@ -54,7 +54,7 @@ fn another_byte_in_random_calls_is_found() {
 /// The start, the view-changes and votes that a quorum needs, and nothing else.
 #[test]
 fn another_byte_in_lines_is_found() {
-    let script = finds("8", "other-byte", "difference: ");
+    let script = finds("49", "other-byte", "difference: ");
     assert!(script[0] == "lines" && script.len() < 12, "{script:?}");
 }
 

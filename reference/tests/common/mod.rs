@@ -234,7 +234,7 @@ pub fn likely_frame(rng: &mut Rng, record: &Record) -> Frame {
         }
         PROPOSAL..=VOTE_4 => Frame::with_plan(kind, sender, view, plan),
         VIEW_CHANGE => {
-            Frame::view_change(sender, record.view.saturating_add(rng.pick(&[1, 1, 1, 1, 2])))
+            Frame::view_change(sender, record.view.saturating_add(rng.pick(&[1, 1, 1, 2, 3, 5])))
         }
         _ => {
             if kind == SUGGEST && rng.below(8) > 0 {
@@ -289,4 +289,20 @@ pub fn run_lines(input: &[u8]) -> String {
     let mut output = Vec::new();
     reference::lines::run(input, &mut output).expect("runs");
     String::from_utf8(output).expect("text")
+}
+
+/// The lines of a worked script, each with what it prints.
+pub fn worked(script: &str) -> Vec<(&str, String)> {
+    let mut lines: Vec<(&str, String)> = Vec::new();
+    for row in script.lines() {
+        let (line, answer) = row.split_once(' ').unwrap_or((row, ""));
+        if !line.is_empty() {
+            lines.push((line, String::new()));
+        }
+        if !answer.is_empty() {
+            let (_, printed) = lines.last_mut().expect("a script begins with a line");
+            *printed += &format!("{}\n", answer.trim());
+        }
+    }
+    lines
 }
