@@ -12,7 +12,7 @@ use crate::folder::Folder;
 use crate::table;
 
 /// The cases that are counted, by their names in part 1.
-const COUNTED: [&str; 15] = [
+const COUNTED: [&str; 19] = [
     "start, does not lead view 0",
     "vote, nothing kept",
     "vote, all kept",
@@ -22,6 +22,10 @@ const COUNTED: [&str; 15] = [
     "proof: D, no votes",
     "proof: D, no locks",
     "proof: D, locks, one set",
+    "view-change: A (n = 4: and B)",
+    "view-change, views apart: A (n = 4: and B)",
+    "view-change: B",
+    "view-change, views apart: B (n = 4: and A)",
     "vote-1: E",
     "frame refused 9 (empty), nothing kept",
     "frame refused 9 (empty), all kept",
