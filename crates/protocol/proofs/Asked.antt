@@ -6,7 +6,7 @@ use mathlib.Core.Path.{_≡_, refl}
 use mathlib.Core.Bool.{Bool, true}
 use mathlib.Core.Option.{Option, none, some}
 use native.Mathlib.Omega.{arith}
-use lib.Dec.{leb, ltb}
+use lib.Dec.{ltb}
 use borrow.Author.Tests.{leb-true, le-leb, lt-ltb, ltb-true}
 use Rattle.rules.specs.Sets.{Vaults, Set, size}
 use Rattle.rules.specs.Quorums.{isQuorum, isBlocking}
@@ -86,13 +86,14 @@ module _ (r : Record) where
       let whole : r .set .n ≤ size (vaults r) (upFrom (changeOf r) w) + r .set .f
       = omega (arith, totalEquals (r .set .n) (r .set .f), quorumWeighs (vaults r) (upFrom (changeOf r) w) .0 h) in
       let k = keptFrom isQuorum (quorumByWeight (vaults r)) w (omega arith) h in
+      let later : ltb (r .view) (k .view) ≡ true = lt-ltb (r .view) (k .view) (omega (arith, k .up, ltb-true (r .view) w above)) in
       record {
         who = k .who;
         view = k .view;
         below = k .below;
         kept = k .kept;
         up = k .up;
-        passes = bothJoin (ltb (r .view) (k .view)) (asked r isQuorum (k .view)) (lt-ltb (r .view) (k .view) (omega (arith, k .up, ltb-true (r .view) w above))) (k .passes);
+        passes = bothJoin (ltb (r .view) (k .view)) (asked r isQuorum (k .view)) later (k .passes);
       }
 
 -- So steps A and B act on the highest of all views.

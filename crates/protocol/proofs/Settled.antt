@@ -2,7 +2,7 @@
 -- Each step, once it has acted, has nothing to do; and no later step gives it anything, as the later steps change only kinds that
 -- it does not read. What each step reads is said once (`sameA` to `sameVote`), and an act's own kind is the only one that it changes.
 -- Assumes nothing.
-use Prim.Native.Nat.{ℕ, zero, suc, _+_, _≤_, _<_}
+use Prim.Native.Nat.{ℕ, zero, suc, _+_, _*_, _≤_, _<_}
 use mathlib.Core.Path.{_≡_, refl, sym, _∙_, ap, subst, fun-ext}
 use mathlib.Core.Logic.{_≢_, _⊎_, inl, inr, ⊎-elim}
 use mathlib.Core.Bool.{Bool, true, false, cond, not, _&&_, and-false}
@@ -11,13 +11,14 @@ use mathlib.Core.Option.{Option, none, some}
 use native.Mathlib.Omega.{arith}
 use native.Mathlib.Decide.{ℕ-discrete}
 use lib.Dec.{leb, ltb, eqb}
-use borrow.Author.Tests.{eq-eqb, leb-true, le-leb, lt-ltb, le-ltb, ltb-true, ltb-false}
+use borrow.Author.Tests.{eq-eqb, leb-true, le-leb, lt-ltb, le-ltb, ltb-true, ltb-false, not-false}
 use Rattle.rules.specs.Quorums.{isQuorum, isBlocking}
-use Rattle.rules.proofs.Bools.{which, bothSplit, bothJoin}
+use Rattle.rules.proofs.Bools.{which, clash, bothSplit, bothJoin}
 use Rattle.rules.proofs.Quorums.{enoughMono, blockingByWeight}
 use Rattle.rules.specs.Options.{isNone, holds}
 use Rattle.rules.specs.Rules.{rule1, rule3}
-use Rattle.rules.proofs.Laws.{holdsWhere}
+use Rattle.rules.proofs.Laws.{holdsMap, holdsWhere}
+use Rattle.rules.proofs.Reports.{none≢some}
 use Rattle.frame.specs.declared.Frame.{Frame}
 use Rattle.protocol.specs.Record.{Record, when, each, highest, keeping, changeOf, planNow, sentNow, changeFrame, voteFrame, reportFrame}
 use Rattle.protocol.specs.Record.{vaults, leader, leads}
@@ -25,10 +26,12 @@ use Rattle.settings.specs.declared.Settings.{Settings}
 use Rattle.protocol.specs.Pass.{Act, ask, enter, cast, decide, entered, does, asked, isNews, actA, canEnter, actB, mayPropose, chosen, actC}
 use Rattle.protocol.specs.Pass.{approves, actD, agreed, actVote, actH, Out, Step, taken, onward, pass, stepA, stepB, stepC, stepD, stepVote}
 use Rattle.protocol.specs.Pass.{stepH, fromC, fromA}
-use Rattle.protocol.specs.Calls.{fresh, started, keep, heard, wanted, timedOut, start}
+use Rattle.protocol.specs.Calls.{Call, accepted, answer, fresh, started, keep, heard, wanted, timedOut, start}
 use Rattle.protocol.specs.Settled.{AlwaysSettled}
+use Rattle.protocol.specs.Asked.{HighestOfAll, NoViewMissed}
 use Rattle.protocol.proofs.Tables.{keepSame, keepOtherKind, keepWas, eachSome, eachNone, eachWas, whenSome, whenNone, whenFalse, highestHas}
 use Rattle.protocol.proofs.Tables.{highestMost, highestNone}
+use Rattle.protocol.proofs.Asked.{askedHighest}
 use Rattle.protocol.proofs.Size.{actIs}
 use Rattle.protocol.proofs.Good.{voteCast}
 use Rattle.protocol.proofs.Went.{acceptedBy}
@@ -423,11 +426,45 @@ quietPass r q =
     (quietStep (stepVote 3) _ r (ap (taken r) (q .votes 2 (omega arith) (omega arith)))
     (quietStep stepH [] r (ap (taken r) (q .h (omega arith))) (passNone r))))))))
 
--- After every accepted call a further pass does nothing.
-pub callSettles : AlwaysSettled
+-- After every accepted call no step has anything to do.
+callDone : (b : Option Record) (a : Call) (o : Out) → answer b a ≡ accepted o → Done 8 (o .left)
 unfolding started heard timedOut
-callSettles =
-    acceptedBy (λ b a o. pass fromA (o .left) ≡ record { left = o .left; wrote = [] })
-    (λ s p given. quietPass _ (doneC (fresh s p) (doneFresh s p)))
-    (λ r x given. quietPass _ (doneA (keep x r)))
-    (λ r v given. quietPass _ (doneA (does r (ask (wanted r)))))
+callDone =
+    acceptedBy (λ b a o. Done 8 (o .left))
+    (λ s p given. doneC (fresh s p) (doneFresh s p)) (λ r x given. doneA (keep x r)) (λ r v given. doneA (does r (ask (wanted r))))
+
+-- So a further pass does nothing.
+pub callSettles : AlwaysSettled
+callSettles b a o e = quietPass (o .left) (callDone b a o e)
+
+-- ---- no view is missed
+
+module _ (r : Record) (x : ℕ) (above : r .view < x) where
+  -- Where B has nothing to do, no quorum asks for a later view.
+  noneEntered : 3 * r .set .f < r .set .n → actB r ≡ none → asked r isQuorum x ≡ false
+  noneEntered third quiet = go (highest (canEnter r) (changeOf r) (r .set .n)) (askedHighest r .1 third) quiet
+    where
+      go : (o : Option ℕ) → HighestOfAll (canEnter r) o → each o (λ w. some (enter w)) ≡ none → asked r isQuorum x ≡ false
+      go (some w) top e = absurd (none≢some (sym e))
+      go none top e = let off : (ltb (r .view) x && asked r isQuorum x) ≡ false = top x in rw (lt-ltb (r .view) x above) at off
+
+  -- Where A has nothing to do, and a blocking set asks for a later view, the vault does.
+  asksToo : actA r ≡ none → asked r isBlocking x ≡ true → holds (leb x) (changeOf r (r .set .id)) ≡ true
+  asksToo quiet h = go (highest (asked r isBlocking) (changeOf r) (r .set .n)) (askedHighest r .0) quiet
+    where
+      own : (w : ℕ) → x ≤ w → (ltb (r .view) w && not (holds (leb w) (changeOf r (r .set .id)))) ≡ false → holds (leb x) (changeOf r (r .set .id)) ≡ true
+      own w le old =
+          let known : not (holds (leb w) (changeOf r (r .set .id))) ≡ false = rw (lt-ltb (r .view) w (omega arith)) at old in
+          holdsMap (changeOf r (r .set .id)) (leb w) (leb x) (λ y is later. le-leb x y (omega (arith, leb-true w y later))) (not-false _ known)
+
+      go : (o : Option ℕ) → HighestOfAll (asked r isBlocking) o → each o (λ w. when (isNews r w) (some (ask w))) ≡ none
+          → holds (leb x) (changeOf r (r .set .id)) ≡ true
+      go none top e = absurd (clash h (top x))
+      go (some w) top e = own w (top .1 x h) (whenNone (isNews r w) (ask w) e)
+
+-- After every accepted call the vault is in every view that a quorum of its kept view-changes asks for, or beyond it; and it asks for as much as
+-- a blocking set does.
+pub noViewMissed : NoViewMissed
+noViewMissed b a o e third x above =
+    let q = callDone b a o e in
+    (noneEntered (o .left) x above third (q .b (omega arith)), asksToo (o .left) x above (q .a (omega arith)))
