@@ -3,17 +3,16 @@
 -- Assumes nothing.
 use Prim.Native.Nat.{ℕ, _+_, _*_, _≤_, _<_}
 use mathlib.Core.Path.{_≡_, refl}
-use mathlib.Core.Bool.{Bool, true}
+use mathlib.Core.Bool.{Bool, true, false≢true}
 use mathlib.Core.Option.{Option, none, some}
 use native.Mathlib.Omega.{arith}
-use lib.Dec.{ltb}
+use lib.Dec.{leb, ltb}
 use borrow.Author.Tests.{leb-true, le-leb, lt-ltb, ltb-true}
 use Rattle.rules.specs.Sets.{Vaults, Set, size}
 use Rattle.rules.specs.Quorums.{isQuorum, isBlocking}
 use Rattle.rules.proofs.Bools.{notTrue, bothSplit, bothJoin}
 use Rattle.rules.proofs.Reports.{none≢some}
 use Rattle.rules.proofs.Quorums.{ByWeight, quorumByWeight, blockingByWeight, quorumWeighs, blockingWeighs, enoughMono, totalEquals}
-use Rattle.rules.proofs.Laws.{holdsMap}
 use Rattle.rules.proofs.Least.{upFrom, leastFrom}
 use Rattle.protocol.specs.Record.{Record, highest, changeOf, vaults}
 use Rattle.protocol.specs.Pass.{asked, canEnter}
@@ -26,9 +25,16 @@ use Rattle.protocol.proofs.Tables.{highestHas, highestMost}
 pub askedFalls : AskedFalls
 askedFalls r w x le = (lower isBlocking (blockingByWeight (vaults r)), lower isQuorum (quorumByWeight (vaults r)))
   where
+    -- Vault j asks for v, as the definition has it.
+    asks : ℕ → Set
+    asks v j = asked r (λ vs s. s j) v
+
+    within : (j : ℕ) (o : Option ℕ) → changeOf r j ≡ o → asks x j ≡ true → asks w j ≡ true
+    within j none is h = absurd (false≢true (rw is at h))
+    within j (some y) is h = let later : leb x y ≡ true = rw is at h in rw is (le-leb w y (omega (arith, leb-true x y later)))
+
     lower : (enough : Vaults → Set → Bool) → ByWeight (vaults r) (enough (vaults r)) → asked r enough x ≡ true → asked r enough w ≡ true
-    lower enough by = enoughMono (vaults r) (enough (vaults r)) by _ _
-        (λ j low. holdsMap (changeOf r j) _ _ (λ y is later. le-leb w y (omega (arith, leb-true x y later))))
+    lower enough by = enoughMono (vaults r) (enough (vaults r)) by (asks x) (asks w) (λ j low. within j (changeOf r j) refl)
 
 -- ---- the highest of the kept views is the highest of all
 
