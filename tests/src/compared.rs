@@ -56,9 +56,10 @@ impl Seen {
         self.accepted += 1;
         let mut asked = None;
         for entry in parse_entries(written).expect("difference: the output spells no entries") {
-            match entry {
-                Entry::All(frame) if frame.kind == 6 => asked = Some(frame.view),
-                Entry::Timer { view, .. } => self.apart += u64::from(asked.is_some_and(|asked| asked != view)),
+            match (&entry, call) {
+                // The view-change of A; that of a timer call may be the timer's.
+                (Entry::All(frame), Call::Frame { .. }) if frame.kind == 6 => asked = Some(frame.view),
+                (Entry::Timer { view, .. }, _) => self.apart += u64::from(asked.is_some_and(|asked| asked != *view)),
                 _ => {}
             }
             let step = match (entry, call) {
