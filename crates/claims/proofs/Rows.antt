@@ -1,26 +1,22 @@
--- The laws of rows and of the search over candidate views (document 01, 'When a plan is safe'; step C: 'The search over candidate views
--- ends at the first one that serves the plan'). A report is for every plan, for one, or for none; so a count of equal plans, with those
+-- The laws of rows (document 01, 'When a plan is safe'). A report is for every plan, for one, or for none; so a count of equal plans, with those
 -- that are for every plan, tells how many are for a plan (`rowMore`).
 -- Assumes nothing.
-use Prim.Native.Nat.{ℕ, zero, suc, _+_, _-_, _*_, _≤_, _<_, max}
+use Prim.Native.Nat.{ℕ, zero, suc, _+_, _-_, _≤_, _<_}
 use mathlib.Core.Path.{_≡_, refl, sym, _∙_, ap, subst₂}
 use mathlib.Core.Bool.{Bool, true, false, cond}
-use mathlib.Core.Logic.{_≢_}
 use mathlib.Core.List.{List}
 use mathlib.Core.Option.{none, some}
 use native.Mathlib.Omega.{arith}
-use native.Mathlib.Decide.{ℕ-discrete, decLt}
-use lib.Dec.{leb, ltb, eqb}
+use native.Mathlib.Decide.{ℕ-discrete}
+use lib.Dec.{eqb}
 use lib.ListN.{length, length-set, getD, set}
 use lib.Seq.{getD-set-same, getD-set-other}
-use borrow.Author.Tests.{leb-true, leb-false, le-leb, lt-leb, lt-ltb, le-ltb, eq-eqb, ne-eqb}
+use borrow.Author.Tests.{eq-eqb, ne-eqb}
 use Rattle.rules.specs.Sets.{weigh}
 use Rattle.rules.proofs.Quorums.{weighNone, weighMore, weighSame}
-use Rattle.rules.specs.Rules.{Report, Reports, viewOf, viewFor, reach, claims, reporting}
-use Rattle.claims.specs.declared.Search.{Search}
+use Rattle.rules.specs.Rules.{Report, Reports, viewOf, viewFor, reporting}
 use Rattle.claims.specs.declared.Tally.{Tally}
-use Rattle.claims.specs.inside.Rows.{rowsSize, countOf, FitsRow, Stance, forAll, forOne, forNone, added, RowTells, SameBelow}
-use Rattle.claims.specs.inside.Rows.{tallyAt, placeAt, claimedIn, endOf, servingView}
+use Rattle.claims.specs.inside.Rows.{rowsSize, countOf, Stance, forAll, forOne, forNone, added, RowTells, SameBelow}
 use Rattle.claims.specs.Table.{column, voteAbove, reporter, reportsInTable}
 
 -- ---- votes of the table
@@ -35,7 +31,7 @@ viewIn above plan = go (ℕ-discrete above 0)
     go (no there) = rw (ne-eqb above 0 there)
 
 -- The same of a vote that is for plan p.
-viewForIn : (p above plan : ℕ) → viewFor p (voteAbove above plan) ≡ cond (eqb plan p) (above - 1) 0
+pub viewForIn : (p above plan : ℕ) → viewFor p (voteAbove above plan) ≡ cond (eqb plan p) (above - 1) 0
 unfolding voteAbove
 viewForIn p above plan = go (ℕ-discrete above 0)
   where
@@ -46,55 +42,6 @@ viewForIn p above plan = go (ℕ-discrete above 0)
     go : Dec (above ≡ 0) → viewFor p (cond (eqb above 0) none (some (record { view = above - 1; plan = plan }))) ≡ cond (eqb plan p) (above - 1) 0
     go (yes absent) = let e : above - 1 ≡ 0 = omega arith in rw (eq-eqb above 0 absent) (nothing (eqb plan p) e)
     go (no there) = rw (ne-eqb above 0 there)
-
--- Above view 0 a vote is at a view or later exactly if its view + 1 is above it.
-pub atAbove : (above w : ℕ) → w ≢ 0 → ltb w above ≡ leb w (above - 1)
-atAbove above w there = go (decLt w above)
-  where
-    go : Dec (w < above) → ltb w above ≡ leb w (above - 1)
-    go (yes less) = lt-ltb w above less ∙ sym (le-leb w (above - 1) (omega arith))
-    go (no more) = le-ltb w above (omega arith) ∙ sym (lt-leb w (above - 1) (omega arith))
-
--- ---- what one report claims
-
-module _ (t : List ℕ) (r w : ℕ) where
-  -- The view + 1 of vault r's highest vote, 0 where it has none.
-  abbrev high : ℕ
-  high = getD t (column * 1 + r) 0
-
-  -- The plan of its highest vote.
-  abbrev plan : ℕ
-  plan = getD t (column * 2 + r) 0
-
-  -- The view + 1 of its previous vote, 0 where it has none.
-  abbrev previous : ℕ
-  previous = getD t (column * 3 + r) 0
-
-  -- Where the vault has reported, its claims go by the two views.
-  claimsIn : (p : ℕ) → reporter t r ≡ true → reporting (reportsInTable t) (claims p w) r ≡ leb w (max (cond (eqb plan p) (high - 1) 0) (previous - 1))
-  unfolding reportsInTable claims reach
-  claimsIn p h = rw (h, viewForIn p high plan, viewIn previous (getD t (column * 4 + r) 0))
-
-  -- A previous vote at w or later claims every plan; at view 0 none is needed.
-  pub claimsEvery : reporter t r ≡ true → leb w (previous - 1) ≡ true → (p : ℕ) → reporting (reportsInTable t) (claims p w) r ≡ true
-  claimsEvery h low p = claimsIn p h ∙ le-leb w _ (omega (arith, leb-true w (previous - 1) low))
-
-  -- Without one, a highest vote at w or later claims its own plan and no other.
-  pub claimsOne : reporter t r ≡ true → leb w (previous - 1) ≡ false → leb w (high - 1) ≡ true → (p : ℕ)
-      → reporting (reportsInTable t) (claims p w) r ≡ eqb plan p
-  claimsOne h few low p = claimsIn p h ∙ go (eqb plan p)
-    where
-      go : (b : Bool) → leb w (max (cond b (high - 1) 0) (previous - 1)) ≡ b
-      go true = le-leb w _ (omega (arith, leb-true w (high - 1) low))
-      go false = lt-leb w _ (omega (arith, leb-false w (previous - 1) few))
-
-  -- Without either, nothing is claimed.
-  pub claimsNone : reporter t r ≡ true → leb w (previous - 1) ≡ false → leb w (high - 1) ≡ false → (p : ℕ) → reporting (reportsInTable t) (claims p w) r ≡ false
-  claimsNone h few less p = claimsIn p h ∙ go (eqb plan p)
-    where
-      go : (b : Bool) → leb w (max (cond b (high - 1) 0) (previous - 1)) ≡ false
-      go true = lt-leb w _ (omega (arith, leb-false w (previous - 1) few, leb-false w (high - 1) less))
-      go false = lt-leb w _ (omega (arith, leb-false w (previous - 1) few))
 
 -- A vault that has not reported passes no test.
 pub silent : (t : List ℕ) (r : ℕ) (test : Report → Bool) → reporter t r ≡ false → reporting (reportsInTable t) test r ≡ false
@@ -146,12 +93,12 @@ module _ (plans : List ℕ) (at k x : ℕ) (low : at + k < length plans) where
   after = set plans (at + k) x
 
   -- The k plans before it are counted as they were.
-  kept : (p : ℕ) → countOf after at k p ≡ countOf plans at k p
-  kept p = countSame plans after at k p (λ r less. getD-set-other plans (at + k) (at + r) x 0 (λ (e : at + r ≡ at + k). omega arith))
+  pub putKeeps : (p : ℕ) → countOf after at k p ≡ countOf plans at k p
+  putKeeps p = countSame plans after at k p (λ r less. getD-set-other plans (at + k) (at + r) x 0 (λ (e : at + r ≡ at + k). omega arith))
 
   -- With it, plan x is counted once more.
-  more : (p : ℕ) → countOf after at (k + 1) p ≡ countOf plans at k p + cond (eqb x p) 1 0
-  more p = countMore after at k p ∙ ap (λ (c : ℕ). c + cond (eqb (getD after (at + k) 0) p) 1 0) (kept p)
+  pub putCounts : (p : ℕ) → countOf after at (k + 1) p ≡ countOf plans at k p + cond (eqb x p) 1 0
+  putCounts p = countMore after at k p ∙ ap (λ (c : ℕ). c + cond (eqb (getD after (at + k) 0) p) 1 0) (putKeeps p)
       ∙ ap (λ (y : ℕ). countOf plans at k p + cond (eqb y p) 1 0) (getD-set-same plans (at + k) x 0 low)
 
   module _ (rs : Reports) (test : ℕ → Report → Bool) (i all every some : ℕ) where
@@ -171,21 +118,21 @@ module _ (plans : List ℕ) (at k x : ℕ) (low : at + k < length plans) where
         tell p =
             let grown : weighed p (i + 1) ≡ weighed p i + cond (reporting rs (test p) i) 1 0 = weighMore _ _ i in
             let same : k + some ≡ k = omega arith in
-            rw (same, kept p, grown, pass p) (omega (arith, row .tells p))
+            rw (same, putKeeps p, grown, pass p) (omega (arith, row .tells p))
     rowMore (forOne e s pass) row = record { most = omega (arith, row .most); tells = λ p. tell p }
       where
         tell : (p : ℕ) → all + every + countOf after at (k + some) p ≡ weighed p (i + 1)
         tell p =
             let grown : weighed p (i + 1) ≡ weighed p i + cond (reporting rs (test p) i) 1 0 = weighMore _ _ i in
             let same : k + some ≡ k + 1 = omega arith in
-            rw (same, more p, grown, pass p) (omega (arith, row .tells p))
+            rw (same, putCounts p, grown, pass p) (omega (arith, row .tells p))
     rowMore (forNone e s pass) row = record { most = omega (arith, row .most); tells = λ p. tell p }
       where
         tell : (p : ℕ) → all + every + countOf after at (k + some) p ≡ weighed p (i + 1)
         tell p =
             let grown : weighed p (i + 1) ≡ weighed p i + cond (reporting rs (test p) i) 1 0 = weighMore _ _ i in
             let same : k + some ≡ k = omega arith in
-            rw (same, kept p, grown, pass p) (omega (arith, row .tells p))
+            rw (same, putKeeps p, grown, pass p) (omega (arith, row .tells p))
 
 -- ---- a row, written report by report
 
@@ -249,54 +196,3 @@ rowKept rs n test before after at end t same low row = record {
   most = row .most;
   tells = λ p. ap (λ (c : ℕ). t .every + c) (countSame before after at (t .some) p (λ r (less : r < t .some). same (at + r) (omega arith))) ∙ row .tells p;
 }
-
--- ---- the search over candidate views
-
--- A row and its tally lie within the rows.
-pub rowFits : (c : Search) (w row : ℕ) (t : Tally) → row ≡ placeAt c w → t ≡ tallyAt c w → FitsRow (c .here) → FitsRow (c .next) → (row ≤ column) × FitsRow t
-rowFits c w row t at is here next = rw (at, is) (go (eqb w (c .u)))
-  where
-    go : (b : Bool) → (cond b 0 column ≤ column) × FitsRow (cond b (c .here) (c .next))
-    go true = (omega arith, here)
-    go false = (omega arith, next)
-
-module _ (test : ℕ → Bool) (low v : ℕ) where
-  -- Views below low are not tried.
-  pub servingNone : (end : ℕ) → end ≤ low → servingView test low v end ≡ v
-  unfolding servingView
-  servingNone zero over = refl
-  servingNone (suc w) over = rw (lt-ltb w low (omega arith))
-
-  -- The next view serves, or the search goes on below it.
-  pub servingNext : (end w : ℕ) → end ≡ suc w → low ≤ w → servingView test low v end ≡ cond (test w) w (servingView test low v w)
-  unfolding servingView
-  servingNext end w is high = rw (is, le-ltb w low high)
-
-module _ (plans : List ℕ) (c : Search) (low p : ℕ) where
-  -- The view that the search for p finds below `end`.
-  abbrev serves : ℕ → ℕ
-  serves end = servingView (claimedIn plans c p) low (c .v) end
-
-  -- No view from `end` on serves: what the search finds, it finds below.
-  abbrev pub Below : ℕ → Type 0
-  Below end = serves (endOf c) ≡ serves end
-
-  -- Views below low are not tried.
-  pub walkOver : (end : ℕ) → Below end → end ≤ low → c .v ≡ serves (endOf c)
-  walkOver end was over = sym (was ∙ servingNone (claimedIn plans c p) low (c .v) end over)
-
-  -- All claimers of p at the next view w are counted.
-  module _ (end w row k claimers : ℕ) (t : Tally) (was : Below end) (above : low < end) (is : w ≡ end - 1)
-      (at : row ≡ placeAt c w) (tally : t ≡ tallyAt c w) (all : k ≡ t .some) (count : claimers ≡ t .every + countOf plans row k p) where
-    -- A blocking set of those counted is the test that the search makes at w.
-    claimersTell : leb (c .f + 1) claimers ≡ claimedIn plans c p w
-    unfolding claimedIn
-    claimersTell = rw (← tally, ← at, ← all) (ap (leb (c .f + 1)) count)
-
-    -- What the search finds below `end`: w where that serves, else what it finds below w.
-    step : serves end ≡ cond (claimedIn plans c p w) w (serves w)
-    step = servingNext (claimedIn plans c p) low (c .v) end w (omega arith) (omega arith)
-
-    -- Whether they are enough tells where the search goes: it ends at w, or goes on below.
-    pub walked : (b : Bool) → leb (c .f + 1) claimers ≡ b → serves (endOf c) ≡ cond b w (serves w)
-    walked b enough = was ∙ step ∙ ap (λ (b : Bool). cond b w (serves w)) (sym claimersTell ∙ enough)

@@ -1,6 +1,7 @@
 -- Candidate views of the lock search are exact. Between a view that too few spans cover and the highest span not above it the same spans
 -- cover, so no view there is covered by enough; so the last view of that span is the next candidate, and the first candidate with enough
--- is the highest view with enough.
+-- is the highest view with enough. For the same reason the count goes down with the search: between two candidates nobody comes in, and at
+-- a candidate those whose span ends there.
 -- Assumes nothing.
 use Prim.Native.Nat.{ℕ, zero, suc, _+_, _-_, _≤_, _<_, max}
 use mathlib.Core.Path.{_≡_, refl, sym, _∙_, ap}
@@ -17,10 +18,23 @@ use borrow.Author.Tests.{leb-true, leb-false, le-leb, lt-leb, ltb-true, lt-ltb}
 use Rattle.rules.specs.Sets.{equals, weigh}
 use Rattle.rules.specs.Quorums.{isBlocking}
 use Rattle.rules.proofs.Bools.{notTrue}
-use Rattle.rules.proofs.Quorums.{weighMono, weighSame, blockingWeighs}
+use Rattle.rules.proofs.Quorums.{weighMore, weighMono, weighSame, blockingWeighs}
 use Rattle.rules.specs.inside.Views.{views}
 use Rattle.rules.proofs.Views.{Falls, viewsAre}
-use Rattle.claims.specs.inside.Spans.{covering, covered, coveredViews, highestTo, Within, AreSpans}
+use Rattle.claims.specs.Carried.{Grows}
+use Rattle.claims.specs.inside.Spans.{
+  covering,
+  ending,
+  covered,
+  coveredViews,
+  highestTo,
+  Within,
+  AreSpans,
+  LocksCarried,
+  LockCarried,
+  LockOnce,
+}
+use Rattle.claims.proofs.Carried.{carriedMembers, onceMember, endsJoin}
 
 -- One span more.
 pub highestMore : (spans : List ℕ) (w k : ℕ) → highestTo spans w (k + 1) ≡ max (highestTo spans w k) (cond (leb (getD spans k 0) w) (getD spans k 0) 0)
@@ -75,16 +89,20 @@ module _ (spans : List ℕ) (n f : ℕ) where
       share x (yes le) = rw (le-leb x w le) le
       share x (no above) = rw (lt-leb x w (omega arith)) (omega arith)
 
-  -- The view at the highest span not above w is covered by no more than w: view by view in between, the same spans cover.
-  pub candidatesExact : (w : ℕ) → covers (highestTo spans w n) ≤ covers w
-  candidatesExact w = coverMono (highestTo spans w n) w (λ i low above. go i low above (decLe (getD spans i 0) w))
+  -- The view at the highest span not above w is covered by as many as w: no span ends in between, so the same spans cover view by view.
+  pub candidatesExact : (w : ℕ) → covers (highestTo spans w n) ≡ covers w
+  candidatesExact w =
+      omega (arith, coverMono (highestTo spans w n) w (λ i low above. up i low above (decLe (getD spans i 0) w)), coverMono w (highestTo spans w n) down)
     where
-      go : (i : ℕ) → i < n → highestTo spans w n < getD spans i 0 → Dec (getD spans i 0 ≤ w) → w < getD spans i 0
-      go i low above (yes le) = absurd (omega (arith, highestAt w n i low le))
-      go i low above (no high) = omega arith
+      up : (i : ℕ) → i < n → highestTo spans w n < getD spans i 0 → Dec (getD spans i 0 ≤ w) → w < getD spans i 0
+      up i low above (yes le) = absurd (omega (arith, highestAt w n i low le))
+      up i low above (no high) = omega arith
+
+      down : (i : ℕ) → i < n → w < getD spans i 0 → highestTo spans w n < getD spans i 0
+      down i low above = omega (arith, highestLow w n)
 
   -- All spans are at most v: none covers v.
-  pub nobodyAt : (v : ℕ) → Within spans n v → covers v ≤ f
+  pub nobodyAt : (v : ℕ) → Within spans n v → covers v ≡ 0
   unfolding weigh
   nobodyAt v within =
       omega (arith, weighMono (λ i. 1) (covering spans v) (λ i. false) n (λ i low h. absurd (above i low h)), nothing n)
@@ -96,53 +114,67 @@ module _ (spans : List ℕ) (n f : ℕ) where
       nothing zero = refl
       nothing (suc k) = omega (arith, nothing k)
 
-  -- The candidate after view last, which too few cover: t views, the span that ends highest below last.
-  pub record Candidate (v t : ℕ) : Type 0 where
-    pub last : ℕ
-    pub low : last ≤ v
-    pub few : covers last ≤ f
-    pub is : t ≡ highestTo spans last n
+  -- The first candidate is sought from v. No lock is above it, so the count starts at 0.
+  pub locksFirst : (v t : ℕ) → Within spans n v → t ≡ highestTo spans v n → LocksCarried spans n f v t 0
+  locksFirst v t within is = record {
+    are = sym (ap covers is ∙ candidatesExact v ∙ nobodyAt v within);
+    few = omega arith;
+    low = omega (arith, is, highestLow v n);
+  }
 
-  -- The first one is sought from v, which no span covers.
-  pub candidateFirst : (v t : ℕ) → Within spans n v → t ≡ highestTo spans v n → Candidate v t
-  candidateFirst v t within is = record { last = v; low = omega arith; few = nobodyAt v within; is = is }
+  -- One vault more of those that come in at a candidate: what the loop adds to the count that is carried down to it.
+  pub locksMore : (t k locks count share : ℕ) → count ≡ locks + weigh (λ i. 1) (ending spans t) k → share ≡ cond (ending spans t k) 1 0
+      → count + share ≡ locks + weigh (λ i. 1) (ending spans t) (k + 1)
+  locksMore t k locks count share is adds = omega (arith, weighMore (λ i. 1) (ending spans t) k)
 
-  module _ (v t : ℕ) (c : Candidate v t) where
-    -- Too few cover view t too: by `candidatesExact` no more than cover view last.
-    fewAfter : covers t ≤ f
-    fewAfter = rw (c .is) (omega (arith, candidatesExact (c .last), c .few))
-
-    -- Enough cover its last view: that is the highest view with enough.
-    pub candidateFound : 0 < t → leb (f + 1) (covers (t - 1)) ≡ true → t ≡ coveredViews spans n f v
+  module _ (v t locks : ℕ) (c : LocksCarried spans n f v t locks) where
+    -- There is no candidate left: too few have a lock above view 0.
+    pub locksNone : t ≡ 0 → 0 ≡ coveredViews spans n f v
     unfolding coveredViews
-    candidateFound there enough =
-        sym (viewsAre (covered spans n f) coveredFalls v t (omega (arith, highestLow (c .last) n, c .is, c .low))
-        (λ u (same : u + 1 ≡ t). at u (omega arith)) (λ below. notTrue (covered spans n f t) (λ h. omega (arith, coveredIff t .0 h, fewAfter))))
-      where
-        at : (u : ℕ) → u ≡ t - 1 → covered spans n f u ≡ true
-        at u same = rw same (coveredIff (t - 1) .1 (omega (arith, leb-true (f + 1) (covers (t - 1)) enough)))
-
-    -- Too few do: the search goes on from there.
-    pub candidateNext : leb (f + 1) (covers (t - 1)) ≡ false → (next : ℕ) → next ≡ highestTo spans (t - 1) n → Candidate v next
-    candidateNext few next is = record {
-      last = t - 1;
-      low = omega (arith, highestLow (c .last) n, c .is, c .low);
-      few = omega (arith, leb-false (f + 1) (covers (t - 1)) few);
-      is = is;
-    }
-
-    -- There is no candidate left: too few cover view 0.
-    pub candidateNone : t ≤ 0 → 0 ≡ coveredViews spans n f v
-    unfolding coveredViews
-    candidateNone absent =
+    locksNone none =
         sym (viewsAre (covered spans n f) coveredFalls v 0 (omega arith) (λ u (same : u + 1 ≡ 0). absurd (omega arith))
         (λ below. notTrue (covered spans n f 0) (λ h. over (coveredIff 0 .0 h))))
       where
         over : f < covers 0 → ⊥
-        over more =
-            let none : t ≡ 0 = omega arith in
-            let h : covers 0 ≤ f = rw none at fewAfter in
-            omega arith
+        over more = let at : locks ≡ covers 0 = c .are ∙ ap covers none in omega (arith, c .few)
+
+    module _ (there : 0 < t) (all : ℕ) (count : all ≡ locks + weigh (λ i. 1) (ending spans t) n) where
+      -- Those whose span ends at t have come in: the count is that of all whose lock is above view t - 1.
+      pub locksCounted : all ≡ covers (t - 1)
+      locksCounted =
+          count ∙ ap (λ (x : ℕ). x + weigh (λ i. 1) (ending spans t) n) (c .are) ∙ sym (endsJoin (λ i. 1) (λ i. getD spans i 0) n t there)
+
+      -- They are enough: view t - 1 is the highest with enough, as too few have a lock above view t.
+      pub locksFound : leb (f + 1) all ≡ true → t ≡ coveredViews spans n f v
+      unfolding coveredViews
+      locksFound enough =
+          sym (viewsAre (covered spans n f) coveredFalls v t (c .low) (λ u (same : u + 1 ≡ t). at u (omega arith))
+          (λ below. notTrue (covered spans n f t) (λ h. omega (arith, coveredIff t .0 h, c .are, c .few))))
+        where
+          at : (u : ℕ) → u ≡ t - 1 → covered spans n f u ≡ true
+          at u same = rw same (coveredIff (t - 1) .1 (omega (arith, leb-true (f + 1) all enough, locksCounted)))
+
+      -- They are too few: the count goes down with the search to the next candidate, where the same locks are above the view.
+      pub locksNext : leb (f + 1) all ≡ false → (next : ℕ) → next ≡ highestTo spans (t - 1) n → LocksCarried spans n f v next all
+      locksNext few next is = record {
+        are = locksCounted ∙ sym (ap covers is ∙ candidatesExact (t - 1));
+        few = omega (arith, leb-false (f + 1) all few);
+        low = omega (arith, is, highestLow (t - 1) n, c .low);
+      }
+
+-- ---- the theorem on carried counts, of locks
+
+-- A lock above a view is above every lower view.
+locksGrow : (spans : List ℕ) → Grows (covering spans)
+locksGrow spans u w i le h = lt-ltb w (getD spans i 0) (omega (arith, ltb-true u (getD spans i 0) h))
+
+-- The count at each candidate view is that of the vaults whose lock is above it.
+pub lockCarried : LockCarried
+lockCarried weight spans n x down k = carriedMembers (covering spans) (locksGrow spans) x down weight n k
+
+-- A vault's lock is counted once.
+pub lockOnce : LockOnce
+lockOnce spans i x down j k = onceMember (covering spans) (locksGrow spans) x down i j k
 
 -- ---- the spans of the vaults
 

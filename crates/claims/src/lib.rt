@@ -1,14 +1,14 @@
-// Claims: who claims which plan at a view (document 01, 'When a plan is safe'), from a lent table of reports, prepared in rows of plans.
-// A plan's search goes down the candidate views and ends at the first one that serves the plan. The lock search goes by spans.
+// Claims: who claims which plan at a view (document 01, 'When a plan is safe'), from a lent table of reports, prepared in a row of plans.
+// A plan's walk goes down the candidate views with one count and ends at the first one that serves the plan. So does the lock search, by spans.
 ghost use Prim.Native.Nat.{_+_, _-_, _*_, _≤_, _<_, max};
 ghost use mathlib.Core.Path.{_≡_};
-ghost use mathlib.Core.Bool.{cond};
-ghost use lib.Dec.{leb, ltb, eqb};
-ghost use lib.ListN.{length, getD, set};
+ghost use mathlib.Core.Bool.{cond, not};
+ghost use lib.Dec.{leb, eqb};
+ghost use lib.ListN.{length, set};
 ghost use Rattle.rules.specs.Sets.{weigh};
-ghost use Rattle.rules.specs.Rules.{claims, reporting};
-ghost use Rattle.claims.specs.inside.Rows.{rowsSize, forPlan, FitsRow, Stance, added, RowTells, SameBelow, tallyAt, placeAt, claimedIn, endOf, servingView};
-ghost use Rattle.claims.specs.inside.Spans.{covering, coveredViews, highestTo, Within};
+ghost use Rattle.claims.specs.inside.Rows.{rowsSize, forPlan, FitsRow, added, SameBelow};
+ghost use Rattle.claims.specs.inside.Spans.{coveredViews, highestTo, Within, AreSpans};
+ghost use Rattle.claims.specs.inside.Walk.{reachIn, claimEnd, otherPlan, standing, standsAt, Listed, InOrder, othersOf, FitsComing, endAt, endOf, comingAt, claimedIn, servingView, Told};
 ghost use Rattle.claims.specs.Table.{column, tableSize, reporter, reportsInTable};
 
 // The places of a column, one for each vault, and of the table.
@@ -33,15 +33,30 @@ pub struct Tally {
     pub some: usize,
 }
 
-// What a search goes by: n and f, the view v, the lowest view u that can serve a plan; who claims at view u and at the next view, and
+// Who comes in at a candidate view: how many for every plan; how many for one plan only, which stands in the row, from a place on; and
+// how many for every plan but one: those plans are the row's first.
+pub struct Coming {
+    pub every: usize,
+    pub from: usize,
+    pub some: usize,
+    pub others: usize,
+}
+
+// Who comes in at the view after u, and at u.
+pub struct Claims {
+    pub next: Coming,
+    pub here: Coming,
+}
+
+// What a search goes by: n and f, the view v, the lowest view u that can serve a plan; who comes in at the next view and at view u, and
 // whom the locks let be at view u.
 pub struct Search {
     pub n: usize,
     pub f: usize,
     pub u: u32,
     pub v: u32,
-    pub here: Tally,
-    pub next: Tally,
+    pub next: Coming,
+    pub here: Coming,
     pub locks: Tally,
 }
 
@@ -74,33 +89,192 @@ pub fn reported<'a>(table: &'a [u64], r: usize) -> bool
     table[r] != 0
 }
 
-// ---- rows of claims
+// ---- how far claims reach
 
-// Whether a vote is at view w or later, given its view + 1. At view 0 none is needed.
-fn is_at(above: u64, w: u64) -> bool
-    ensures { λ b. ⌜ b ≡ leb w (above - 1) ⌝ }
+// A vote's view, given its view + 1. It is 0 where there is none.
+fn view_of(above: u64) -> u64
+    ensures { λ x. ⌜ x ≡ above - 1 ⌝ }
 {
-    if w == 0 {
-        return true;
-    }
-    w < above
+    if above == 0 { 0 } else { above - 1 }
 }
 
-// Rules 2 and 4: which plans vault r claims at view w. Its previous vote claims every plan, its highest vote its own.
-fn claim_share<'a>(table: &'a [u64], r: usize, w: u64) -> Tally
+// The later of two views.
+fn higher(a: u64, b: u64) -> u64
+    ensures { λ r. ⌜ r ≡ max a b ⌝ }
+{
+    if a < b { b } else { a }
+}
+
+// Rules 2 and 4: the highest view at which the report of vault r claims plan p, that of its highest vote, if that is for p, or of its
+// previous vote. Every claim asks this.
+fn reach_of<'a>(table: &'a [u64], r: usize, p: u64) -> u64
     requires { ⌜ (length (now table) ≡ tableSize) × (r < column) ⌝ }
-    ensures { λ t. ⌜ Stance (λ p. reporting (reportsInTable (now (table .entry))) (claims p w) r) (getD (now (table .entry)) (column * 2 + r) 0) (t .every) (t .some) ⌝ }
+    ensures { λ x. ⌜ x ≡ reachIn (now (table .entry)) r p ⌝ }
+{
+    let previous = view_of(table[PREVIOUS + r]);
+    if table[VOTED + r] == p {
+        return higher(view_of(table[HIGHEST + r]), previous);
+    }
+    previous
+}
+
+// In how many views below end, from 0 on, vault r claims plan p: in none where it has not reported.
+fn claim_end<'a>(table: &'a [u64], r: usize, p: u64, end: u32) -> u32
+    requires { ⌜ (length (now table) ≡ tableSize) × (r < column) ⌝ }
+    ensures { λ t. ⌜ t ≡ claimEnd end p (reportsInTable (now (table .entry)) r) ⌝ }
 {
     if reported(table, r) {
-        if is_at(table[PREVIOUS + r], w) {
-            return Tally { every: 1, some: 0 };
+        let reach = reach_of(table, r, p);
+        if reach < end as u64 {
+            return (reach + 1) as u32;
         }
-        if is_at(table[HIGHEST + r], w) {
-            return Tally { every: 0, some: 1 };
-        }
-        return Tally { every: 0, some: 0 };
+        return end;
     }
-    Tally { every: 0, some: 0 }
+    0u32
+}
+
+// How many of the views below end are u or above.
+fn views_from(end: u32, u: u32) -> u32
+    ensures { λ t. ⌜ t ≡ end - u ⌝ }
+{
+    if u < end { end - u } else { 0 }
+}
+
+// A plan that is not x: a report claims all of these alike, where x is the plan of its highest vote.
+fn other_plan(x: u64) -> u64
+    ensures { λ y. ⌜ y ≡ otherPlan x ⌝ }
+{
+    if x == 0 { 1 } else { 0 }
+}
+
+// Where a vault stands that claims every plan in both candidate views; the plan of its highest vote in both, and the others at u; that plan
+// in both; every plan at u; that plan at u.
+const EVERY_NEXT: u32 = 6;
+
+const OWN_NEXT_OTHERS_HERE: u32 = 5;
+
+const OWN_NEXT: u32 = 4;
+
+const EVERY_HERE: u32 = 3;
+
+const OWN_HERE: u32 = 2;
+
+// Where vault r stands: twice the candidate views in which it claims the plan of its highest vote, and those in which it claims the others.
+fn standing_of<'a>(table: &'a [u64], r: usize, u: u32, end: u32) -> u32
+    requires { ⌜ (length (now table) ≡ tableSize) × (r < column) × (end ≤ u + 2) ⌝ }
+    ensures { λ k. ⌜ k ≡ standing (now (table .entry)) u end r ⌝ }
+{
+    let x = table[VOTED + r];
+    let own = views_from(claim_end(table, r, x, end), u);
+    let others = views_from(claim_end(table, r, other_plan(x), end), u);
+    own + own + others
+}
+
+// Where the first n vaults stand.
+fn standings<'a>(table: &'a [u64], n: usize, u: u32, end: u32) -> [u32; COLUMN]
+    requires { ⌜ (length (now table) ≡ tableSize) × (n ≤ column) × (end ≤ u + 2) ⌝ }
+    ensures { λ s. ⌜ AreSpans s n (standing (now (table .entry)) u end) ⌝ }
+{
+    let mut found = [0u32; COLUMN];
+    let mut r: usize = 0;
+    while r < n {
+        found[r] = standing_of(table, r, u, end);
+        r += 1;
+    }
+    found
+}
+
+// ---- the row of claims
+
+// What a vault adds to those that stand at k.
+fn standing_share(s: u32, k: u32) -> u32
+    ensures { λ c. ⌜ c ≡ cond (eqb s k) 1 0 ⌝ }
+{
+    if s == k { 1 } else { 0 }
+}
+
+// How many stand at k.
+fn count_at<'a>(standings: &'a [u32], n: usize, k: u32) -> usize
+    requires { ⌜ (n ≤ column) × (length (now standings) ≡ column) ⌝ }
+    ensures { λ c. ⌜ c ≡ weigh (λ i. 1) (standsAt (now (standings .entry)) k) n ⌝ }
+{
+    let mut count: u32 = 0;
+    let mut r: usize = 0;
+    while r < n {
+        count += standing_share(standings[r], k);
+        r += 1;
+    }
+    count as usize
+}
+
+// The plans of those that stand at k are written, from a place on. A plan that is not one of these is written over. Often there are none.
+fn list_at<'a>(
+    table: &'a [u64],
+    standings: &'a [u32],
+    n: usize,
+    k: u32,
+    plans: &mut [u64],
+    from: usize,
+) -> usize
+    requires { ⌜ (length (now table) ≡ tableSize) × (length (now standings) ≡ column) × (n ≤ column) × (length (now plans) ≡ rowsSize) × (from ≤ column) ⌝ }
+    ensures { λ c. ⌜ (length (now (plans .exit)) ≡ rowsSize) × SameBelow (now (plans .entry)) (now (plans .exit)) from × Listed (now (table .entry)) (now (standings .entry)) n k (now (plans .exit)) from c ⌝ }
+{
+    let total = count_at(standings, n, k);
+    let mut count: usize = 0;
+    let mut r: usize = 0;
+    while count < total {
+        plans[from + count] = table[VOTED + r];
+        count += standing_share(standings[r], k) as usize;
+        r += 1;
+    }
+    count
+}
+
+// How many plans are listed: of those that claim their own in both candidate views, with the others at u or not, and of those that claim
+// their own at u.
+struct Row {
+    both: usize,
+    only: usize,
+    here: usize,
+}
+
+// The row of claims, in the order in which reporters come in.
+fn write_row<'a>(table: &'a [u64], standings: &'a [u32], n: usize, plans: &mut [u64]) -> Row
+    requires { ⌜ (length (now table) ≡ tableSize) × (length (now standings) ≡ column) × (n ≤ column) × (length (now plans) ≡ rowsSize) ⌝ }
+    ensures { λ l. ⌜ (length (now (plans .exit)) ≡ rowsSize) × InOrder (now (table .entry)) (now (standings .entry)) n (now (plans .exit)) (l .both) (l .only) (l .here) ⌝ }
+{
+    let both = list_at(table, standings, n, OWN_NEXT_OTHERS_HERE, plans, 0);
+    let only = list_at(table, standings, n, OWN_NEXT, plans, both);
+    let here = list_at(table, standings, n, OWN_HERE, plans, both + only);
+    Row {
+        both: both,
+        only: only,
+        here: here,
+    }
+}
+
+// Who claims which plan at the candidate views below end: who comes in at each, by the row that is written.
+pub fn claims_from<'a>(table: &'a [u64], n: usize, u: u32, end: u32, plans: &mut [u64]) -> Claims
+    requires { ⌜ (length (now table) ≡ tableSize) × (n ≤ column) × (length (now plans) ≡ rowsSize) × (end ≤ u + 2) ⌝ }
+    ensures { λ c. ⌜ (length (now (plans .exit)) ≡ rowsSize) × Told (reportsInTable (now (table .entry))) n u end (now (plans .exit)) (c .next) (c .here) ⌝ }
+{
+    let found = standings(table, n, u, end);
+    let row = write_row(table, &found, n, plans);
+    let next = row.both + row.only;
+    Claims {
+        next: Coming {
+            every: count_at(&found, n, EVERY_NEXT),
+            from: 0,
+            some: next,
+            others: 0,
+        },
+        here: Coming {
+            every: count_at(&found, n, EVERY_HERE),
+            from: next,
+            some: row.here,
+            others: row.both,
+        },
+    }
 }
 
 // One report more: its plan is written behind the row, and counts where the report is for that plan only. Else it is written over.
@@ -115,38 +289,22 @@ pub fn add_share(plans: &mut [u64], at: usize, tally: Tally, share: Tally, plan:
     }
 }
 
-// Who claims which plan at view w: the row of plans is written from place at on.
-pub fn claims_at<'a>(table: &'a [u64], n: usize, w: u32, plans: &mut [u64], at: usize) -> Tally
-    requires { ⌜ (length (now table) ≡ tableSize) × (n ≤ column) × (length (now plans) ≡ rowsSize) × (at + column ≤ rowsSize) ⌝ }
-    ensures { λ t. ⌜ (length (now (plans .exit)) ≡ rowsSize) × SameBelow (now (plans .entry)) (now (plans .exit)) at × RowTells (reportsInTable (now (table .entry))) n (λ p. claims p w) (now (plans .exit)) at t ⌝ }
-{
-    let view = w as u64;
-    let mut tally = Tally { every: 0, some: 0 };
-    let mut r: usize = 0;
-    while r < n {
-        let share = claim_share(table, r, view);
-        tally = add_share(plans, at, tally, share, table[VOTED + r]);
-        r += 1;
-    }
-    tally
-}
-
-// ---- the search over candidate views
+// ---- the walk down the candidate views
 
 // The candidate views are u, and the next view where that is below v.
-fn end_of(c: Search) -> u32
-    requires { ⌜ c .u < c .v ⌝ }
-    ensures { λ r. ⌜ r ≡ endOf c ⌝ }
+pub fn end_of(u: u32, v: u32) -> u32
+    requires { ⌜ u < v ⌝ }
+    ensures { λ r. ⌜ r ≡ endAt u v ⌝ }
 {
-    if c.u + 1 < c.v {
-        return c.u + 2;
+    if u + 1 < v {
+        return u + 2;
     }
-    c.v
+    v
 }
 
-// The tally of a candidate view, and where its row begins.
-pub fn tally_at(c: Search, w: u32) -> Tally
-    ensures { λ t. ⌜ t ≡ tallyAt c w ⌝ }
+// Who comes in at a candidate view.
+pub fn coming_at(c: Search, w: u32) -> Coming
+    ensures { λ t. ⌜ t ≡ comingAt c w ⌝ }
 {
     if w == c.u {
         return c.here;
@@ -154,20 +312,32 @@ pub fn tally_at(c: Search, w: u32) -> Tally
     c.next
 }
 
-pub fn place_at(c: Search, w: u32) -> usize
-    ensures { λ r. ⌜ r ≡ placeAt c w ⌝ }
-{
-    if w == c.u {
-        return 0;
-    }
-    COLUMN
-}
-
-// What a plan of a row adds to those that are for p.
+// What a plan of the row adds to those that are for p.
 fn plan_share(x: u64, p: u64) -> usize
     ensures { λ c. ⌜ c ≡ cond (eqb x p) 1 0 ⌝ }
 {
     if x == p { 1 } else { 0 }
+}
+
+// What it adds to those that are for every plan but it.
+fn other_share(x: u64, p: u64) -> usize
+    ensures { λ c. ⌜ c ≡ cond (not (eqb x p)) 1 0 ⌝ }
+{
+    if x == p { 0 } else { 1 }
+}
+
+// How many of the first k plans are not p.
+fn others_for<'a>(plans: &'a [u64], k: usize, p: u64) -> usize
+    requires { ⌜ (length (now plans) ≡ rowsSize) × (k ≤ column) ⌝ }
+    ensures { λ c. ⌜ c ≡ othersOf (now (plans .entry)) k p ⌝ }
+{
+    let mut count: usize = 0;
+    let mut r: usize = 0;
+    while r < k {
+        count += other_share(plans[r], p);
+        r += 1;
+    }
+    count
 }
 
 // How many are for plan p, by the row that begins at a place.
@@ -185,22 +355,23 @@ pub fn count_for<'a>(plans: &'a [u64], at: usize, tally: Tally, p: u64) -> usize
     count
 }
 
-// The search over candidate views, downwards and not below low: the first view at which a blocking set of reporters claims plan p,
-// v where there is none. The count is new for every plan and view. The nested loops with labels are a form that document 01 names.
+// The walk down the candidate views, not below low: the first view at which a blocking set of reporters claims plan p, v where there is
+// none. The count is new for every plan, and carried from view to view. The nested loops with labels are a form that document 01 names.
 pub fn serving_view<'a>(plans: &'a [u64], c: Search, low: u32, p: u64) -> u32
-    requires { ⌜ (length (now plans) ≡ rowsSize) × (c .u < c .v) × FitsRow (c .here) × FitsRow (c .next) ⌝ }
+    requires { ⌜ (length (now plans) ≡ rowsSize) × (c .u < c .v) × FitsComing (c .next) × FitsComing (c .here) ⌝ }
     ensures { λ w. ⌜ w ≡ servingView (claimedIn (now (plans .entry)) c p) low (c .v) (endOf c) ⌝ }
 {
-    let mut end = end_of(c);
+    let mut end = end_of(c.u, c.v);
+    let mut claimers: usize = 0;
     let serving: u32 = 'views: loop {
         if end <= low {
             break 'views c.v;
         }
         let w = end - 1;
-        let row = place_at(c, w);
-        let tally = tally_at(c, w);
-        let some = tally.some;
-        let mut claimers = tally.every;
+        let coming = coming_at(c, w);
+        let from = coming.from;
+        let some = coming.some;
+        claimers = claimers + (coming.every + others_for(plans, coming.others, p));
         let mut r: usize = 0;
         'reporters: loop {
             if r == some {
@@ -209,7 +380,7 @@ pub fn serving_view<'a>(plans: &'a [u64], c: Search, low: u32, p: u64) -> u32
                 }
                 break 'reporters;
             }
-            claimers += plan_share(plans[row + r], p);
+            claimers += plan_share(plans[from + r], p);
             r += 1;
         }
         end = w;
@@ -240,40 +411,38 @@ fn highest_to<'a>(spans: &'a [u32], n: usize, w: u32) -> u32
     best
 }
 
-// What a vault adds to those that have a lock above view w.
-fn lock_share(t: u32, w: u32) -> u32
-    ensures { λ c. ⌜ c ≡ cond (ltb w t) 1 0 ⌝ }
+// What a vault adds to those whose span ends at the candidate: they come in there, with a lock above its last view.
+fn end_share(t: u32, end: u32) -> u32
+    ensures { λ c. ⌜ c ≡ cond (eqb t end) 1 0 ⌝ }
 {
-    if w < t { 1 } else { 0 }
-}
-
-// How many vaults have a lock above view w.
-fn locks_above<'a>(spans: &'a [u32], n: usize, w: u32) -> usize
-    requires { ⌜ (n ≤ column) × (length (now spans) ≡ column) ⌝ }
-    ensures { λ c. ⌜ c ≡ weigh (λ i. 1) (covering (now (spans .entry)) w) n ⌝ }
-{
-    let mut locks: u32 = 0;
-    let mut r: usize = 0;
-    while r < n {
-        locks += lock_share(spans[r], w);
-        r += 1;
-    }
-    locks as usize
+    if t == end { 1 } else { 0 }
 }
 
 // The lowest view that fewer than f + 1 of the spans cover, downwards from v: some quorum has no lock above it.
-// Between two ends of spans the same spans cover a view, so the candidates are the ends.
+// Between two ends of spans the same spans cover a view, so the candidates are the ends. The count is carried down the candidates: a lock
+// above a view is above every lower view, so at each candidate only those come in whose span ends there, and each vault is counted once.
 pub fn lowest_cleared<'a>(spans: &'a [u32], n: usize, f: usize, v: u32) -> u32
     requires { ⌜ (n ≤ column) × (length (now spans) ≡ column) × Within (now spans) n v ⌝ }
     ensures { λ t. ⌜ t ≡ coveredViews (now (spans .entry)) n f v ⌝ }
 {
     let mut t = highest_to(spans, n, v);
-    while t > 0 {
-        let w = t - 1;
-        if is_blocking(locks_above(spans, n, w), f) {
-            return t;
+    let mut locks: u32 = 0;
+    let lowest: u32 = 'views: loop {
+        if t == 0 {
+            break 'views 0;
         }
-        t = highest_to(spans, n, w);
-    }
-    0
+        let mut r: usize = 0;
+        'reporters: loop {
+            if r == n {
+                if is_blocking(locks as usize, f) {
+                    break 'views t;
+                }
+                break 'reporters;
+            }
+            locks += end_share(spans[r], t);
+            r += 1;
+        }
+        t = highest_to(spans, n, t - 1);
+    };
+    lowest
 }

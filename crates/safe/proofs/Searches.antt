@@ -27,10 +27,11 @@ use Rattle.rules.specs.inside.Views.{lowestView, Lowest}
 use Rattle.rules.proofs.Laws.{claimedFalls, safeIff, choiceIs, chosenOne}
 use Rattle.rules.proofs.Views.{twoLate, twoNone, twoLone, twoBoth, firstServes, nextServes, neverSafe}
 use Rattle.claims.specs.declared.Search.{Search}
-use Rattle.claims.specs.declared.Tally.{Tally}
-use Rattle.claims.specs.inside.Rows.{rowsSize, forPlan, FitsRow, RowTells, SameBelow, tallyAt, placeAt, claimedIn, endOf, servingView}
+use Rattle.claims.specs.inside.Rows.{rowsSize, forPlan, RowTells, SameBelow}
+use Rattle.claims.specs.inside.Walk.{FitsComing, comingAt, counted, claimedIn, endOf, servingView, LaidOut, Told}
 use Rattle.claims.specs.Table.{column}
-use Rattle.claims.proofs.Rows.{countWhere, rowKept, servingNone, servingNext}
+use Rattle.claims.proofs.Rows.{countWhere}
+use Rattle.claims.proofs.Walk.{servingNone, servingNext, endBounds, countedClaimers, countedNext, rowHas, toldKept}
 use Rattle.safe.specs.Choices.{ruleOf}
 use Rattle.safe.specs.inside.Choices.{apart, Found, better}
 use Rattle.safe.specs.inside.Searches.{lockRow, allowedIn, servedFrom, safeIn, passesIn, triedAt, triedCount, smallestFrom, smallestOf, Pair}
@@ -84,7 +85,7 @@ module _ (plans : List ℕ) (c : Search) (p : ℕ) (below : c .u < c .v) where
           let next = servingNext test (c .u) (c .v) (suc (c .u + 1)) (c .u + 1) refl (omega arith) in
           let one : c .u + 1 ≡ suc (c .u) = omega arith in
           let here : serving (c .u) (c .u + 1) ≡ cond (test (c .u)) (c .u) (c .v) = ap (serving (c .u)) one ∙ last (c .u) in
-          rw (lt-ltb (c .u + 1) (c .v) low, e, next, here) (either′ low (test (c .u + 1)) (test (c .u)) (falls p))
+          rw (lt-ltb (c .u + 1) (c .v) low, e, next, here) (either′ low (test (c .u + 1)) (test (c .u)) (falls p low))
       go (no high) =
           let e : c .v ≡ suc (c .u) = omega arith in
           let here : serving (c .u) (c .v) ≡ cond (test (c .u)) (c .u) (c .v) = ap (serving (c .u)) e ∙ last (c .u) in
@@ -118,17 +119,17 @@ module _ (plans : List ℕ) (c : Search) (w : ℕ) (except : Option ℕ) where
 
   -- None of the first k plans of the row passes.
   abbrev pub NonePass : ℕ → Type 0
-  NonePass k = (j : ℕ) → j < k → tried (getD plans (placeAt c w + j) 0) ≡ false
+  NonePass k = (j : ℕ) → j < k → tried (getD plans j 0) ≡ false
 
   -- A first plan that is not served does not pass.
   pub untriedFirst : (first : ℕ) → servedFrom plans c w first ≡ false → tried first ≡ false
   untriedFirst first never = notTrue _ (λ h. clash (bothSplit (apart first except) _ h .1) never)
 
   -- One more plan of the row does not pass: the loop goes on.
-  pub nonePassMore : (k x : ℕ) → x ≡ getD plans (placeAt c w + k) 0 → tried x ≡ false → NonePass k → NonePass (k + 1)
+  pub nonePassMore : (k x : ℕ) → x ≡ getD plans k 0 → tried x ≡ false → NonePass k → NonePass (k + 1)
   nonePassMore k x is fails before j low = go (ℕ-discrete j k)
     where
-      go : Dec (j ≡ k) → tried (getD plans (placeAt c w + j) 0) ≡ false
+      go : Dec (j ≡ k) → tried (getD plans j 0) ≡ false
       go (yes same) = rw same (subst (λ (y : ℕ). tried y ≡ false) is fails)
       go (no differ) = before j (omega arith)
 
@@ -142,18 +143,22 @@ module _ (plans : List ℕ) (c : Search) (w : ℕ) (except : Option ℕ) where
     pub foundOther : (x : ℕ) → tried x ≡ true → (apart x except && claimedIn plans c x w) ≡ true
     foundOther x h = sym (ap (λ (b : Bool). apart x except && b) (served x)) ∙ h
 
-    -- Where all plans of the row were tried, no plan at all is claimed but the one left out.
-    pub noneFound : (k : ℕ) → tallyAt c w .some ≤ k → servedFrom plans c w first ≡ false → NonePass k
+    -- Where all plans were tried that come in at w or above, no plan at all is claimed but the one left out.
+    pub noneFound : (laid : LaidOut (c .n) (c .u) (endOf c) (c .next) (c .here)) → c .u < c .v → c .u ≤ w → w < endOf c → (k : ℕ)
+        → comingAt c w .from + comingAt c w .some ≤ k → servedFrom plans c w first ≡ false → NonePass k
         → (x : ℕ) → (apart x except && claimedIn plans c x w) ≡ false
     unfolding claimedIn
-    noneFound k all never before x = notTrue _ (λ h. over (bothSplit (apart x except) _ h .0) (bothSplit (apart x except) _ h .1))
+    noneFound laid below from to k all never before x = notTrue _ (λ h. over (bothSplit (apart x except) _ h .0) (bothSplit (apart x except) _ h .1))
       where
         over : apart x except ≡ true → claimedIn plans c x w ≡ true → ⊥
         over apt h =
-            let few = leb-false (c .f + 1) (forPlan plans (placeAt c w) (tallyAt c w) first) (sym (served first) ∙ never) in
-            let more = leb-true (c .f + 1) (forPlan plans (placeAt c w) (tallyAt c w) x) h in
-            let (j, low, is) = countWhere plans (placeAt c w) (tallyAt c w .some) x (omega (arith, few, more)) in
-            clash (bothJoin (apart x except) _ apt (served x ∙ h)) (subst (λ (y : ℕ). tried y ≡ false) is (before j (omega arith)))
+            let few = leb-false (c .f + 1) (counted plans c first (endOf c - w)) (sym (served first) ∙ never) in
+            let more = leb-true (c .f + 1) (counted plans c x (endOf c - w)) h in
+            let there = rowHas plans c below laid x first w from to (omega (arith, few, more)) in
+            let (j, low, is) = countWhere plans 0 (comingAt c w .from + comingAt c w .some) x there in
+            let place : 0 + j ≡ j = omega arith in
+            let at : getD plans j 0 ≡ x = rw place at is in
+            clash (bothJoin (apart x except) _ apt (served x ∙ h)) (subst (λ (y : ℕ). tried y ≡ false) at (before j (omega arith)))
 
 -- ---- two plans that are claimed
 
@@ -192,36 +197,63 @@ module _ (next here : ℕ → Bool) (m : Option ℕ) (found : Found next m) wher
 
 -- ---- what the rows tell
 
--- The three rows are written one behind the other, and each leaves those before it.
-pub prepares : (rs : Reports) (c : Search) (first second third : List ℕ) → c .n ≤ column → c .f < c .n → c .u < c .v → length third ≡ rowsSize
-    → RowTells rs (c .n) (λ p. claims p (c .u)) first 0 (c .here)
-    → SameBelow first second column → RowTells rs (c .n) (λ p. claims p (c .u + 1)) second column (c .next)
-    → SameBelow second third lockRow → RowTells rs (c .n) (λ p. allows p (c .u)) third lockRow (c .locks) → Prepared rs c third
-prepares rs c first second third most few below size here same next again locks = record {
-  laid = record { size = size; below = below; few = few; here = fits (here .most); next = fits (next .most); locks = fits (locks .most) };
-  here = rowKept rs (c .n) (λ p. claims p (c .u)) second third 0 lockRow (c .here) again (omega (arith, here .most))
-      (rowKept rs (c .n) (λ p. claims p (c .u)) first second 0 column (c .here) same (omega (arith, here .most)) here);
-  next = rowKept rs (c .n) (λ p. claims p (c .u + 1)) second third column lockRow (c .next) again (omega (arith, next .most)) next;
+-- The row of locks is written behind the row of claims, and leaves it.
+pub prepares : (rs : Reports) (c : Search) (end : ℕ) (first second : List ℕ) → c .n ≤ column → c .f < c .n → c .u < c .v → length second ≡ rowsSize
+    → end ≡ endOf c → Told rs (c .n) (c .u) end first (c .next) (c .here) → SameBelow first second lockRow
+    → RowTells rs (c .n) (λ p. allows p (c .u)) second lockRow (c .locks) → Prepared rs c second
+prepares rs c end first second most few below size is found same locks = record {
+  laid = record {
+    size = size;
+    below = below;
+    few = few;
+    most = most;
+    claims = told .laid;
+    locks = (omega (arith, locks .most), omega (arith, locks .most));
+  };
+  claims = toldKept rs (c .n) (c .u) (endOf c) first second (c .next) (c .here) lockRow same most told;
   locks = locks;
 }
   where
-    fits : {t : Tally} → t .every + t .some ≤ c .n → FitsRow t
-    fits low = (omega arith, omega arith)
+    told : Told rs (c .n) (c .u) (endOf c) first (c .next) (c .here)
+    told = subst (λ (end : ℕ). Told rs (c .n) (c .u) end first (c .next) (c .here)) is found
+
+-- Who comes in has a place in the row.
+pub laidFits : (c : Search) (plans : List ℕ) → Laid c plans → FitsComing (c .next) × FitsComing (c .here)
+laidFits c plans l =
+    let o = l .claims in
+    let some : c .next .some + c .here .some ≤ column = omega (arith, o .most, l .most) in (
+      (omega (arith, o .every .0, l .most), omega (arith, o .none), omega (arith, o .first), omega arith),
+      (omega (arith, o .every .1, l .most), omega (arith, o .within), omega (arith, o .behind), omega arith),
+    )
 
 module _ (rs : Reports) (c : Search) (plans : List ℕ) (ready : Prepared rs c plans) where
   -- The vaults of the search, each of weight 1.
   abbrev vs : Vaults
   vs = equals (c .n) (c .f)
 
-  -- Claimed at u by the rows is claimed at u by the rules.
-  claimedHere : (p : ℕ) → claimedIn plans c p (c .u) ≡ claimed vs rs p (c .u)
+  -- Claimed at a candidate view by the row is claimed there by the rules.
+  claimedAt : (p w : ℕ) → c .u ≤ w → w < endOf c → claimedIn plans c p w ≡ claimed vs rs p w
   unfolding claimedIn claimed isBlocking
-  claimedHere p = rw (eq-eqb (c .u) (c .u) refl) (ap (leb (c .f + 1)) (ready .here .tells p))
+  claimedAt p w from to =
+      let (below, few, most) = endBounds (c .u) (c .v) (ready .laid .below) in
+      ap (leb (c .f + 1)) (countedClaimers plans c p rs below few (ready .claims) w from to)
 
-  -- The same at the next view.
-  claimedNext : (p : ℕ) → claimedIn plans c p (c .u + 1) ≡ claimed vs rs p (c .u + 1)
-  unfolding claimedIn claimed isBlocking
-  claimedNext p = rw (ne-eqb (c .u + 1) (c .u) (λ (e : c .u + 1 ≡ c .u). omega arith)) (ap (leb (c .f + 1)) (ready .next .tells p))
+  -- So at u.
+  claimedHere : (p : ℕ) → claimedIn plans c p (c .u) ≡ claimed vs rs p (c .u)
+  claimedHere p = claimedAt p (c .u) (omega arith) (endHere c (ready .laid .below))
+
+  -- And at the next view, where that is below v.
+  claimedNext : (p : ℕ) → c .u + 1 < c .v → claimedIn plans c p (c .u + 1) ≡ claimed vs rs p (c .u + 1)
+  claimedNext p low = claimedAt p (c .u + 1) (omega arith) (endNext c low)
+
+  -- Below v and claimed there.
+  nextClaimed : (p : ℕ) → (ltb (c .u + 1) (c .v) && claimedIn plans c p (c .u + 1)) ≡ (ltb (c .u + 1) (c .v) && claimed vs rs p (c .u + 1))
+  nextClaimed p = go (decLt (c .u + 1) (c .v))
+    where
+      go : Dec (c .u + 1 < c .v)
+          → (ltb (c .u + 1) (c .v) && claimedIn plans c p (c .u + 1)) ≡ (ltb (c .u + 1) (c .v) && claimed vs rs p (c .u + 1))
+      go (yes low) = ap (λ (b : Bool). ltb (c .u + 1) (c .v) && b) (claimedNext p low)
+      go (no high) = rw (le-ltb (c .u + 1) (c .v) (omega arith)) refl
 
   -- Allowed at u by the rows is allowed at u by the rules.
   pub allowedSame : (p : ℕ) → allowedIn plans c p ≡ allowed vs rs p (c .u)
@@ -230,13 +262,13 @@ module _ (rs : Reports) (c : Search) (plans : List ℕ) (ready : Prepared rs c p
 
   -- Claims fall with the view.
   pub falling : Falling plans c
-  falling p h = claimedHere p ∙ claimedFalls vs rs p (c .u + 1) (c .u) (omega arith) (sym (claimedNext p) ∙ h)
+  falling p low h = claimedHere p ∙ claimedFalls vs rs p (c .u + 1) (c .u) (omega arith) (sym (claimedNext p low) ∙ h)
 
   -- Two plans by the rows are two by the rules.
   pub pairTwo : (b : Bool) → c .u + 1 < c .v → Pair (λ x. claimedIn plans c x (c .u + 1)) (λ x. claimedIn plans c x (c .u)) b → b ≡ twoSets vs rs (c .v) (c .u)
   pairTwo b low (two m x off next here is) =
-      is ∙ sym (twoBoth vs rs (c .v) (c .u) m x low (sym (claimedNext m) ∙ next) off (sym (claimedHere x) ∙ here))
-  pairTwo b low (unclaimed never is) = is ∙ sym (twoNone vs rs (c .v) (c .u) (λ m. sym (claimedNext m) ∙ never m))
+      is ∙ sym (twoBoth vs rs (c .v) (c .u) m x low (sym (claimedNext m low) ∙ next) off (sym (claimedHere x) ∙ here))
+  pairTwo b low (unclaimed never is) = is ∙ sym (twoNone vs rs (c .v) (c .u) (λ m. sym (claimedNext m low) ∙ never m))
   pairTwo b low (lone m others is) = is ∙ sym (twoLone vs rs (c .v) (c .u) m (λ x off. sym (claimedHere x) ∙ others x off))
 
   -- The same for numbers that are those of the search.
@@ -256,7 +288,7 @@ module _ (rs : Reports) (c : Search) (plans : List ℕ) (ready : Prepared rs c p
         go (inl allow) =
             rw (allowedSame p ∙ allow) (servedHere plans c p (l .below) falling ∙ claimedHere p ∙ sym (firstServes vs rs (c .v) rule1 p (c .u) l allow))
         go (inr off) =
-            rw (allowedSame p ∙ off) (servedNext plans c p (l .below) ∙ ap (λ (b : Bool). ltb (c .u + 1) (c .v) && b) (claimedNext p)
+            rw (allowedSame p ∙ off) (servedNext plans c p (l .below) ∙ nextClaimed p
             ∙ sym (nextServes vs rs (c .v) rule1 p (c .u) l off))
 
     -- By Rule 3 the two-set clause backs a plan where the claims do not.
@@ -323,7 +355,9 @@ module _ (rs : Reports) (c : Search) (plans : List ℕ) (ready : Prepared rs c p
     voteSafe p h = go (which (allowedIn plans c p))
       where
         claims : claimedIn plans c p (c .u) ≡ true
-        claims = falling p (bothSplit (ltb (c .u + 1) (c .v)) _ (sym (servedNext plans c p (l .below)) ∙ h) .1)
+        claims =
+            let (low, at) = bothSplit (ltb (c .u + 1) (c .v)) _ (sym (servedNext plans c p (l .below)) ∙ h) in
+            falling p (ltb-true (c .u + 1) (c .v) low) at
 
         go : (allowedIn plans c p ≡ true) ⊎ (allowedIn plans c p ≡ false) → safe rule1 vs rs (c .v) p ≡ true
         go (inl allow) = lockSafe p (bothJoin (allowedIn plans c p) _ allow (servedHere plans c p (l .below) falling ∙ claims))
@@ -356,17 +390,18 @@ module _ (rs : Reports) (c : Search) (plans : List ℕ) (ready : Prepared rs c p
         countWhere plans lockRow (c .locks .some) p (omega (arith, few, enough))
 
     -- A vote's plan that passes stands in the row of the next view, where some plan is not claimed.
-    voteTried : (q p : ℕ) → passesIn plans c false q ≡ false → passesIn plans c false p ≡ true → (j : ℕ) × (j < c .next .some) × (getD plans (column + j) 0 ≡ p)
+    voteTried : (q p : ℕ) → passesIn plans c false q ≡ false → passesIn plans c false p ≡ true → (j : ℕ) × (j < c .next .some) × (getD plans (0 + j) 0 ≡ p)
     unfolding claimedIn
     voteTried q p never h =
         let (low, at) = bothSplit (ltb (c .u + 1) (c .v)) _ (sym (servedNext plans c p (l .below)) ∙ h) in
+        let less = ltb-true (c .u + 1) (c .v) low in
         let off : claimedIn plans c q (c .u + 1) ≡ false
         = sym (ap (λ (b : Bool). b && claimedIn plans c q (c .u + 1)) low) ∙ sym (servedNext plans c q (l .below)) ∙ never in
-        let next = ne-eqb (c .u + 1) (c .u) (λ (e : c .u + 1 ≡ c .u). omega arith) in
-        let few : leb (c .f + 1) (forPlan plans column (c .next) q) ≡ false = rw next at off in
-        let more : leb (c .f + 1) (forPlan plans column (c .next) p) ≡ true = rw next at at in
-        countWhere plans column (c .next .some) p
-        (omega (arith, leb-false (c .f + 1) (forPlan plans column (c .next) q) few, leb-true (c .f + 1) (forPlan plans column (c .next) p) more))
+        let few = leb-false (c .f + 1) (counted plans c q (endOf c - (c .u + 1))) off in
+        let more = leb-true (c .f + 1) (counted plans c p (endOf c - (c .u + 1))) at in
+        let laid = ready .laid .claims in
+        countWhere plans 0 (c .next .some) p
+        (omega (arith, few, more, countedNext plans c (l .below) laid q less, countedNext plans c (l .below) laid p less))
 
 -- ---- the smallest plan that passes
 
@@ -475,7 +510,7 @@ module _ (best : Option ℕ) (test : ℕ → Bool) (plan : ℕ → ℕ) where
 pub triedFits : (c : Search) (plans : List ℕ) (locked : Bool) (at count : ℕ) → Laid c plans → at ≡ triedAt locked → count ≡ triedCount c locked
     → (at ≤ lockRow) × (count ≤ column)
 triedFits c plans true at count l is all = (omega arith, omega (arith, l .locks))
-triedFits c plans false at count l is all = (omega arith, omega (arith, l .next))
+triedFits c plans false at count l is all = (omega arith, omega (arith, l .claims .most, l .most))
 
 -- ---- step C
 
@@ -492,21 +527,21 @@ module _ (rs : Reports) (c : Search) (plans : List ℕ) (ready : Prepared rs c p
       atLocks : passesIn plans c true x ≡ true → Under (smallestOf plans c) x
       atLocks h =
           let (j, low, is) = lockTried rs c plans ready l x h in
-          fromBest locked (passesIn plans c false) (λ i. getD plans (column + i) 0) x (c .next .some)
+          fromBest locked (passesIn plans c false) (λ i. getD plans (0 + i) 0) x (c .next .some)
           (subst (λ (y : ℕ). Under locked y) is (fromTried none (passesIn plans c true) (λ i. getD plans (lockRow + i) 0) (c .locks .some) j low
           (subst (λ (y : ℕ). passesIn plans c true y ≡ true) (sym is) h)))
 
       atVotes : passesIn plans c false x ≡ true → Under (smallestOf plans c) x
       atVotes h =
           let (j, low, is) = voteTried rs c plans ready l start x (unsafePasses rs c plans ready l false start never) h in
-          subst (λ (y : ℕ). Under (smallestOf plans c) y) is (fromTried locked (passesIn plans c false) (λ i. getD plans (column + i) 0) (c .next .some) j low
+          subst (λ (y : ℕ). Under (smallestOf plans c) y) is (fromTried locked (passesIn plans c false) (λ i. getD plans (0 + i) 0) (c .next .some) j low
           (subst (λ (y : ℕ). passesIn plans c false y ≡ true) (sym is) h))
 
   -- What is found is safe by Rule 1.
   foundSafe : (y : ℕ) → smallestOf plans c ≡ some y → Safe rule1 (equals (c .n) (c .f)) rs (c .v) y
   foundSafe y is =
       safeIff (equals (c .n) (c .f)) rs rule1 (c .v) y .1
-      (⊎-elim atLocks (passesSafe rs c plans ready l false y) (fromWhere locked (passesIn plans c false) (λ i. getD plans (column + i) 0) (c .next .some) y is))
+      (⊎-elim atLocks (passesSafe rs c plans ready l false y) (fromWhere locked (passesIn plans c false) (λ i. getD plans (0 + i) 0) (c .next .some) y is))
     where
       atLocks : locked ≡ some y → safe rule1 (equals (c .n) (c .f)) rs (c .v) y ≡ true
       atLocks e =

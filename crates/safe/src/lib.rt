@@ -1,30 +1,30 @@
 // Safe plans (document 01, 'When a plan is safe'): Rule 1, Rule 3, and step C's choice, over a lent table of reports.
-// What a search needs is prepared once: who claims which plan at view u and at the next view, and whose lock allows which plan at view u.
+// What a search needs is prepared once: who comes in for which plan at the next view and at view u, and whose lock allows which plan at view u.
 use claims::Search;
 use claims::Tally;
 use settings::Settings;
 ghost use Prim.Native.Nat.{_+_, _-_, _*_, _≤_, _<_};
 ghost use mathlib.Core.Path.{_≡_};
 ghost use mathlib.Core.Bool.{cond, not, true, false, _&&_};
-ghost use mathlib.Core.Option.{none};
 ghost use lib.ListN.{length, getD};
 ghost use Rattle.rules.specs.Sets.{equals};
 ghost use Rattle.settings.specs.Vaults.{vaultsOf};
 ghost use Rattle.rules.specs.Options.{isNone};
-ghost use Rattle.rules.specs.Rules.{reporting, unlocked, allows, rule1, rule3};
+ghost use Rattle.rules.specs.Rules.{reporting, unlocked, allows, rule3};
 ghost use Rattle.rules.specs.inside.Counts.{free, twoSets, safe, smaller, choice};
 ghost use Rattle.rules.specs.inside.Views.{lockSpan, lowestView, Lowest};
-ghost use Rattle.claims.specs.inside.Rows.{rowsSize, Stance, RowTells, SameBelow, claimedIn, endOf};
+ghost use Rattle.claims.specs.inside.Rows.{rowsSize, Stance, RowTells, SameBelow};
+ghost use Rattle.claims.specs.inside.Walk.{claimedIn, endOf};
 ghost use Rattle.claims.specs.inside.Spans.{AreSpans};
 ghost use Rattle.claims.specs.Table.{column, tableSize, reportsInTable};
 ghost use Rattle.safe.specs.Choices.{ruleOf, chosen};
 ghost use Rattle.safe.specs.inside.Choices.{better, apart, Found};
 ghost use Rattle.safe.specs.inside.Searches.{lockRow, allowedIn, servedFrom, safeIn, passesIn, triedAt, triedCount, smallestFrom, smallestOf, Pair, Falling, Laid, Prepared, everySafe, Begun};
 
-// Where the row of locks begins, and the places of all rows.
-const LOCKS: usize = 2 * claims::COLUMN;
+// Where the row of locks begins, and the places of both rows.
+const LOCKS: usize = claims::COLUMN;
 
-const ROOM: usize = 3 * claims::COLUMN;
+const ROOM: usize = 2 * claims::COLUMN;
 
 // ---- locks
 
@@ -153,8 +153,10 @@ fn prepare<'a>(table: &'a [u64], n: usize, f: usize, u: u32, v: u32) -> Parts
     ensures { λ r. ⌜ Prepared (reportsInTable (now (table .entry))) (r .search) (r .plans) × (r .search .n ≡ n) × (r .search .f ≡ f) × (r .search .u ≡ u) × (r .search .v ≡ v) ⌝ }
 {
     let mut plans = [0u64; ROOM];
-    let here = claims::claims_at(table, n, u, &mut plans, 0);
-    let next = claims::claims_at(table, n, u + 1, &mut plans, claims::COLUMN);
+    let end = claims::end_of(u, v);
+    let coming = claims::claims_from(table, n, u, end, &mut plans);
+    let next = coming.next;
+    let here = coming.here;
     let locks = locks_at(table, n, u, &mut plans);
     Parts {
         plans: plans,
@@ -163,8 +165,8 @@ fn prepare<'a>(table: &'a [u64], n: usize, f: usize, u: u32, v: u32) -> Parts
             f: f,
             u: u,
             v: v,
-            here: here,
             next: next,
+            here: here,
             locks: locks,
         },
     }
@@ -246,7 +248,7 @@ fn other_claimed<'a>(plans: &'a [u64], c: Search, w: u32, except: Choice, last: 
     false
 }
 
-// A plan that is claimed at the candidate view w, if any, and is not left out: the first plan, or one of the row.
+// A plan that is claimed at the candidate view w, if any, and is not left out: the first plan, or one of those that come in up to there.
 fn find_claimed<'a>(plans: &'a [u64], c: Search, w: u32, except: Choice) -> Choice
     requires { ⌜ Laid c (now plans) × Falling (now plans) c × (c .u ≤ w) × (w < endOf c) ⌝ }
     ensures { λ r. ⌜ Found (λ x. apart x (chosen except) && claimedIn (now (plans .entry)) c x w) (chosen r) ⌝ }
@@ -255,13 +257,12 @@ fn find_claimed<'a>(plans: &'a [u64], c: Search, w: u32, except: Choice) -> Choi
     if served(plans, c, w, first) {
         return Choice::Plan(first);
     }
-    let row = claims::place_at(c, w);
-    let tally = claims::tally_at(c, w);
-    let some = tally.some;
+    let coming = claims::coming_at(c, w);
+    let end = coming.from + coming.some;
     let mut last = first;
     let mut r: usize = 0;
-    while r < some {
-        let x = plans[row + r];
+    while r < end {
+        let x = plans[r];
         if other_claimed(plans, c, w, except, last, x) {
             return Choice::Plan(x);
         }
@@ -409,7 +410,7 @@ fn smaller_passing<'a>(
 fn tried_at(locked: bool) -> usize
     ensures { λ r. ⌜ r ≡ triedAt locked ⌝ }
 {
-    if locked { LOCKS } else { claims::COLUMN }
+    if locked { LOCKS } else { 0 }
 }
 
 fn tried_count(c: Search, locked: bool) -> usize
@@ -437,7 +438,7 @@ fn smallest_in<'a>(plans: &'a [u64], c: Search, locked: bool, start: u64, best: 
     found
 }
 
-// The smallest plan that is safe by Rule 1, where start is not: of the locks at view u, and of the votes that claim at the next view.
+// The smallest plan that is safe by Rule 1, where start is not: of the locks at view u, and of the votes that come in at the next view.
 fn smallest_safe<'a>(plans: &'a [u64], c: Search, start: u64) -> Choice
     requires { ⌜ Laid c (now plans) × (passesIn (now plans) c true start ≡ false) × (passesIn (now plans) c false start ≡ false) ⌝ }
     ensures { λ r. ⌜ chosen r ≡ smallestOf (now (plans .entry)) c ⌝ }

@@ -1,20 +1,19 @@
--- What is prepared for a search: rows of plans. A report that is for every plan is only counted; one that is for a single plan has
+-- What is prepared for a search: two rows of plans. A report that is for every plan is only counted; one that is for a single plan has
 -- that plan in the row. So how many are for a plan is a count of equal numbers. Assumes nothing.
-use Prim.Native.Nat.{ℕ, zero, suc, _+_, _≤_, _<_}
+use Prim.Native.Nat.{ℕ, _+_, _≤_, _<_}
 use mathlib.Core.Path.{_≡_}
-use mathlib.Core.Bool.{Bool, true, false, cond}
+use mathlib.Core.Bool.{Bool, true, false}
 use mathlib.Core.List.{List}
-use lib.Dec.{leb, ltb, eqb}
+use lib.Dec.{eqb}
 use lib.ListN.{getD}
 use Rattle.rules.specs.Sets.{weigh}
 use Rattle.rules.specs.Rules.{Report, Reports, reporting}
-use Rattle.claims.specs.declared.Search.{Search}
 use Rattle.claims.specs.declared.Tally.{Tally}
 use Rattle.claims.specs.Table.{column}
 
--- Three rows: who claims at view u, who claims at the next view, and whom the locks let be at view u.
+-- Two rows: who claims at the candidate views, and whom the locks let be at view u.
 abbrev pub rowsSize : ℕ
-rowsSize = 192
+rowsSize = 128
 
 -- How many of the k plans from place `at` on are p.
 unfoldable pub countOf : List ℕ → ℕ → ℕ → ℕ → ℕ
@@ -46,24 +45,3 @@ pub record RowTells (rs : Reports) (n : ℕ) (test : ℕ → Report → Bool) (p
 -- Two lists have the same numbers below place `at`.
 abbrev pub SameBelow : List ℕ → List ℕ → ℕ → Type 0
 SameBelow before after at = (i : ℕ) → i < at → getD after i 0 ≡ getD before i 0
-
--- The tally of a candidate view, u or the next, and where its row begins.
-abbrev pub tallyAt : Search → ℕ → Tally
-tallyAt c w = cond (eqb w (c .u)) (c .here) (c .next)
-
-abbrev pub placeAt : Search → ℕ → ℕ
-placeAt c w = cond (eqb w (c .u)) 0 column
-
--- 'a blocking set claiming p at v'', by the rows.
-unfoldable pub claimedIn : List ℕ → Search → ℕ → ℕ → Bool
-claimedIn plans c p w = leb (c .f + 1) (forPlan plans (placeAt c w) (tallyAt c w) p)
-
--- The candidate views end before u + 2, or at v where that is lower.
-abbrev pub endOf : Search → ℕ
-endOf c = cond (ltb (c .u + 1) (c .v)) (c .u + 2) (c .v)
-
--- 'The search over candidate views ends at the first one that serves the plan': the highest view below `end` and not below `low` that
--- passes, v where none does.
-unfoldable pub servingView : (ℕ → Bool) → ℕ → ℕ → ℕ → ℕ
-servingView test low v zero = v
-servingView test low v (suc w) = cond (ltb w low) v (cond (test w) w (servingView test low v w))

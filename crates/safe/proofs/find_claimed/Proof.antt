@@ -1,26 +1,27 @@
 -- `safe::find_claimed` meets its contract.
--- Neither the plan tried last nor the first r of the row pass; where none of the row does, none is claimed (`noneFound`).
+-- Neither the plan tried last nor the first r of the row pass; where none of those does that come in up to the view, none is claimed (`noneFound`).
 -- Assumes nothing.
-use Prim.Native.Nat.{ℕ, _+_, _-_, _≤_}
+use Prim.Native.Nat.{_+_, _-_, _*_, _≤_}
 use mathlib.Core.Bool.{false}
-use mathlib.Core.Path.{_≡_, sym, _∙_, ap}
+use mathlib.Core.Path.{_≡_, refl, sym, _∙_, ap}
 use native.Mathlib.Omega.{arith}
 use lib.ListN.{getD}
 use borrow.Author.Needs.{needs}
-use Rattle.claims.proofs.Rows.{rowFits}
+use Rattle.claims.proofs.Walk.{comingFits}
 use Rattle.claims.specs.Table.{column}
-use Rattle.claims.specs.declared.Tally.{Tally}
-use Rattle.safe.proofs.Searches.{servedAt, tried, NonePass, untriedFirst, nonePassMore, foundFirst, foundOther, noneFound}
+use Rattle.claims.specs.declared.Coming.{Coming}
+use Rattle.claims.specs.inside.Walk.{FitsComing}
+use Rattle.safe.proofs.Searches.{laidFits, servedAt, tried, NonePass, untriedFirst, nonePassMore, foundFirst, foundOther, noneFound}
 use Rattle.safe.specs.Choices.{chosen}
 use Rattle.safe.proofs.find_claimed.Statement.{statement}
 use Rattle.safe.proofs.find_claimed.Tie as tie
 
 abbrev Inv-loop : tie.InvT-loop
-Inv-loop plans c w except first row some last₀ r₀ last r =
-    (r ≤ some) × (tried plans c w (chosen except) last ≡ false) × NonePass plans c w (chosen except) r × (row ≤ column) × (some ≤ column)
+Inv-loop plans c w except first end last₀ r₀ last r =
+    (r ≤ end) × (tried plans c w (chosen except) last ≡ false) × NonePass plans c w (chosen except) r × (end ≤ 2 * column)
 
 abbrev μ-loop : tie.MeasureT-loop
-μ-loop plans c w except first row some last₀ r₀ last r = some - r
+μ-loop plans c w except first end last₀ r₀ last r = end - r
 
 first-plan-requires : tie.Need-first-plan-requires Inv-loop μ-loop
 first-plan-requires c κs = search needs
@@ -36,28 +37,33 @@ returns c =
     foundFirst (a .plans .now) (a .c) (a .w) (chosen (a .except)) (λ x. servedAt (a .plans .now) (a .c) (a .w) x (pre .0 .below) (pre .1) (pre .2) (pre .3))
     (first .result) (first .ensures) (sym (c .before .served .ensures) ∙ c .if1 .taken)
 
-place-at-requires : tie.Need-place-at-requires Inv-loop μ-loop
-place-at-requires c κs = search needs
+coming-at-requires : tie.Need-coming-at-requires Inv-loop μ-loop
+coming-at-requires c κs = search needs
 
-tally-at-requires : tie.Need-tally-at-requires Inv-loop μ-loop
-tally-at-requires c κs = search needs
+-- Who comes in at the view has a place in the row.
+fits : (c : tie.After-struct-known Inv-loop μ-loop) → FitsComing (c .before .coming-at .result)
+fits c =
+    let entry = c .before .before .before .before .before .before in
+    let a = entry .args in
+    let (next, here) = laidFits (a .c) (a .plans .now) (entry .pre .0) in
+    comingFits (a .c) (a .w) (c .before .coming-at .result) (c .before .coming-at .ensures) next here
+
+add-end : tie.Need-add-end Inv-loop μ-loop
+add-end c = omega (arith, fits c .2, fits c .3)
 
 loop-holds : tie.Need-loop-holds Inv-loop μ-loop
 loop-holds c =
     let a = c .before .before .before .before .before .before .args in
-    let l = c .before .before .before .before .before .before .pre .0 in
     let first = c .before .before .before .before .first-plan in
-    let never = sym (c .before .before .before .served .ensures) ∙ c .before .before .if1 .left in
-    let row = c .before .place-at in
-    let t = c .tally-at in
-    let (low, fits) = rowFits (a .c) (a .w) (row .result) (t .result) (row .ensures) (t .ensures) (l .here) (l .next) in
-    (omega arith, untriedFirst (a .plans .now) (a .c) (a .w) (chosen (a .except)) (first .result) never, λ j low. absurd (omega arith), low, fits .1)
-
-add-x : tie.Need-add-x Inv-loop μ-loop
-add-x c = omega arith
+    let never = sym (c .before .before .before .served .ensures) ∙ c .before .before .if1 .left in (
+      omega arith,
+      untriedFirst (a .plans .now) (a .c) (a .w) (chosen (a .except)) (first .result) never,
+      λ j low. absurd (omega arith),
+      omega (arith, fits c .2, fits c .3),
+    )
 
 mul-x : tie.Need-mul-x Inv-loop μ-loop
-mul-x c = omega arith
+mul-x c = search needs
 
 shared-slice-read-x : tie.Need-shared-slice-read-x Inv-loop μ-loop
 shared-slice-read-x c =
@@ -83,7 +89,7 @@ returns-2 c =
     (first .result) (first .ensures) _ (sym (c .before .other-claimed .ensures) ∙ c .if2 .taken)
 
 add-r : tie.Need-add-r Inv-loop μ-loop
-add-r c = omega arith
+add-r c = search needs
 
 loop-less : tie.Need-loop-less Inv-loop μ-loop
 loop-less c = search needs
@@ -91,25 +97,24 @@ loop-less c = search needs
 loop-again : tie.Need-loop-again Inv-loop μ-loop
 loop-again c =
     let atLoop = c .before .before .before .before in
-    let atPlaceAt = atLoop .before .before in
-    let atEntry = atPlaceAt .before .before .before .before .before in
+    let atEntry = atLoop .before .before .before .before .before .before .before in
     let a = atEntry .args in
     let at = atLoop .loop in
-    let row = atPlaceAt .place-at in
-    let x = getD (a .plans .now) (row .result + at .r) 0 in
+    let x = getD (a .plans .now) (at .r) 0 in
     let fails = sym (c .before .other-claimed .ensures) ∙ c .if2 .left in
-    let is = ap (λ (o : ℕ). getD (a .plans .now) (o + at .r) 0) (row .ensures) in
-    (omega arith, fails, nonePassMore (a .plans .now) (a .c) (a .w) (chosen (a .except)) (at .r) x is fails (at .inv .2), at .inv .3, at .inv .4)
+    (omega arith, fails, nonePassMore (a .plans .now) (a .c) (a .w) (chosen (a .except)) (at .r) x refl fails (at .inv .2), at .inv .3)
 
 returns-3 : tie.Need-returns-3 Inv-loop μ-loop
 returns-3 c =
-    let a = c .before .before .before .before .before .before .before .before .args in
-    let pre = c .before .before .before .before .before .before .before .before .pre in
-    let first = c .before .before .before .before .before .before .first-plan in
+    let entry = c .before .before .before .before .before .before .before .before in
+    let a = entry .args in
+    let pre = entry .pre in
+    let tested = c .before .before .before .before in
+    let first = tested .before .before .first-plan in
+    let never = sym (tested .before .served .ensures) ∙ tested .if1 .left in
+    let end = ap (λ (t : Coming). t .from + t .some) (c .before .before .before .coming-at .ensures) in
     noneFound (a .plans .now) (a .c) (a .w) (chosen (a .except)) (λ x. servedAt (a .plans .now) (a .c) (a .w) x (pre .0 .below) (pre .1) (pre .2) (pre .3))
-    (first .result) (first .ensures) (c .before .loop .r)
-    (omega (arith, ap (λ (t : Tally). t .some) (c .before .before .tally-at .ensures)))
-    (sym (c .before .before .before .before .before .served .ensures) ∙ c .before .before .before .before .if1 .left) (c .before .loop .inv .2)
+    (first .result) (first .ensures) (pre .0 .claims) (pre .0 .below) (pre .2) (pre .3) (c .before .loop .r) (omega (arith, end)) never (c .before .loop .inv .2)
 
 pub find-claimed-spec : {M : Type 1} → statement M
 find-claimed-spec =
@@ -120,10 +125,9 @@ find-claimed-spec =
     first-plan-requires
     served-requires
     returns
-    place-at-requires
-    tally-at-requires
+    coming-at-requires
+    add-end
     loop-holds
-    add-x
     mul-x
     shared-slice-read-x
     other-claimed-requires

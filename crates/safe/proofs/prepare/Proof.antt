@@ -1,27 +1,26 @@
 -- `safe::prepare` meets its contract.
--- Each row is written behind the last one, which stays (`prepares`).
+-- The row of locks is written behind the row of claims, which stays (`prepares`).
 -- Assumes nothing.
 use mathlib.Core.Path.{refl}
+use native.Mathlib.Omega.{arith}
 use borrow.Author.Needs.{needs}
+use Rattle.claims.proofs.Walk.{endBounds}
 use Rattle.claims.specs.Table.{reportsInTable}
 use Rattle.safe.proofs.Searches.{prepares}
 use Rattle.safe.proofs.prepare.Statement.{statement}
 use Rattle.safe.proofs.prepare.Tie as tie
 
-slice-aggregate-claims-at : tie.Need-slice-aggregate-claims-at
-slice-aggregate-claims-at c = search needs
+end-of-requires : tie.Need-end-of-requires
+end-of-requires c κs = search needs
 
-claims-at-requires : tie.Need-claims-at-requires
-claims-at-requires c κs = search needs
+slice-aggregate-claims-from : tie.Need-slice-aggregate-claims-from
+slice-aggregate-claims-from c = search needs
 
-add-claims-at : tie.Need-add-claims-at
-add-claims-at c = search needs
-
-slice-aggregate-claims-at-2 : tie.Need-slice-aggregate-claims-at-2
-slice-aggregate-claims-at-2 c = search needs
-
-claims-at-requires-2 : tie.Need-claims-at-requires-2
-claims-at-requires-2 c κs = search needs
+claims-from-requires : tie.Need-claims-from-requires
+claims-from-requires c κs =
+    let entry = c .before .before .before in
+    let (low, few, most) = endBounds (entry .args .u) (entry .args .v) (entry .pre .3) in
+    (entry .pre .0, entry .pre .1, search needs, omega (arith, few, c .before .end-of .ensures))
 
 slice-aggregate-locks-at : tie.Need-slice-aggregate-locks-at
 slice-aggregate-locks-at c = search needs
@@ -31,16 +30,14 @@ locks-at-requires c κs = search needs
 
 returns : tie.Need-returns
 returns c =
-    let atClaimsAt2 = c .before .before .before .before in
-    let atClaimsAt = atClaimsAt2 .before .before .before in
-    let atEntry = atClaimsAt .before .before .before in
-    let a = atEntry .args in
-    let pre = atEntry .pre in
-    let here = atClaimsAt .claims-at .ensures in
-    let next = atClaimsAt2 .claims-at2 .ensures in
+    let atClaims = c .before .before .before .before .before .before in
+    let atEnd = atClaims .before .before in
+    let entry = atEnd .before .before in
+    let a = entry .args in
+    let rs = reportsInTable (a .table .now) in
+    let told = atClaims .claims-from .ensures .1 in
     let locks = c .before .locks-at .ensures in (
-      prepares (reportsInTable (a .table .now)) _ _ _ _ (pre .1) (pre .2) (pre .3) (locks .0) (here .2) (next .1) (next .2) (locks .1)
-          (locks .2),
+      prepares rs _ _ _ _ (entry .pre .1) (entry .pre .2) (entry .pre .3) (locks .0) (atEnd .end-of .ensures) told (locks .1) (locks .2),
       refl,
       refl,
       refl,
@@ -51,11 +48,9 @@ pub prepare-spec : {M : Type 1} → statement M
 prepare-spec =
     tie.close
     (tie.spec
-    slice-aggregate-claims-at
-    claims-at-requires
-    add-claims-at
-    slice-aggregate-claims-at-2
-    claims-at-requires-2
+    end-of-requires
+    slice-aggregate-claims-from
+    claims-from-requires
     slice-aggregate-locks-at
     locks-at-requires
     returns)

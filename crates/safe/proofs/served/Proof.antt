@@ -4,12 +4,16 @@
 use Prim.Native.Nat.{ℕ}
 use mathlib.Core.Path.{ap}
 use lib.Dec.{ltb}
+use Rattle.safe.proofs.Searches.{laidFits}
 use Rattle.safe.specs.inside.Searches.{servedFrom}
 use Rattle.safe.proofs.served.Statement.{statement}
 use Rattle.safe.proofs.served.Tie as tie
 
 serving-view-requires : tie.Need-serving-view-requires
-serving-view-requires c κs = let l = c .before .pre in (l .size, l .below, l .here, l .next)
+serving-view-requires c κs =
+    let l = c .before .pre in
+    let (next, here) = laidFits (c .before .args .c) (c .before .args .plans .now) l in
+    (l .size, l .below, next, here)
 
 returns : tie.Need-returns
 unfolding servedFrom

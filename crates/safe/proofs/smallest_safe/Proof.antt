@@ -4,9 +4,8 @@
 use Prim.Native.Nat.{ℕ, _+_}
 use mathlib.Core.Bool.{false}
 use mathlib.Core.Option.{Option}
-use mathlib.Core.Path.{_≡_, _∙_, ap}
+use mathlib.Core.Path.{_∙_, ap}
 use lib.ListN.{getD}
-use Rattle.claims.specs.Table.{column}
 use Rattle.safe.specs.inside.Searches.{passesIn, smallestFrom}
 use Rattle.safe.proofs.smallest_safe.Statement.{statement}
 use Rattle.safe.proofs.smallest_safe.Tie as tie
@@ -21,7 +20,7 @@ returns : tie.Need-returns
 returns c =
     let a = c .before .before .before .args in
     c .smallest-in2 .ensures
-    ∙ ap (λ (o : Option ℕ). smallestFrom o (passesIn (a .plans .now) (a .c) false) (λ i. getD (a .plans .now) (column + i) 0) (a .c .next .some))
+    ∙ ap (λ (o : Option ℕ). smallestFrom o (passesIn (a .plans .now) (a .c) false) (λ i. getD (a .plans .now) (0 + i) 0) (a .c .next .some))
     (c .before .smallest-in .ensures)
 
 pub smallest-safe-spec : {M : Type 1} → statement M

@@ -5,7 +5,7 @@ use Prim.Native.Nat.{_+_}
 use mathlib.Core.Path.{sym, _∙_}
 use native.Mathlib.Omega.{arith}
 use borrow.Author.Needs.{needs}
-use Rattle.claims.specs.inside.Rows.{claimedIn}
+use Rattle.claims.specs.inside.Walk.{claimedIn}
 use Rattle.safe.proofs.Searches.{endNext, endHere, pairFound, pairUnfound}
 use Rattle.safe.specs.Choices.{chosen}
 use Rattle.safe.proofs.two_sets.Statement.{statement}

@@ -2,7 +2,7 @@
 -- The rows are prepared again from the next view on; where that is the last below v there are no two views.
 -- Assumes nothing.
 use Prim.Native.Nat.{_+_}
-use mathlib.Core.Path.{sym, _∙_}
+use mathlib.Core.Path.{sym}
 use native.Mathlib.Omega.{arith}
 use borrow.Author.Needs.{needs}
 use Rattle.claims.specs.Table.{reportsInTable}

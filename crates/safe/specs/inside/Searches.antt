@@ -1,6 +1,6 @@
 -- What the search for safe plans tests, by the rows that were prepared for it; and what it is to be the rows of the reports.
 -- Assumes nothing.
-use Prim.Native.Nat.{ℕ, zero, suc, _+_, _-_, _<_}
+use Prim.Native.Nat.{ℕ, zero, suc, _+_, _-_, _≤_, _<_}
 use mathlib.Core.Path.{_≡_}
 use mathlib.Core.Logic.{_≢_}
 use mathlib.Core.Bool.{Bool, true, false, cond, _&&_, _||_}
@@ -8,17 +8,18 @@ use mathlib.Core.Option.{Option, none}
 use mathlib.Core.List.{List}
 use lib.Dec.{leb, ltb, eqb}
 use lib.ListN.{length, getD}
-use Rattle.rules.specs.Rules.{Reports, claims, allows}
+use Rattle.rules.specs.Rules.{Reports, allows}
 use Rattle.rules.specs.Sets.{Vaults, equals}
 use Rattle.rules.specs.inside.Counts.{free, smaller}
 use Rattle.rules.specs.inside.Views.{Lowest}
 use Rattle.claims.specs.declared.Search.{Search}
-use Rattle.claims.specs.inside.Rows.{rowsSize, forPlan, FitsRow, RowTells, claimedIn, endOf, servingView}
+use Rattle.claims.specs.inside.Rows.{rowsSize, forPlan, FitsRow, RowTells}
+use Rattle.claims.specs.inside.Walk.{LaidOut, Told, claimedIn, endOf, servingView}
 use Rattle.claims.specs.Table.{column}
 
--- Where the row of locks begins, behind the two rows of claims.
+-- Where the row of locks begins, behind the row of claims.
 abbrev pub lockRow : ℕ
-lockRow = 128
+lockRow = 64
 
 -- ---- tests by the rows
 
@@ -43,7 +44,7 @@ passesIn plans c false p = servedFrom plans c (c .u + 1) p
 
 -- Where the plans to try begin, of locks or of votes, and how many there are.
 abbrev pub triedAt : Bool → ℕ
-triedAt locked = cond locked lockRow column
+triedAt locked = cond locked lockRow 0
 
 abbrev pub triedCount : Search → Bool → ℕ
 triedCount c locked = cond locked (c .locks .some) (c .next .some)
@@ -57,7 +58,7 @@ smallestFrom best test plan (suc k) = smaller (test (plan k)) (plan k) (smallest
 abbrev pub smallestOf : List ℕ → Search → Option ℕ
 smallestOf plans c =
     smallestFrom (smallestFrom none (passesIn plans c true) (λ i. getD plans (lockRow + i) 0) (c .locks .some))
-    (passesIn plans c false) (λ i. getD plans (column + i) 0) (c .next .some)
+    (passesIn plans c false) (λ i. getD plans (0 + i) 0) (c .next .some)
 
 -- ---- the two-set clause
 
@@ -67,9 +68,9 @@ pub data Pair (next here : ℕ → Bool) (b : Bool) : Type 0 where
   unclaimed : ((m : ℕ) → next m ≡ false) → b ≡ false → Pair next here b
   lone : (m : ℕ) → ((x : ℕ) → x ≢ m → here x ≡ false) → b ≡ false → Pair next here b
 
--- What is claimed at the next view is claimed at view u.
+-- What is claimed at the next view, where that is a candidate, is claimed at view u.
 abbrev pub Falling : List ℕ → Search → Type 0
-Falling plans c = (p : ℕ) → claimedIn plans c p (c .u + 1) ≡ true → claimedIn plans c p (c .u) ≡ true
+Falling plans c = (p : ℕ) → c .u + 1 < c .v → claimedIn plans c p (c .u + 1) ≡ true → claimedIn plans c p (c .u) ≡ true
 
 -- ---- what was prepared
 
@@ -78,15 +79,14 @@ pub record Laid (c : Search) (plans : List ℕ) : Type 0 where
   pub size : length plans ≡ rowsSize
   pub below : c .u < c .v
   pub few : c .f < c .n
-  pub here : FitsRow (c .here)
-  pub next : FitsRow (c .next)
+  pub most : c .n ≤ column
+  pub claims : LaidOut (c .n) (c .u) (endOf c) (c .next) (c .here)
   pub locks : FitsRow (c .locks)
 
--- They tell who claims at view u and at the next view, and whose locks allow a plan at view u.
+-- They tell who comes in for which plan at the candidate views, and whose locks allow a plan at view u.
 pub record Prepared (rs : Reports) (c : Search) (plans : List ℕ) : Type 0 where
   pub laid : Laid c plans
-  pub here : RowTells rs (c .n) (λ p. claims p (c .u)) plans 0 (c .here)
-  pub next : RowTells rs (c .n) (λ p. claims p (c .u + 1)) plans column (c .next)
+  pub claims : Told rs (c .n) (c .u) (endOf c) plans (c .next) (c .here)
   pub locks : RowTells rs (c .n) (λ p. allows p (c .u)) plans lockRow (c .locks)
 
 -- In view 0 every plan is safe, and so where 'some quorum q of reporters has no lock at all'.
