@@ -1,6 +1,7 @@
 //! The exported Rattle functions, each behind a safe function. A slice passes as a pointer and then a length.
 //! Nothing checks these declarations against the Rattle source, so they are few and plain.
 pub mod apart;
+pub mod around;
 mod calls;
 pub mod case;
 pub mod cases;
