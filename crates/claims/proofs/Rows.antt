@@ -1,5 +1,5 @@
 -- The laws of rows (document 01, 'When a plan is safe'). A report is for every plan, for one, or for none; so a count of equal plans, with those
--- that are for every plan, tells how many are for a plan (`rowMore`).
+-- that are for every plan, tells how many are for a plan (`tellsMore`).
 -- Assumes nothing.
 use Prim.Native.Nat.{ℕ, zero, suc, _+_, _-_, _≤_, _<_}
 use mathlib.Core.Path.{_≡_, refl, sym, _∙_, ap, subst₂}
@@ -111,22 +111,22 @@ module _ (plans : List ℕ) (at k x : ℕ) (low : at + k < length plans) where
     weighed p j = weigh (λ i. 1) (reporting rs (test p)) j
 
     -- A row that tells of the first i reports tells of one more, whether that one is for every plan, for one or for none.
-    rowMore : Stance (λ p. reporting rs (test p) i) x every some → RowTells rs i test plans at (record { every = all; some = k }) → Grown
-    rowMore (forAll e s pass) row = record { most = omega (arith, row .most); tells = λ p. tell p }
+    tellsMore : Stance (λ p. reporting rs (test p) i) x every some → RowTells rs i test plans at (record { every = all; some = k }) → Grown
+    tellsMore (forAll e s pass) row = record { most = omega (arith, row .most); tells = λ p. tell p }
       where
         tell : (p : ℕ) → all + every + countOf after at (k + some) p ≡ weighed p (i + 1)
         tell p =
             let grown : weighed p (i + 1) ≡ weighed p i + cond (reporting rs (test p) i) 1 0 = weighMore _ _ i in
             let same : k + some ≡ k = omega arith in
             rw (same, putKeeps p, grown, pass p) (omega (arith, row .tells p))
-    rowMore (forOne e s pass) row = record { most = omega (arith, row .most); tells = λ p. tell p }
+    tellsMore (forOne e s pass) row = record { most = omega (arith, row .most); tells = λ p. tell p }
       where
         tell : (p : ℕ) → all + every + countOf after at (k + some) p ≡ weighed p (i + 1)
         tell p =
             let grown : weighed p (i + 1) ≡ weighed p i + cond (reporting rs (test p) i) 1 0 = weighMore _ _ i in
             let same : k + some ≡ k + 1 = omega arith in
             rw (same, putCounts p, grown, pass p) (omega (arith, row .tells p))
-    rowMore (forNone e s pass) row = record { most = omega (arith, row .most); tells = λ p. tell p }
+    tellsMore (forNone e s pass) row = record { most = omega (arith, row .most); tells = λ p. tell p }
       where
         tell : (p : ℕ) → all + every + countOf after at (k + some) p ≡ weighed p (i + 1)
         tell p =
@@ -137,16 +137,16 @@ module _ (plans : List ℕ) (at k x : ℕ) (low : at + k < length plans) where
 -- ---- a row, written report by report
 
 -- The row at a place tells of the first r of n reports, and what lies below it is as it was at first.
-pub record Counted (rs : Reports) (test : ℕ → ℕ → Report → Bool) (view n at : ℕ) (first plans : List ℕ) (t : Tally) (r : ℕ) : Type 0 where
+pub record RowCounted (rs : Reports) (test : ℕ → ℕ → Report → Bool) (view n at : ℕ) (first plans : List ℕ) (t : Tally) (r : ℕ) : Type 0 where
   pub within : r ≤ n
   pub size : length plans ≡ rowsSize
   pub same : SameBelow first plans at
   pub row : RowTells rs r (λ p. test p view) plans at t
 
 -- An empty row tells of no report.
-pub countedNone : (rs : Reports) (test : ℕ → ℕ → Report → Bool) (view n at : ℕ) (first : List ℕ) → length first ≡ rowsSize
-    → Counted rs test view n at first first (record { every = 0; some = 0 }) 0
-countedNone rs test view n at first size = record {
+pub rowNone : (rs : Reports) (test : ℕ → ℕ → Report → Bool) (view n at : ℕ) (first : List ℕ) → length first ≡ rowsSize
+    → RowCounted rs test view n at first first (record { every = 0; some = 0 }) 0
+rowNone rs test view n at first size = record {
   within = omega arith;
   size = size;
   same = λ i low. refl;
@@ -157,12 +157,12 @@ countedNone rs test view n at first size = record {
     tell p = rw (countNone first at p, weighNone (λ i. 1) (reporting rs (test p view)))
 
 module _ {rs : Reports} {test : ℕ → ℕ → Report → Bool} {view n at : ℕ} {first plans : List ℕ} {t : Tally} {r : ℕ}
-    (c : Counted rs test view n at first plans t r) where
+    (c : RowCounted rs test view n at first plans t r) where
   module _ (x : ℕ) (share : Tally) (stance : Stance (λ p. reporting rs (test p view) r) x (share .every) (share .some))
       (less : r < n) (few : n ≤ column) (room : at + column ≤ rowsSize) where
     -- A report counts once at most, so there is room for it.
-    pub countedFits : (length plans ≡ rowsSize) × (at + t .some < rowsSize) × (t .every + share .every ≤ column) × (t .some + share .some ≤ column)
-    countedFits = go stance
+    pub rowFits : (length plans ≡ rowsSize) × (at + t .some < rowsSize) × (t .every + share .every ≤ column) × (t .some + share .some ≤ column)
+    rowFits = go stance
       where
         go : Stance (λ p. reporting rs (test p view) r) x (share .every) (share .some)
             → (length plans ≡ rowsSize) × (at + t .some < rowsSize) × (t .every + share .every ≤ column) × (t .some + share .some ≤ column)
@@ -171,28 +171,19 @@ module _ {rs : Reports} {test : ℕ → ℕ → Report → Bool} {view n at : �
         go (forNone e s pass) = (c .size, omega (arith, c .row .most), omega (arith, c .row .most), omega (arith, c .row .most))
 
     -- The report's plan is written behind the row: what lies below it stays.
-    pub countedMore : (after : List ℕ) (more : Tally) → after ≡ set plans (at + t .some) x → more ≡ added t share
-        → Counted rs test view n at first after more (r + 1)
-    countedMore after more put is =
-        subst₂ (λ (l : List ℕ) (m : Tally). Counted rs test view n at first l m (r + 1)) (sym put) (sym is) (record {
+    pub rowMore : (after : List ℕ) (more : Tally) → after ≡ set plans (at + t .some) x → more ≡ added t share
+        → RowCounted rs test view n at first after more (r + 1)
+    rowMore after more put is =
+        subst₂ (λ (l : List ℕ) (m : Tally). RowCounted rs test view n at first l m (r + 1)) (sym put) (sym is) (record {
           within = omega arith;
           size = simp length-set (c .size);
           same = λ i below. getD-set-other plans (at + t .some) i x 0 (λ (e : i ≡ at + t .some). omega arith) ∙ c .same i below;
-          row = rowMore plans at (t .some) x (omega (arith, c .size, c .row .most)) rs (λ p. test p view) r (t .every) (share .every) (share .some) stance
+          row = tellsMore plans at (t .some) x (omega (arith, c .size, c .row .most)) rs (λ p. test p view) r (t .every) (share .every) (share .some) stance
               (record { most = c .row .most; tells = c .row .tells });
         })
 
   -- All n reports are counted, at the view that was asked for.
-  pub countedAll : (u : ℕ) → view ≡ u → n ≤ r → (length plans ≡ rowsSize) × SameBelow first plans at × RowTells rs n (λ p. test p u) plans at t
-  countedAll u same over =
+  pub rowAll : (u : ℕ) → view ≡ u → n ≤ r → (length plans ≡ rowsSize) × SameBelow first plans at × RowTells rs n (λ p. test p u) plans at t
+  rowAll u same over =
       let all : r ≡ n = omega (arith, c .within) in
       (c .size, c .same, subst₂ (λ (k v : ℕ). RowTells rs k (λ p. test p v) plans at t) all same (c .row))
-
--- A row stays where what lies behind it is written.
-pub rowKept : (rs : Reports) (n : ℕ) (test : ℕ → Report → Bool) (before after : List ℕ) (at end : ℕ) (t : Tally) → SameBelow before after end
-    → at + t .some ≤ end
-    → RowTells rs n test before at t → RowTells rs n test after at t
-rowKept rs n test before after at end t same low row = record {
-  most = row .most;
-  tells = λ p. ap (λ (c : ℕ). t .every + c) (countSame before after at (t .some) p (λ r (less : r < t .some). same (at + r) (omega arith))) ∙ row .tells p;
-}

@@ -24,7 +24,7 @@ use Rattle.rules.proofs.Views.{Falls, viewsAre}
 use Rattle.claims.specs.Carried.{Grows}
 use Rattle.claims.specs.inside.Spans.{
   covering,
-  ending,
+  standsAt,
   covered,
   coveredViews,
   highestTo,
@@ -123,9 +123,9 @@ module _ (spans : List ℕ) (n f : ℕ) where
   }
 
   -- One vault more of those that come in at a candidate: what the loop adds to the count that is carried down to it.
-  pub locksMore : (t k locks count share : ℕ) → count ≡ locks + weigh (λ i. 1) (ending spans t) k → share ≡ cond (ending spans t k) 1 0
-      → count + share ≡ locks + weigh (λ i. 1) (ending spans t) (k + 1)
-  locksMore t k locks count share is adds = omega (arith, weighMore (λ i. 1) (ending spans t) k)
+  pub locksMore : (t k locks count share : ℕ) → count ≡ locks + weigh (λ i. 1) (standsAt spans t) k → share ≡ cond (standsAt spans t k) 1 0
+      → count + share ≡ locks + weigh (λ i. 1) (standsAt spans t) (k + 1)
+  locksMore t k locks count share is adds = omega (arith, weighMore (λ i. 1) (standsAt spans t) k)
 
   module _ (v t locks : ℕ) (c : LocksCarried spans n f v t locks) where
     -- There is no candidate left: too few have a lock above view 0.
@@ -138,11 +138,11 @@ module _ (spans : List ℕ) (n f : ℕ) where
         over : f < covers 0 → ⊥
         over more = let at : locks ≡ covers 0 = c .are ∙ ap covers none in omega (arith, c .few)
 
-    module _ (there : 0 < t) (all : ℕ) (count : all ≡ locks + weigh (λ i. 1) (ending spans t) n) where
+    module _ (there : 0 < t) (all : ℕ) (count : all ≡ locks + weigh (λ i. 1) (standsAt spans t) n) where
       -- Those whose span ends at t have come in: the count is that of all whose lock is above view t - 1.
       pub locksCounted : all ≡ covers (t - 1)
       locksCounted =
-          count ∙ ap (λ (x : ℕ). x + weigh (λ i. 1) (ending spans t) n) (c .are) ∙ sym (endsJoin (λ i. 1) (λ i. getD spans i 0) n t there)
+          count ∙ ap (λ (x : ℕ). x + weigh (λ i. 1) (standsAt spans t) n) (c .are) ∙ sym (endsJoin (λ i. 1) (λ i. getD spans i 0) n t there)
 
       -- They are enough: view t - 1 is the highest with enough, as too few have a lock above view t.
       pub locksFound : leb (f + 1) all ≡ true → t ≡ coveredViews spans n f v

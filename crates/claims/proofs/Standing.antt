@@ -21,8 +21,8 @@ use Rattle.claims.specs.Carried.{claimers, comingIn}
 use Rattle.claims.specs.Table.{column, reporter, reportsInTable}
 use Rattle.claims.specs.declared.Coming.{Coming}
 use Rattle.claims.specs.inside.Rows.{countOf}
-use Rattle.claims.specs.inside.Spans.{AreSpans}
-use Rattle.claims.specs.inside.Walk.{reachIn, claimEnd, level, votedIn, otherPlan, ownLevel, otherLevel, standing, standsAt}
+use Rattle.claims.specs.inside.Spans.{standsAt, AreSpans}
+use Rattle.claims.specs.inside.Walk.{reachIn, claimEnd, level, votedIn, otherPlan, ownLevel, otherLevel, standing}
 use Rattle.claims.specs.inside.Walk.{InOrder, othersOf, comingFor, downFrom, LaidOut, Told}
 use Rattle.claims.proofs.Carried.{weighJoin}
 use Rattle.claims.proofs.Rows.{viewIn, viewForIn, countNone, countMore}

@@ -20,10 +20,11 @@ use Rattle.claims.proofs.Carried.{carriedCount}
 use Rattle.claims.proofs.Rows.{countNone, countSame, putKeeps, putCounts}
 use Rattle.claims.proofs.Standing.{listsMost, countJoin, countRest}
 use Rattle.claims.specs.inside.Rows.{rowsSize, countOf, SameBelow}
+use Rattle.claims.specs.inside.Spans.{standsAt}
 use Rattle.claims.specs.declared.Coming.{Coming}
 use Rattle.claims.specs.declared.Search.{Search}
 use Rattle.claims.specs.Carried.{claimers, comingIn, carried}
-use Rattle.claims.specs.inside.Walk.{votedIn, standsAt, Listed, InOrder, othersOf, comingFor, FitsComing, endAt, endOf, comingAt}
+use Rattle.claims.specs.inside.Walk.{votedIn, Listed, InOrder, othersOf, comingFor, FitsComing, endAt, endOf, comingAt}
 use Rattle.claims.specs.inside.Walk.{counted, claimedIn, servingView, downFrom, LaidOut, Told, Walked}
 use Rattle.claims.specs.Table.{column}
 

@@ -7,8 +7,9 @@ ghost use lib.Dec.{leb, eqb};
 ghost use lib.ListN.{length, set};
 ghost use Rattle.rules.specs.Sets.{weigh};
 ghost use Rattle.claims.specs.inside.Rows.{rowsSize, forPlan, FitsRow, added, SameBelow};
-ghost use Rattle.claims.specs.inside.Spans.{coveredViews, highestTo, Within, AreSpans};
-ghost use Rattle.claims.specs.inside.Walk.{reachIn, claimEnd, otherPlan, standing, standsAt, Listed, InOrder, othersOf, FitsComing, endAt, endOf, comingAt, claimedIn, servingView, Told};
+ghost use Rattle.claims.specs.inside.Spans.{standsAt, coveredViews, highestTo, Within, AreSpans};
+ghost use Rattle.claims.specs.inside.Walk.{reachIn, claimEnd, otherPlan, standing, Listed, InOrder, othersOf};
+ghost use Rattle.claims.specs.inside.Walk.{FitsComing, endAt, endOf, comingAt, claimedIn, servingView, Told};
 ghost use Rattle.claims.specs.Table.{column, tableSize, reporter, reportsInTable};
 
 // The places of a column, one for each vault, and of the table.
@@ -79,6 +80,13 @@ pub fn larger(a: u32, b: u32) -> u32
     ensures { λ r. ⌜ r ≡ max a b ⌝ }
 {
     if a < b { b } else { a }
+}
+
+// What a vault adds to those that stand at k: its number is its standing in the row of claims, and the end of its span in the search over locks.
+fn share_at(s: u32, k: u32) -> u32
+    ensures { λ c. ⌜ c ≡ cond (eqb s k) 1 0 ⌝ }
+{
+    if s == k { 1 } else { 0 }
 }
 
 // Whether vault r has reported.
@@ -186,13 +194,6 @@ fn standings<'a>(table: &'a [u64], n: usize, u: u32, end: u32) -> [u32; COLUMN]
 
 // ---- the row of claims
 
-// What a vault adds to those that stand at k.
-fn standing_share(s: u32, k: u32) -> u32
-    ensures { λ c. ⌜ c ≡ cond (eqb s k) 1 0 ⌝ }
-{
-    if s == k { 1 } else { 0 }
-}
-
 // How many stand at k.
 fn count_at<'a>(standings: &'a [u32], n: usize, k: u32) -> usize
     requires { ⌜ (n ≤ column) × (length (now standings) ≡ column) ⌝ }
@@ -201,7 +202,7 @@ fn count_at<'a>(standings: &'a [u32], n: usize, k: u32) -> usize
     let mut count: u32 = 0;
     let mut r: usize = 0;
     while r < n {
-        count += standing_share(standings[r], k);
+        count += share_at(standings[r], k);
         r += 1;
     }
     count as usize
@@ -224,7 +225,7 @@ fn list_at<'a>(
     let mut r: usize = 0;
     while count < total {
         plans[from + count] = table[VOTED + r];
-        count += standing_share(standings[r], k) as usize;
+        count += share_at(standings[r], k) as usize;
         r += 1;
     }
     count
@@ -411,13 +412,6 @@ fn highest_to<'a>(spans: &'a [u32], n: usize, w: u32) -> u32
     best
 }
 
-// What a vault adds to those whose span ends at the candidate: they come in there, with a lock above its last view.
-fn end_share(t: u32, end: u32) -> u32
-    ensures { λ c. ⌜ c ≡ cond (eqb t end) 1 0 ⌝ }
-{
-    if t == end { 1 } else { 0 }
-}
-
 // The lowest view that fewer than f + 1 of the spans cover, downwards from v: some quorum has no lock above it.
 // Between two ends of spans the same spans cover a view, so the candidates are the ends. The count is carried down the candidates: a lock
 // above a view is above every lower view, so at each candidate only those come in whose span ends there, and each vault is counted once.
@@ -439,7 +433,7 @@ pub fn lowest_cleared<'a>(spans: &'a [u32], n: usize, f: usize, v: u32) -> u32
                 }
                 break 'reporters;
             }
-            locks += end_share(spans[r], t);
+            locks += share_at(spans[r], t);
             r += 1;
         }
         t = highest_to(spans, n, t - 1);

@@ -5,7 +5,7 @@ use Prim.Native.Nat.{_-_, _≤_}
 use mathlib.Core.Path.{_≡_, sym, _∙_, ap}
 use native.Mathlib.Omega.{arith}
 use borrow.Author.Needs.{needs}
-use Rattle.claims.specs.inside.Walk.{standsAt}
+use Rattle.claims.specs.inside.Spans.{standsAt}
 use Rattle.rules.proofs.Quorums.{weighNone, weighStep, shareMost}
 use Rattle.rules.specs.Sets.{weigh}
 use Rattle.claims.proofs.count_at.Statement.{statement}
@@ -20,20 +20,20 @@ abbrev μ-loop : tie.MeasureT-loop
 loop-holds : tie.Need-loop-holds Inv-loop μ-loop
 loop-holds c = (omega arith, omega arith, sym (weighNone _ _))
 
-mul-standing-share : tie.Need-mul-standing-share Inv-loop μ-loop
-mul-standing-share c = search needs
+mul-share-at : tie.Need-mul-share-at Inv-loop μ-loop
+mul-share-at c = search needs
 
-shared-slice-read-standing-share : tie.Need-shared-slice-read-standing-share Inv-loop μ-loop
-shared-slice-read-standing-share c = search needs
+shared-slice-read-share-at : tie.Need-shared-slice-read-share-at Inv-loop μ-loop
+shared-slice-read-share-at c = search needs
 
-standing-share-requires : tie.Need-standing-share-requires Inv-loop μ-loop
-standing-share-requires c κs = search needs
+share-at-requires : tie.Need-share-at-requires Inv-loop μ-loop
+share-at-requires c κs = search needs
 
 add-count : tie.Need-add-count Inv-loop μ-loop
 add-count c =
     let a = c .before .before .before .before .before .args in
     let at = c .before .before .before .loop in
-    omega (arith, shareMost (standsAt (a .standings .now) (a .k) (at .r)) 1 (c .standing-share .result) (c .standing-share .ensures))
+    omega (arith, shareMost (standsAt (a .standings .now) (a .k) (at .r)) 1 (c .share-at .result) (c .share-at .ensures))
 
 add-r : tie.Need-add-r Inv-loop μ-loop
 add-r c = search needs
@@ -45,7 +45,7 @@ loop-again : tie.Need-loop-again Inv-loop μ-loop
 loop-again c =
     let a = c .before .before .before .before .before .args in
     let at = c .before .before .before .loop in
-    let share = c .standing-share in
+    let share = c .share-at in
     let most : share .result ≤ 1 = shareMost (standsAt (a .standings .now) (a .k) (at .r)) 1 (share .result) (share .ensures) in
     (omega arith, omega arith, weighStep (λ i. 1) (standsAt (a .standings .now) (a .k)) (at .r) (at .count) (share .result) (at .inv .2) (share .ensures))
 
@@ -66,9 +66,9 @@ count-at-spec =
     Inv-loop
     μ-loop
     loop-holds
-    mul-standing-share
-    shared-slice-read-standing-share
-    standing-share-requires
+    mul-share-at
+    shared-slice-read-share-at
+    share-at-requires
     add-count
     add-r
     loop-less

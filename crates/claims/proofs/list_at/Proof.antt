@@ -5,7 +5,7 @@ use Prim.Native.Nat.{_-_, _<_}
 use native.Mathlib.Omega.{arith}
 use borrow.Author.Needs.{needs}
 use Rattle.claims.proofs.Walk.{Listing, listingNone, listingMost, listingMore, listingLeft, listingAll}
-use Rattle.claims.specs.inside.Walk.{standsAt}
+use Rattle.claims.specs.inside.Spans.{standsAt}
 use Rattle.rules.proofs.Quorums.{shareMost}
 use Rattle.claims.proofs.list_at.Statement.{statement}
 use Rattle.claims.proofs.list_at.Tie as tie
@@ -44,14 +44,14 @@ mul-plans-2 c = omega (arith, left (c .before), listingMost (c .before .before .
 slice-write-plans : tie.Need-slice-write-plans Inv-loop μ-loop
 slice-write-plans c = omega (arith, left (c .before), listingMost (c .before .before .loop .inv), c .before .before .loop .inv .size)
 
-mul-standing-share : tie.Need-mul-standing-share Inv-loop μ-loop
-mul-standing-share c = omega (arith, left (c .before))
+mul-share-at : tie.Need-mul-share-at Inv-loop μ-loop
+mul-share-at c = omega (arith, left (c .before))
 
-shared-slice-read-standing-share : tie.Need-shared-slice-read-standing-share Inv-loop μ-loop
-shared-slice-read-standing-share c = omega (arith, left (c .before .before))
+shared-slice-read-share-at : tie.Need-shared-slice-read-share-at Inv-loop μ-loop
+shared-slice-read-share-at c = omega (arith, left (c .before .before))
 
-standing-share-requires : tie.Need-standing-share-requires Inv-loop μ-loop
-standing-share-requires c κs = search needs
+share-at-requires : tie.Need-share-at-requires Inv-loop μ-loop
+share-at-requires c κs = search needs
 
 cast-count : tie.Need-cast-count Inv-loop μ-loop
 cast-count c = search needs
@@ -60,7 +60,7 @@ add-count : tie.Need-add-count Inv-loop μ-loop
 add-count c =
     let at = c .before .before .before .before in
     let a = at .before .before .before .before .before .args in
-    let share = c .standing-share in
+    let share = c .share-at in
     omega (
       arith,
       left (c .before .before .before),
@@ -78,7 +78,7 @@ loop-again : tie.Need-loop-again Inv-loop μ-loop
 loop-again c =
     let at = c .before .before .before .before in
     let entry = at .before .before .before .before .before in
-    listingMore (at .loop .inv) (left (c .before .before .before)) (entry .pre .2) (entry .pre .4) _ (c .standing-share .ensures)
+    listingMore (at .loop .inv) (left (c .before .before .before)) (entry .pre .2) (entry .pre .4) _ (c .share-at .ensures)
 
 same-length : tie.Need-same-length Inv-loop μ-loop
 same-length c = search needs
@@ -100,9 +100,9 @@ list-at-spec =
     add-plans-2
     mul-plans-2
     slice-write-plans
-    mul-standing-share
-    shared-slice-read-standing-share
-    standing-share-requires
+    mul-share-at
+    shared-slice-read-share-at
+    share-at-requires
     cast-count
     add-count
     add-r

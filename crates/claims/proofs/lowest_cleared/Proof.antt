@@ -7,7 +7,7 @@ use Prim.Native.Nat.{ℕ, _+_, _-_, _≤_}
 use mathlib.Core.Path.{_≡_, sym, _∙_, ap}
 use native.Mathlib.Omega.{arith}
 use borrow.Author.Needs.{needs}
-use Rattle.claims.specs.inside.Spans.{ending, covering, LocksCarried}
+use Rattle.claims.specs.inside.Spans.{covering, standsAt, LocksCarried}
 use Rattle.claims.specs.Table.{column}
 use Rattle.claims.proofs.Spans.{highestLow, locksFirst, locksMore, locksFound, locksNext, locksNone}
 use Rattle.rules.specs.Sets.{weigh}
@@ -16,7 +16,7 @@ use Rattle.claims.proofs.lowest_cleared.Statement.{statement}
 use Rattle.claims.proofs.lowest_cleared.Tie as tie
 
 abbrev Inv-reporters : tie.InvT-reporters
-Inv-reporters spans n f v t locks₀ r₀ locks r = (r ≤ n) × (locks ≤ locks₀ + r) × (locks ≡ locks₀ + weigh (λ i. 1) (ending spans t) r) × (locks₀ ≤ column)
+Inv-reporters spans n f v t locks₀ r₀ locks r = (r ≤ n) × (locks ≤ locks₀ + r) × (locks ≡ locks₀ + weigh (λ i. 1) (standsAt spans t) r) × (locks₀ ≤ column)
 
 abbrev μ-reporters : tie.MeasureT-reporters
 μ-reporters spans n f v t locks₀ r₀ locks r = n - r
@@ -41,7 +41,7 @@ reporters-holds c =
     let entry = c .before .before .before .before in
     let a = entry .args in
     let at = c .before .views in
-    let none = weighNone (λ i. 1) (ending (a .spans .now) (at .t)) in
+    let none = weighNone (λ i. 1) (standsAt (a .spans .now) (at .t)) in
     let most = weighMost (covering (a .spans .now) (at .t)) (a .n) in
     (omega arith, omega arith, omega (arith, none), omega (arith, most, at .inv .are, entry .pre .0))
 
@@ -51,22 +51,22 @@ cast-is-blocking c = search needs
 is-blocking-requires : tie.Need-is-blocking-requires Inv-reporters μ-reporters Inv-views μ-views
 is-blocking-requires c κs = search needs
 
-mul-end-share : tie.Need-mul-end-share Inv-reporters μ-reporters Inv-views μ-views
-mul-end-share c = search needs
+mul-share-at : tie.Need-mul-share-at Inv-reporters μ-reporters Inv-views μ-views
+mul-share-at c = search needs
 
-shared-slice-read-end-share :
-    tie.Need-shared-slice-read-end-share Inv-reporters μ-reporters Inv-views μ-views
-shared-slice-read-end-share c = search needs
+shared-slice-read-share-at :
+    tie.Need-shared-slice-read-share-at Inv-reporters μ-reporters Inv-views μ-views
+shared-slice-read-share-at c = search needs
 
-end-share-requires : tie.Need-end-share-requires Inv-reporters μ-reporters Inv-views μ-views
-end-share-requires c κs = search needs
+share-at-requires : tie.Need-share-at-requires Inv-reporters μ-reporters Inv-views μ-views
+share-at-requires c κs = search needs
 
 add-locks : tie.Need-add-locks Inv-reporters μ-reporters Inv-views μ-views
 add-locks c =
     let at = c .before .before .before in
     let a = at .before .before .before .before .before .args in
-    let share = c .end-share in
-    omega (arith, shareMost (ending (a .spans .now) (at .before .before .views .t) (at .reporters .r)) 1 (share .result) (share .ensures))
+    let share = c .share-at in
+    omega (arith, shareMost (standsAt (a .spans .now) (at .before .before .views .t) (at .reporters .r)) 1 (share .result) (share .ensures))
 
 add-r : tie.Need-add-r Inv-reporters μ-reporters Inv-views μ-views
 add-r c = search needs
@@ -80,9 +80,9 @@ reporters-again c =
     let a = at .before .before .before .before .before .args in
     let t = at .before .before .views .t in
     let locks = at .before .before .views .locks in
-    let share = c .end-share in
+    let share = c .share-at in
     let inv = at .reporters .inv in
-    let most = shareMost (ending (a .spans .now) t (at .reporters .r)) 1 (share .result) (share .ensures) in (
+    let most = shareMost (standsAt (a .spans .now) t (at .reporters .r)) 1 (share .result) (share .ensures) in (
       omega arith,
       omega (arith, most),
       locksMore (a .spans .now) (a .n) (a .f) t (at .reporters .r) locks (at .reporters .locks) (share .result) (inv .2) (share .ensures),
@@ -110,10 +110,10 @@ entry c = tried c .before .before .before
 
 -- All whose span ends at the candidate have come in.
 counted : (c : tie.After-is-blocking Inv-reporters μ-reporters Inv-views μ-views)
-    → c .before .before .reporters .locks ≡ tried c .views .locks + weigh (λ i. 1) (ending (entry c .args .spans .now) (tried c .views .t)) (entry c .args .n)
+    → c .before .before .reporters .locks ≡ tried c .views .locks + weigh (λ i. 1) (standsAt (entry c .args .spans .now) (tried c .views .t)) (entry c .args .n)
 counted c =
     let last = c .before .before .reporters in
-    last .inv .2 ∙ ap (λ (k : ℕ). tried c .views .locks + weigh (λ i. 1) (ending (entry c .args .spans .now) (tried c .views .t)) k) (c .before .if2 .taken)
+    last .inv .2 ∙ ap (λ (k : ℕ). tried c .views .locks + weigh (λ i. 1) (standsAt (entry c .args .spans .now) (tried c .views .t)) k) (c .before .if2 .taken)
 
 views-again : tie.Need-views-again Inv-reporters μ-reporters Inv-views μ-views
 views-again c =
@@ -151,9 +151,9 @@ lowest-cleared-spec =
     reporters-holds
     cast-is-blocking
     is-blocking-requires
-    mul-end-share
-    shared-slice-read-end-share
-    end-share-requires
+    mul-share-at
+    shared-slice-read-share-at
+    share-at-requires
     add-locks
     add-r
     reporters-less

@@ -15,9 +15,9 @@ use Rattle.claims.specs.Carried.{Descends, comingIn, carried}
 abbrev pub covering : List ℕ → ℕ → Set
 covering spans u i = ltb u (getD spans i 0)
 
--- Those whose span ends at t: view t - 1 is its last.
-abbrev pub ending : List ℕ → ℕ → Set
-ending spans t i = eqb (getD spans i 0) t
+-- The vaults that stand at k, by a list with a number for each: their span ends at k, so that view k - 1 is its last, or their standing is k.
+abbrev pub standsAt : List ℕ → ℕ → Set
+standsAt numbers k i = eqb (getD numbers i 0) k
 
 -- Those of whose spans view u is one are f + 1 or more of n: no quorum is without a lock above u.
 unfoldable pub covered : List ℕ → ℕ → ℕ → ℕ → Bool

@@ -7,11 +7,12 @@ use mathlib.Core.Option.{Option, none, some}
 use mathlib.Core.List.{List}
 use lib.Dec.{leb, ltb, eqb}
 use lib.ListN.{getD}
-use Rattle.rules.specs.Sets.{Set, weigh}
+use Rattle.rules.specs.Sets.{weigh}
 use Rattle.rules.specs.Rules.{Report, Reports, reach}
 use Rattle.claims.specs.declared.Coming.{Coming}
 use Rattle.claims.specs.declared.Search.{Search}
 use Rattle.claims.specs.inside.Rows.{countOf}
+use Rattle.claims.specs.inside.Spans.{standsAt}
 use Rattle.claims.specs.Carried.{claimers, comingIn, carried}
 use Rattle.claims.specs.Table.{column, reportsInTable}
 
@@ -48,10 +49,6 @@ otherLevel t u end i = level u end (otherPlan (votedIn t i)) (reportsInTable t i
 -- 4 for its own in both, 3 for every plan at u, 2 for its own at u.
 unfoldable pub standing : List ℕ → ℕ → ℕ → ℕ → ℕ
 standing t u end i = ownLevel t u end i + ownLevel t u end i + otherLevel t u end i
-
--- The vaults that stand at k.
-abbrev pub standsAt : List ℕ → ℕ → Set
-standsAt standings k i = eqb (getD standings i 0) k
 
 -- The plans of the first n vaults that stand at k lie end to end, from a place on.
 pub record Listed (t standings : List ℕ) (n k : ℕ) (plans : List ℕ) (from count : ℕ) : Type 0 where

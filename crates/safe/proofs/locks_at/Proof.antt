@@ -1,11 +1,11 @@
 -- `safe::locks_at` meets its contract.
--- The row tells of the first r reports, and what lies below it is as it was; `countedMore` adds a report.
+-- The row tells of the first r reports, and what lies below it is as it was; `rowMore` adds a report.
 -- Assumes nothing.
 use Prim.Native.Nat.{_-_}
 use mathlib.Core.Path.{refl}
 use native.Mathlib.Omega.{arith}
 use borrow.Author.Needs.{needs}
-use Rattle.claims.proofs.Rows.{Counted, countedNone, countedFits, countedMore, countedAll}
+use Rattle.claims.proofs.Rows.{RowCounted, rowNone, rowFits, rowMore, rowAll}
 use Rattle.claims.specs.Table.{reportsInTable}
 use Rattle.rules.specs.Rules.{allows}
 use Rattle.safe.specs.inside.Searches.{lockRow}
@@ -13,13 +13,13 @@ use Rattle.safe.proofs.locks_at.Statement.{statement}
 use Rattle.safe.proofs.locks_at.Tie as tie
 
 abbrev Inv-loop : tie.InvT-loop
-Inv-loop table n u plans₀ view tally₀ r₀ plans tally r = Counted (reportsInTable table) allows view n lockRow plans₀ plans tally r
+Inv-loop table n u plans₀ view tally₀ r₀ plans tally r = RowCounted (reportsInTable table) allows view n lockRow plans₀ plans tally r
 
 abbrev μ-loop : tie.MeasureT-loop
 μ-loop table n u plans₀ view tally₀ r₀ plans tally r = n - r
 
 loop-holds : tie.Need-loop-holds Inv-loop μ-loop
-loop-holds c = countedNone _ _ _ _ _ _ (c .before .before .pre .2)
+loop-holds c = rowNone _ _ _ _ _ _ (c .before .before .pre .2)
 
 allow-share-requires : tie.Need-allow-share-requires Inv-loop μ-loop
 allow-share-requires c κs = search needs
@@ -38,7 +38,7 @@ add-share-requires c κs =
     let share = c .before .before in
     let at = share .before .before in
     let pre = at .before .before .before .pre in
-    countedFits (at .loop .inv) _ _ (share .allow-share .ensures) (share .before .loop-test .taken) (pre .1) (omega arith)
+    rowFits (at .loop .inv) _ _ (share .allow-share .ensures) (share .before .loop-test .taken) (pre .1) (omega arith)
 
 add-r : tie.Need-add-r Inv-loop μ-loop
 add-r c = search needs
@@ -52,13 +52,13 @@ loop-again c =
     let share = c .before .before .before .before .before in
     let at = share .before .before in
     let pre = at .before .before .before .pre in
-    countedMore (at .loop .inv) _ _ (share .allow-share .ensures) (share .before .loop-test .taken) (pre .1) (omega arith) _ _ (put .0) (put .1)
+    rowMore (at .loop .inv) _ _ (share .allow-share .ensures) (share .before .loop-test .taken) (pre .1) (omega arith) _ _ (put .0) (put .1)
 
 same-length : tie.Need-same-length Inv-loop μ-loop
 same-length c = search needs
 
 returns : tie.Need-returns Inv-loop μ-loop
-returns c = countedAll (c .before .loop .inv) _ refl (omega arith)
+returns c = rowAll (c .before .loop .inv) _ refl (omega arith)
 
 pub locks-at-spec : {M : Type 1} → statement M
 locks-at-spec =
