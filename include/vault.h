@@ -1,4 +1,4 @@
-/* A TetraBFT vault for hosts in C, C++ and Rust: the calls of libvault_c.a (`rt staticlib vault_c`).
+/* A TetraBFT vault for hosts in C, C++ and Rust, and for the desk that helps them: the calls of libvault_c.a (`rt staticlib vault_c`).
  *
  * A host keeps one record of VAULT_RECORD_SIZE bytes for each vault, and lends it to every call together with an output of at least
  * VAULT_OUTPUT_SIZE bytes. A call keeps nothing between calls, allocates nothing, reads no clock and sends nothing: what is to be
@@ -61,8 +61,8 @@ extern "C" {
 #endif
 
 #define VAULT_VERSION_MAJOR 1
-#define VAULT_VERSION_MINOR 1
-#define VAULT_VERSION_PATCH 1
+#define VAULT_VERSION_MINOR 2
+#define VAULT_VERSION_PATCH 0
 #define VAULT_VERSION (VAULT_VERSION_MAJOR * 10000 + VAULT_VERSION_MINOR * 100 + VAULT_VERSION_PATCH)
 
 #define VAULT_RECORD_SIZE 11703   /* bytes of a record */
@@ -75,6 +75,8 @@ extern "C" {
 #define VAULT_STACK_SIZE 49152    /* no call needs more stack */
 #define VAULT_FEWEST 4            /* n is at least this */
 #define VAULT_MOST 64             /* and at most this */
+#define VAULT_FEWEST_RECORDS 2    /* vault_equivocators takes at least so many records */
+#define VAULT_MOST_RECORDS 64     /* and at most so many */
 
 /* Refusals. They are tested in the order of their numbers, but 21 and 22 between 14 and 15. */
 enum vault_refusal {
@@ -98,7 +100,8 @@ enum vault_refusal {
     VAULT_REFUSED_TIMER = 18,     /* timer: the view is not the current one */
     VAULT_REFUSED_LAST_VIEW = 19, /* timer: the current view is the last one, 4294967295 */
     VAULT_REFUSED_REPORT_VIEW = 21, /* frame: a report that is present, the lock too, is for the frame's view or a higher one */
-    VAULT_REFUSED_PREVIOUS = 22   /* frame: previous is present and highest is not, or previous is not below it or for the same plan */
+    VAULT_REFUSED_PREVIOUS = 22,  /* frame: previous is present and highest is not, or previous is not below it or for the same plan */
+    VAULT_REFUSED_RECORDS = 24    /* equivocators: not 2 to 64 records, one is blank or no sound record, or they differ in n or f */
 };
 
 /* Kinds of frames, byte 0 of a frame, and what follows kind, sender and view. */
@@ -153,6 +156,15 @@ uint32_t vault_current(const uint8_t *record, size_t record_length, uint32_t *ou
 /* Likewise the decision: out[0] is its view, out[1] its plan, and the answer is VAULT_ACCEPTED + 1. Where nothing is decided the answer is
  * VAULT_ACCEPTED, and `out` is unchanged. Refusals as for vault_current. */
 uint32_t vault_decision(const uint8_t *record, size_t record_length, uint64_t *out, size_t out_count);
+
+/* For the desk: names the vaults that spoke twice. The records of one agreement lie end to end in `records`, in any order, and `lengths` has the
+ * length of each. A vault is named where two of the records keep, in its row, votes of one kind (vote-1 to vote-4) and one view for different
+ * plans. Proposals, reports, previous votes and decisions do not count; a record's own row counts like any other. The answer is VAULT_ACCEPTED +
+ * count, and the first count bytes of the output are the numbers of those named, rising, at most n. The records are only read. Where one record
+ * keeps vote-4 of a view for a plan from n - f vaults, and another for another plan, n - 2f vaults or more are named. Refusals, with the
+ * output unchanged: 1, then 24, which is also given where the lengths do not add up to records_length. */
+uint32_t vault_equivocators(const uint8_t *records, size_t records_length, const uint32_t *lengths, size_t lengths_count,
+                            uint8_t *output, size_t output_length);
 
 /* Walks the entries of an output of which output_length bytes were written (the answer less VAULT_ACCEPTED): the length of the entry
  * that begins at `at`, its recipient byte included. 0 at the end, and where no entry begins. */

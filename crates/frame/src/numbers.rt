@@ -65,6 +65,8 @@ pub const REFUSED_REPORT_VIEW: u8 = 21;
 
 pub const REFUSED_PREVIOUS: u8 = 22;
 
+pub const REFUSED_RECORDS: u8 = 24;
+
 // Recipients of an entry that are no vault's number: the host, and all vaults.
 pub const TO_HOST: u8 = 254;
 

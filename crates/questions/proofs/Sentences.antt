@@ -5,6 +5,7 @@ use Prim.Native.String as text
 use mathlib.Core.Path.{_≡_, refl, sym, ap, subst, _∙_}
 use mathlib.Core.Bool.{Bool, true, false, cond, _&&_}
 use mathlib.Core.List.{List, [], _∷_, _++_}
+use native.Mathlib.Decide.{decLt}
 use native.Mathlib.Omega.{arith}
 use lib.Dec.{leb}
 use borrow.Author.Tests.{leb-true, le-leb, lt-leb}
@@ -44,10 +45,19 @@ beyond (x ∷ l) zero h = absurd (omega arith)
 beyond (x ∷ l) (suc number) h = beyond l number (omega arith)
 
 -- Nor has 0 one.
-pub noNumber : (number : ℕ) → (0 < number → 22 < number) → sentenceOf number ≡ []
+pub noNumber : (number : ℕ) → (0 < number → 24 < number) → sentenceOf number ≡ []
 unfolding sentenceOf textBytes
 noNumber zero h = refl
 noNumber (suc k) h = ap textBytes (beyond sentences (suc k) (h (omega arith)))
+
+-- Beyond 22 only 24 has a sentence.
+pub beyondLast : (number : ℕ) → 22 < number → (number ≡ 24 → ⊥) → sentenceOf number ≡ []
+unfolding sentenceOf textBytes
+beyondLast number past other = go (decLt 24 number)
+  where
+    go : Dec (24 < number) → sentenceOf number ≡ []
+    go (yes beyond) = noNumber number (λ h. beyond)
+    go (no within) = let is : number ≡ 23 = omega arith in rw is refl
 
 -- A number that is none of the next four is beyond them. What came before in the match is kept apart, as A.
 pub beyondFour : (number k : ℕ) {A : Type 0} → k < number

@@ -1,4 +1,4 @@
--- A sentence for each refusal of document 01's table and of document 02, wish 1, in ASCII, and what asking for one leaves.
+-- A sentence for each refusal of document 01's table and of document 02, wishes 1 and 5, in ASCII, and what asking for one leaves.
 -- Assumes nothing.
 use Prim.Native.Nat.{ℕ, _≤_}
 use Prim.Native.Char.{code}
@@ -11,7 +11,7 @@ use lib.Dec.{leb}
 use lib.ListN.{length, getD}
 use Rattle.wire.specs.Placed.{placed}
 
--- By number, from 0, which is no refusal: the table's column 'Given if' in plain words.
+-- By number, from 0, which is no refusal: the table's column 'Given if' in plain words. 23 is for lines of a rehearsal, and has none here.
 abbrev pub sentences : List String
 sentences =
     text.[]
@@ -37,6 +37,8 @@ sentences =
     ∷ "the line has no even count of lower-case digits, or more than 90"
     ∷ "a report's view is not below the frame's"
     ∷ "a previous vote without a highest one, not below it, or for the same plan"
+    ∷ text.[]
+    ∷ "there are not 2 to 64 records, one of them is blank or damaged, or they differ in n or f"
     ∷ []
 
 -- The bytes of a text: a letter of ASCII is one byte.

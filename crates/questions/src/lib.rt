@@ -148,7 +148,7 @@ fn frame_text(number: u32, out: &mut [u8]) -> usize
     }
 }
 
-// The sentences of a timer and of a line, then those of a frame's reports.
+// The sentences of a timer and of a line, those of a frame's reports, and that of records handed in.
 fn further_text(number: u32, out: &mut [u8]) -> usize
     requires { ⌜ 17 < number ⌝ }
     ensures { λ r. ⌜ Written (fitting (sentenceOf number) (length (now (out .entry)))) (now (out .entry)) (now (out .exit)) r ⌝ }
@@ -164,6 +164,10 @@ fn further_text(number: u32, out: &mut [u8]) -> usize
         22 => put(
             out,
             b"a previous vote without a highest one, not below it, or for the same plan",
+        ),
+        24 => put(
+            out,
+            b"there are not 2 to 64 records, one of them is blank or damaged, or they differ in n or f",
         ),
         _ => 0,
     }

@@ -22,6 +22,8 @@ use Rattle.protocol.proofs.Size.{outputShort}
 use Rattle.vault.specs.declared.Answer.{Answer as Given}
 use Rattle.vault.specs.declared.Answer.the-variants.{Written, Refused}
 use Rattle.vault.specs.Answers.{leftBy}
+use Rattle.equivocation.specs.Call.{equivocatorsLeft}
+use Rattle.equivocation.proofs.Sentences.{namedRise}
 use Rattle.vault_c.specs.inside.Numbers.{code, Short}
 use Rattle.vault_c.specs.Numbers.{seen, numbered}
 use Rattle.vault_c.proofs.Refusals.{Refusal, Named, Brings, readNamed, answerNamed}
@@ -82,6 +84,13 @@ shortBy (Written count) rec out l e h =
     let few : count ≤ 205 = subst Small (sym e) h in
     omega arith
 shortBy (Refused number) rec out l e h = tt
+
+-- The answer of the call that names vaults is short: it names n at most.
+pub shortNamed : (a : Given) (records lengths out left : List ℕ) → leftBy a records left ≡ equivocatorsLeft records lengths out → Short a
+shortNamed (Written count) records lengths out left e =
+    let few = namedRise records lengths out left count (sym e) in
+    omega (arith, few .0, few .1)
+shortNamed (Refused number) records lengths out left e = tt
 
 -- a host sees the number of the answer, with what the call left
 pub seenBy : (r : ℕ) (a : Given) (rec out : List ℕ) (l : Left) → r ≡ code a → leftBy a rec out ≡ l → seen r rec out ≡ numbered l

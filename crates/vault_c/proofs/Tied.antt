@@ -7,10 +7,12 @@ use mathlib.Core.List.{List}
 use contract.Lifetimes.{Lfts}
 use denote.Ref.{RefT, now, at-last}
 use Rattle.contents.specs.Calls.{startLeft, frameLeft, timerLeft}
+use Rattle.equivocation.specs.Call.{equivocatorsLeft}
 use Rattle.vault_c.specs.Numbers.{seen, numbered}
 use Rattle.vault_c.proofs.vault_start.Reads as ofStart
 use Rattle.vault_c.proofs.vault_frame.Reads as ofFrame
 use Rattle.vault_c.proofs.vault_timer.Reads as ofTimer
+use Rattle.vault_c.proofs.vault_equivocators.Reads as ofEquivocators
 
 -- Start asks for nothing of what it is lent.
 startTakes : (κs : Lfts 2) (r o : RefT (List ℕ)) (n f id class plan : ℕ) → ofStart.Asked κs (r, (n, (f, (id, (class, (plan, (o, tt)))))))
@@ -41,3 +43,13 @@ timerSaid : (κs : Lfts 2) (r o : RefT (List ℕ)) (view number : ℕ) (rec out 
     → ofTimer.Learnt κs (r, (view, (o, tt))) number (at-last r rec, (view, (at-last o out, tt)))
     → seen number rec out ≡ numbered (timerLeft (now r) view (now o))
 timerSaid κs r o view number rec out learnt = learnt
+
+-- So does the call that names vaults.
+equivocatorsTakes : (κs : Lfts 3) (r l o : RefT (List ℕ)) → ofEquivocators.Asked κs (r, (l, (o, tt)))
+equivocatorsTakes κs r l o = tt
+
+-- What the caller of its export learns.
+equivocatorsSaid : (κs : Lfts 3) (r l o : RefT (List ℕ)) (number : ℕ) (out : List ℕ)
+    → ofEquivocators.Learnt κs (r, (l, (o, tt))) number (r, (l, (at-last o out, tt)))
+    → seen number (now r) out ≡ numbered (equivocatorsLeft (now r) (now l) (now o))
+equivocatorsSaid κs r l o number out learnt = learnt

@@ -1,10 +1,11 @@
-// The vault for Rust and C hosts: start, frame and timer over lent bytes, with one number as the answer; questions on a stored record; and
-// help with entries and refusals (include/vault.h).
+// The vault for Rust and C hosts: start, frame and timer over lent bytes, with one number as the answer; questions on a stored record, and on
+// many; and help with entries and refusals (include/vault.h).
 ghost use mathlib.Core.Path.{_≡_};
 ghost use lib.ListN.{length, drop};
 ghost use Rattle.record.specs.Size.{recordSize};
 ghost use Rattle.contents.specs.Calls.{startLeft, frameLeft, timerLeft};
 ghost use Rattle.questions.specs.Stored.{currentOf, decisionOf};
+ghost use Rattle.equivocation.specs.Call.{equivocatorsLeft};
 ghost use Rattle.entry.specs.Walk.{sizeIn};
 ghost use Rattle.questions.specs.Texts.{sentenceOf, fitting, Written};
 ghost use Rattle.vault_c.specs.inside.Numbers.{code, Short};
@@ -25,7 +26,7 @@ const DECIDED: u32 = 257;
 const SHORT: u32 = frame::numbers::REFUSED_OUTPUT as u32;
 
 // Major * 10000 + minor * 100 + patch.
-const VERSION: u32 = 10101;
+const VERSION: u32 = 10200;
 
 // The number that stands for an answer.
 fn number(a: Answer) -> u32
@@ -126,6 +127,15 @@ pub extern "C" fn vault_decision(rec: &[u8], out: &mut [u64]) -> u32
         Decision::Open => ACCEPTED,
         Decision::Refused(number) => number as u32,
     }
+}
+
+// Names the vaults that spoke twice in records that lie end to end.
+#[no_mangle]
+pub extern "C" fn vault_equivocators(records: &[u8], lengths: &[u32], out: &mut [u8]) -> u32
+    ensures { λ r. ⌜ seen r (now (records .entry)) (now (out .exit)) ≡ numbered (equivocatorsLeft (now (records .entry)) (now (lengths .entry)) (now (out .entry))) ⌝ }
+{
+    let a = equivocation::equivocators(records, lengths, out);
+    number(a)
 }
 
 // How many bytes the entry at a place of an output takes; 0 at the end, and where no whole entry stands there.

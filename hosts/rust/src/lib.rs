@@ -134,6 +134,12 @@ impl Record {
     }
 }
 
+impl AsRef<[u8]> for Record {
+    fn as_ref(&self) -> &[u8] {
+        &self.0[..]
+    }
+}
+
 impl From<[u8; RECORD_SIZE]> for Record {
     fn from(bytes: [u8; RECORD_SIZE]) -> Record {
         Record(Box::new(bytes))
@@ -152,6 +158,35 @@ impl TryFrom<&[u8]> for Record {
 impl std::fmt::Debug for Record {
     fn fmt(&self, f: &mut std::fmt::Formatter<'_>) -> std::fmt::Result {
         f.debug_struct("Record").finish_non_exhaustive()
+    }
+}
+
+/// For the desk: the vaults that spoke twice, by rising number. Each of them has, in its row of two of the records, votes of one kind and one
+/// view for different plans, and nobody who has is missed. The records are those of one agreement, 2 to 64 of them, of any of its vaults and of any
+/// moments, in any order; bytes of any length may be given. Refusal: `Records`.
+///
+/// ```
+/// use vault::{equivocators, Record, Settings, Vault};
+///
+/// // Vault 1 told vault 0 that it votes for plan 7, and vault 3 that it votes for plan 8.
+/// let heard = |id, plan: u8| -> Result<Record, vault::Refusal> {
+///     let mut vault = Vault::new(Record::blank());
+///     vault.start(Settings { n: 4, f: 1, id, class: 0 }, 7)?;
+///     vault.frame(1, &[2, 1, 0, 0, 0, 0, 0, 0, 0, 0, 0, 0, 0, plan])?;
+///     Ok(vault.record().clone())
+/// };
+/// assert_eq!(equivocators(&[heard(0, 7)?, heard(3, 8)?])?, [1]);
+/// # Ok::<(), vault::Refusal>(())
+/// ```
+pub fn equivocators(records: &[impl AsRef<[u8]>]) -> Result<Vec<u8>, Refusal> {
+    let bytes: Vec<u8> = records.iter().flat_map(|record| record.as_ref()).copied().collect();
+    // A length that does not fit is no record's: it is refused either way.
+    let lengths: Vec<u32> = records.iter().map(|record| u32::try_from(record.as_ref().len()).unwrap_or(u32::MAX)).collect();
+    let mut output = [0; OUTPUT_SIZE];
+    let answer = sys::equivocators(&bytes, &lengths, &mut output);
+    match answer.checked_sub(ACCEPTED) {
+        Some(count) => Ok(output[..count as usize].to_vec()),
+        None => Err(refusal(answer)),
     }
 }
 

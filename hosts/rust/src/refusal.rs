@@ -52,19 +52,21 @@ pub enum Refusal {
     ReportView = 21,
     /// 22: frame: a previous vote without a highest one, not below it, or for the same plan.
     Previous = 22,
+    /// 24: equivocators: not 2 to 64 records, one is blank or no sound record, or they differ in n or f.
+    Records = 24,
 }
 
 impl Refusal {
     /// Each refusal, in the order of the numbers.
-    pub const ALL: [Refusal; 21] = {
+    pub const ALL: [Refusal; 22] = {
         use Refusal::*;
         [
             Output, Blank, Unsound, Started, N, F, Id, Class, Kind, Length, Link, Sender, View0, Report, Leader, Over, Kept, Timer, LastView,
-            ReportView, Previous,
+            ReportView, Previous, Records,
         ]
     };
 
-    /// The refusal of a number: 1 to 19, 21 or 22.
+    /// The refusal of a number: 1 to 19, 21, 22 or 24.
     pub fn from_number(number: u32) -> Option<Refusal> {
         Refusal::ALL.into_iter().find(|refusal| u32::from(refusal.number()) == number)
     }

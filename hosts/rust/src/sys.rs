@@ -29,6 +29,14 @@ mod raw {
         pub fn vault_timer(record: *mut u8, record_length: usize, view: u32, output: *mut u8, output_length: usize) -> u32;
         pub fn vault_current(record: *const u8, record_length: usize, out: *mut u32, out_count: usize) -> u32;
         pub fn vault_decision(record: *const u8, record_length: usize, out: *mut u64, out_count: usize) -> u32;
+        pub fn vault_equivocators(
+            records: *const u8,
+            records_length: usize,
+            lengths: *const u32,
+            lengths_count: usize,
+            output: *mut u8,
+            output_length: usize,
+        ) -> u32;
         pub fn vault_entry(output: *const u8, output_length: usize, at: usize) -> u32;
         pub fn vault_refusal_text(number: u32, output: *mut u8, output_length: usize) -> u32;
     }
@@ -65,6 +73,11 @@ pub fn current(record: &[u8], out: &mut [u32]) -> u32 {
 
 pub fn decision(record: &[u8], out: &mut [u64]) -> u32 {
     unsafe { raw::vault_decision(record.as_ptr(), record.len(), out.as_mut_ptr(), out.len()) }
+}
+
+pub fn equivocators(records: &[u8], lengths: &[u32], output: &mut [u8]) -> u32 {
+    let (bytes, count) = (records.as_ptr(), lengths.len());
+    unsafe { raw::vault_equivocators(bytes, records.len(), lengths.as_ptr(), count, output.as_mut_ptr(), output.len()) }
 }
 
 pub fn entry(output: &[u8], at: usize) -> usize {

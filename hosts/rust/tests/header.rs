@@ -20,7 +20,7 @@ fn refusals() {
     let ours: Vec<_> = Refusal::ALL.map(|refusal| (plain(&format!("{refusal:?}")), u32::from(refusal.number()))).into();
     assert_eq!(header, ours);
     assert!(Refusal::ALL.iter().all(|&refusal| Refusal::from_number(u32::from(refusal.number())) == Some(refusal)));
-    assert!([0, 20, 23].iter().all(|&number| Refusal::from_number(number).is_none()));
+    assert!([0, 20, 23, 25].iter().all(|&number| Refusal::from_number(number).is_none()));
 }
 
 /// The support desk reads what the library says.

@@ -1,9 +1,9 @@
--- `questions::further_text` meets its contract: each arm copies the sentence of its number. Beyond 22 there is none.
+-- `questions::further_text` meets its contract: each arm copies the sentence of its number. 23 has none, and beyond 24 there is none.
 -- Assumes nothing.
 use Prim.Native.Nat.{_<_}
 use mathlib.Core.Path.{refl}
 use Rattle.questions.specs.Texts.{textBytes, sentenceOf}
-use Rattle.questions.proofs.Sentences.{said, noNumber, beyondOne, beyondFour, noneSaid}
+use Rattle.questions.proofs.Sentences.{said, beyondLast, beyondOne, beyondFour, noneSaid}
 use borrow.Author.Needs.{needs}
 use Rattle.questions.proofs.further_text.Statement.{statement}
 use Rattle.questions.proofs.further_text.Tie as tie
@@ -37,6 +37,12 @@ slice-aggregate-put-5 c = search needs
 
 put-requires-5 : tie.Need-put-requires-5
 put-requires-5 c κs = search needs
+
+slice-aggregate-put-6 : tie.Need-slice-aggregate-put-6
+slice-aggregate-put-6 c = search needs
+
+put-requires-6 : tie.Need-put-requires-6
+put-requires-6 c κs = search needs
 
 same-length : tie.Need-same-length
 same-length c = search needs
@@ -73,13 +79,20 @@ returns-5 : tie.Need-returns-5
 unfolding sentenceOf textBytes
 returns-5 c = said _ 22 _ _ _ _ (c .before .before .put5 .ensures) (c .before .before .before .before .before .match .keys5) refl
 
+same-length-6 : tie.Need-same-length-6
+same-length-6 c = search needs
+
 returns-6 : tie.Need-returns-6
-returns-6 c =
+unfolding sentenceOf textBytes
+returns-6 c = said _ 24 _ _ _ _ (c .before .before .put6 .ensures) (c .before .before .before .before .before .match .keys6) refl
+
+returns-7 : tie.Need-returns-7
+returns-7 c =
     let number = c .before .before .args .number in
-    let to-22 = c .match .rest in
-    let to-21 = to-22 .0 in
-    let past : 22 < number = beyondOne number 21 (beyondFour number 17 (c .before .before .pre) to-21) to-22 in
-    noneSaid number _ (noNumber number (λ h. past))
+    let to-24 = c .match .rest in
+    let to-22 = to-24 .0 in
+    let past : 22 < number = beyondOne number 21 (beyondFour number 17 (c .before .before .pre) (to-22 .0)) to-22 in
+    noneSaid number _ (beyondLast number past (to-24 .1))
 
 pub further-text-spec : {M : Type 1} → statement M
 further-text-spec =
@@ -95,6 +108,8 @@ further-text-spec =
     put-requires-4
     slice-aggregate-put-5
     put-requires-5
+    slice-aggregate-put-6
+    put-requires-6
     same-length
     returns
     same-length-2
@@ -105,4 +120,6 @@ further-text-spec =
     returns-4
     same-length-5
     returns-5
-    returns-6)
+    same-length-6
+    returns-6
+    returns-7)

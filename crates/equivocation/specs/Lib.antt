@@ -1,0 +1,5 @@
+pub mod Named
+pub mod Call
+pub mod Sentences
+pub mod Examples
+pub mod inside
