@@ -45,7 +45,7 @@ pub fn timer(rec: &mut [u8], view: u32, out: &mut [u8]) -> Result<usize, u8> {
 }
 
 /// 1: output space below 256 bytes
-fn check_output(out: &[u8]) -> Result<(), u8> {
+pub(crate) fn check_output(out: &[u8]) -> Result<(), u8> {
     if out.len() < OUTPUT_LEN {
         return Err(1);
     }

@@ -1,9 +1,12 @@
 //! An independent reference vault. Every function renders a sentence of document 01, or of those
-//! wishes of document 02 that were made (so far wishes 1 to 3); where they are silent the reading
-//! taken is in READINGS.md.
+//! wishes of document 02 that were made (so far wishes 1 to 3 and 5; wish 4 changes no answers);
+//! where they are silent the reading taken is in READINGS.md.
 
 pub mod calls;
+pub mod collection_cover;
+pub mod collections;
 pub mod entry;
+pub mod equivocation;
 pub mod frame;
 pub mod lines;
 pub mod literal;

@@ -113,6 +113,20 @@ impl Driven {
     }
 }
 
+/// The vault's records by contents as a script goes on: after every eighth line, and at the end.
+pub fn records(script: &[u8]) -> Vec<Record> {
+    let mut vault = Driven::default();
+    let mut records = Vec::new();
+    for (number, text) in split_lines(script).into_iter().enumerate() {
+        vault.apply(&read_line(text));
+        if number % 8 == 7 {
+            records.extend(vault.record.as_deref().cloned());
+        }
+    }
+    records.extend(vault.record.as_deref().cloned());
+    records
+}
+
 // ---------------------------------------------------------------------------------------------
 // Coverage.
 

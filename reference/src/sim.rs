@@ -260,6 +260,7 @@ pub struct Network {
     told: fn(u8, &Act),
     /// For output spaces and blank records only, so that all modes see one schedule.
     spaces: Rng,
+    collector: Option<Collector>,
 }
 
 impl Network {
@@ -286,6 +287,7 @@ impl Network {
             wrong: None,
             told: |_, _| {},
             spaces,
+            collector: None,
         }
     }
 
@@ -439,6 +441,7 @@ impl Network {
                     self.keeper_mut(id).plan = plan;
                 }
                 self.absorb(id, &entries, clause);
+                self.collect(id);
                 Ok(())
             }
             Err(refusal) => {
@@ -673,6 +676,14 @@ impl Network {
         }
     }
 
+    /// Hands the collector the record that an accepted call left, where it wants one.
+    fn collect(&mut self, id: u8) {
+        let Some(place) = self.collector.as_mut().and_then(Collector::next_place) else { return };
+        if let (Some(record), Some(collector)) = (self.record(id), &mut self.collector) {
+            collector.put(place, record);
+        }
+    }
+
     // ----- The check.
 
     fn disagreement(&self) -> Option<Wrong> {
@@ -753,6 +764,57 @@ fn blank_bytes(rng: &mut Rng) -> Vec<u8> {
 }
 
 // ---------------------------------------------------------------------------------------------
+// Records collected from a run (02, wish 5).
+
+/// A run's records by contents.
+pub struct Collected {
+    /// The vaults that keep the rules, started or not.
+    pub keepers: Vec<u8>,
+    /// The records of keepers at random moments, each as an accepted call left it, in no order.
+    pub moments: Vec<Record>,
+    /// The records of all started keepers at the end, by vault.
+    pub last: Vec<Record>,
+    pub outcome: Outcome,
+}
+
+/// Keeps at most so many records of a run. Its choices are its own, so that the run stays as it is.
+struct Collector {
+    rng: Rng,
+    most: usize,
+    seen: u64,
+    records: Vec<Record>,
+}
+
+impl Collector {
+    /// Of all moments so far each is kept with the same chance: whether this one is, and where.
+    fn next_place(&mut self) -> Option<usize> {
+        self.seen += 1;
+        let place = self.rng.below(self.seen) as usize;
+        (place < self.most).then_some(place)
+    }
+
+    fn put(&mut self, place: usize, record: Record) {
+        if self.records.len() < self.most {
+            self.records.push(record);
+        } else {
+            self.records[place] = record;
+        }
+    }
+}
+
+/// `run`, with the records of at most so many moments, and those of the end.
+pub fn run_collected(setup: &Setup, moments: usize) -> Collected {
+    let mut director = Director::new(setup);
+    let rng = Rng(!setup.seed);
+    director.net.collector = Some(Collector { rng, most: moments, seen: 0, records: Vec::new() });
+    director.perform(setup.style);
+    let mut net = director.net;
+    let last = net.keepers().into_iter().filter_map(|id| net.record(id)).collect();
+    let moments = net.collector.take().map_or(Vec::new(), |collector| collector.records);
+    Collected { keepers: net.keepers(), moments, last, outcome: net.finish() }
+}
+
+// ---------------------------------------------------------------------------------------------
 // The adversary.
 
 /// The shape of a schedule.
@@ -796,16 +858,7 @@ pub fn run(setup: &Setup) -> Outcome {
 pub fn run_told(setup: &Setup, told: fn(u8, &Act)) -> Outcome {
     let mut director = Director::new(setup);
     director.net.told = told;
-    director.start_vaults(setup.style);
-    match setup.style {
-        Style::Rounds => director.rounds(),
-        Style::Feints => director.feints(),
-        Style::Partitions => director.partitions(),
-        Style::Chaos => director.chaos(),
-        Style::Camps => director.camps(false),
-        Style::OlderRecord => director.camps(true),
-        Style::Calm => director.calm(),
-    }
+    director.perform(setup.style);
     director.net.finish()
 }
 
@@ -856,6 +909,19 @@ impl Director {
             rng,
             plans,
             waiting: Vec::new(),
+        }
+    }
+
+    fn perform(&mut self, style: Style) {
+        self.start_vaults(style);
+        match style {
+            Style::Rounds => self.rounds(),
+            Style::Feints => self.feints(),
+            Style::Partitions => self.partitions(),
+            Style::Chaos => self.chaos(),
+            Style::Camps => self.camps(false),
+            Style::OlderRecord => self.camps(true),
+            Style::Calm => self.calm(),
         }
     }
 
