@@ -4,6 +4,7 @@
 mod calls;
 mod clock;
 mod counts;
+mod equivocation;
 mod folder;
 mod lines;
 mod records;
@@ -67,5 +68,6 @@ fn main() {
     runs::print(&mut summary, &[SIZES[0], SIZES[2]]);
     lines::print(&mut summary);
     counts::print();
+    equivocation::print(&clock, &mut summary, &SIZES);
     summary.print();
 }

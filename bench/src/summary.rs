@@ -14,13 +14,23 @@ pub enum Aim {
     Acting,
     Run,
     Search,
+    /// Who spoke twice: no record is written, so it counts as a quiet call.
+    Twice,
     /// The reference's time over the library's.
     Lines,
 }
 
 impl Aim {
-    const ALL: [Aim; 7] =
-        [Aim::Quiet, Aim::Vain, Aim::Refused, Aim::Acting, Aim::Run, Aim::Search, Aim::Lines];
+    const ALL: [Aim; 8] = [
+        Aim::Quiet,
+        Aim::Vain,
+        Aim::Refused,
+        Aim::Acting,
+        Aim::Run,
+        Aim::Search,
+        Aim::Twice,
+        Aim::Lines,
+    ];
 
     pub fn of(case: &Case) -> Aim {
         match case.class() {
@@ -39,6 +49,7 @@ impl Aim {
             Aim::Acting => "call in which a step acts",
             Aim::Run => "whole run of 4 or of 64 vaults",
             Aim::Search => "slowest search at n = 64",
+            Aim::Twice => "who spoke twice, in 2 to 64 records",
             Aim::Lines => "lines a second, over the reference's",
         }
     }
@@ -46,7 +57,7 @@ impl Aim {
     /// The most of a ratio to the in-place vault; for lines the least of one to the reference.
     fn bound(self) -> f64 {
         match self {
-            Aim::Quiet | Aim::Vain | Aim::Refused => 2.5,
+            Aim::Quiet | Aim::Vain | Aim::Refused | Aim::Twice => 2.5,
             Aim::Acting | Aim::Search => 5.0,
             Aim::Run => 4.0,
             Aim::Lines => 3.0,

@@ -14,9 +14,9 @@ const MOST: usize = 2 * LEN;
 #[derive(Clone, Copy, PartialEq, Eq, Debug)]
 pub enum Harm {
     None,
-    /// The last byte of a decision's entry is another.
+    /// The last byte of a decision's entry is another, or the last name.
     OtherByte,
-    /// A byte beyond the record is read where a call decides.
+    /// A byte beyond the record is read where a call decides, or beyond the records where it names.
     Overrun,
 }
 
@@ -113,8 +113,8 @@ impl Compared {
         let n = usize::from(rec.first().copied().unwrap_or(0)).min(64);
         let in_place = call.on::<InPlace>(rec, out);
         assert!(answer == in_place, "difference: the library answers {answer:?}, the in-place vault {in_place:?}");
-        same("output", lent_out, out);
-        same("record", lent, rec);
+        same("output", lent_out, "in-place vault", out);
+        same("record", lent, "in-place vault", rec);
         self.seen.calls += 1;
         self.seen.sizes[n] += 1;
         match answer {
@@ -125,11 +125,12 @@ impl Compared {
     }
 }
 
-fn same(name: &str, library: &[u8], in_place: &[u8]) {
-    if library != in_place {
-        let place = (0..library.len()).find(|&place| library[place] != in_place[place]).expect("one length");
-        let [ours, theirs] = [library, in_place].map(|bytes| bytes[place]);
-        panic!("difference: byte {place} of the {name} is {ours} by the library, {theirs} by the in-place vault");
+/// The library left what another did, in as many bytes.
+pub fn same(name: &str, library: &[u8], whose: &str, other: &[u8]) {
+    if library != other {
+        let place = (0..library.len()).find(|&place| library[place] != other[place]).expect("one length");
+        let [ours, theirs] = [library, other].map(|bytes| bytes[place]);
+        panic!("difference: byte {place} of the {name} is {ours} by the library, {theirs} by the {whose}");
     }
 }
 
@@ -140,10 +141,13 @@ fn harm(harm: Harm, rec: &[u8], written: &mut [u8]) {
         match harm {
             Harm::None => {}
             Harm::OtherByte => written[at + 13] ^= 1,
-            // SAFETY: none; this is the fault that closed pages are there for.
-            Harm::Overrun => {
-                let _ = unsafe { rec.as_ptr_range().end.read_volatile() };
-            }
+            Harm::Overrun => overrun(rec),
         }
     }
+}
+
+/// Reads the byte beyond what was lent.
+pub fn overrun(lent: &[u8]) {
+    // SAFETY: none; this is the fault that closed pages are there for.
+    let _ = unsafe { lent.as_ptr_range().end.read_volatile() };
 }

@@ -9,6 +9,7 @@ pub mod compared;
 pub mod drive;
 pub mod expected;
 pub mod frames;
+pub mod lists;
 pub mod pages;
 pub mod program;
 pub mod random;

@@ -51,17 +51,19 @@ impl Closed {
         Closed { open, most }
     }
 
-    /// A copy of the bytes at the edge.
-    pub fn lend(&mut self, bytes: &[u8], edge: Edge) -> &mut [u8] {
-        assert!(bytes.len() <= self.most);
+    /// A copy of the numbers at the edge: bytes, or such of which a page holds a whole count.
+    pub fn lend<T: Copy>(&mut self, numbers: &[T], edge: Edge) -> &mut [T] {
+        let bytes = size_of_val(numbers);
+        assert!(bytes <= self.most && PAGE.is_multiple_of(size_of::<T>()));
         let from = match edge {
             Edge::Before => 0,
-            Edge::After => self.most - bytes.len(),
+            Edge::After => self.most - bytes,
         };
-        // SAFETY: the open pages are this value's alone, and they have this length.
-        let open = unsafe { std::slice::from_raw_parts_mut(self.open, self.most) };
-        let lent = &mut open[from..][..bytes.len()];
-        lent.copy_from_slice(bytes);
-        lent
+        let at = self.open.wrapping_add(from).cast();
+        // SAFETY: the open pages are this value's alone, the numbers lie within them, and at both edges their place is a multiple of their size.
+        unsafe {
+            std::ptr::copy_nonoverlapping(numbers.as_ptr(), at, numbers.len());
+            std::slice::from_raw_parts_mut(at, numbers.len())
+        }
     }
 }

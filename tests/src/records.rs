@@ -5,6 +5,7 @@
 //! vote-2 are slots 896 and 897, the decision is slot 898.
 use reference::frame::{Body, Frame, Report};
 use reference::record::{Record, Settings};
+use reference::rng::Rng;
 use reference::{calls, record, scripts};
 
 use crate::text::bytes_of;
@@ -150,6 +151,28 @@ pub fn class(bytes: &[u8]) -> Class {
         Some(record) if record.settings.check().is_ok() && record.sound() => Class::Sound,
         _ => Class::Unsound,
     }
+}
+
+/// Changes one byte of a place that matters: bytes of the right length mostly stay sound or are just no longer so.
+pub fn damage(rng: &mut Rng, bytes: &mut [u8]) {
+    let kept: Vec<usize> = (0..SLOTS).filter(|&slot| bytes[place(slot)] == 1).collect();
+    let slot = if kept.is_empty() || rng.below(3) == 0 { rng.below(SLOTS as u64) as usize } else { rng.pick(&kept) };
+    let (mark, view, plan) = (place(slot), place(slot) + 1, place(slot) + 5);
+    let at = match rng.below(9) {
+        0 => rng.below(LEN as u64) as usize,
+        1 => rng.below(HEAD as u64) as usize,
+        2 => SHARED + rng.below(HEAD as u64) as usize,
+        3 => mark,
+        4 | 5 => view + 3,
+        6 => view + rng.below(4) as usize,
+        _ => plan + 7,
+    };
+    bytes[at] = match rng.below(4) {
+        0 => bytes[at].wrapping_add(1),
+        1 => bytes[at].wrapping_sub(1),
+        2 => rng.below(6) as u8,
+        _ => rng.next() as u8,
+    };
 }
 
 /// Records that accepted calls leave, from line scripts that drive a vault through views.

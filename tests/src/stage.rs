@@ -2,6 +2,7 @@
 use std::sync::atomic::{AtomicPtr, Ordering};
 
 use crate::compared::{add_each, Seen};
+use crate::lists::Named;
 use crate::pages::{self, Edge};
 use crate::sides::Call;
 use crate::text::words_of;
@@ -21,6 +22,11 @@ pub struct Counts {
     pub rehearsals: u64,
     pub rehearsed: u64,
     pub rehearsed_decisions: u64,
+    /// Lists of records, the records in them, the lists that are refused, and the vaults named.
+    pub lists: u64,
+    pub listed: u64,
+    pub lists_refused: u64,
+    pub names: u64,
     /// By n: runs, those in which some vault decided, those in which all that were started did, and decisions.
     pub runs: [u64; 65],
     pub some_decided: [u64; 65],
@@ -44,6 +50,15 @@ impl Counts {
         self.rehearsed += covered.lines;
         let decisions = covered.met.iter().filter(|(name, _)| name.starts_with("decision in "));
         self.rehearsed_decisions += decisions.map(|(_, count)| count).sum::<u64>();
+    }
+
+    pub fn add_list(&mut self, records: usize, named: &Named) {
+        self.lists += 1;
+        self.listed += records as u64;
+        match named {
+            Ok(names) => self.names += names.len() as u64,
+            Err(_) => self.lists_refused += 1,
+        }
     }
 }
 

@@ -5,6 +5,7 @@ mod sys {
         pub fn vault_start(rec: *mut u8, rec_len: usize, n: u8, f: u8, id: u8, class: u8, plan: u64, out: *mut u8, out_len: usize) -> u32;
         pub fn vault_frame(rec: *mut u8, rec_len: usize, link: u8, bytes: *const u8, len: usize, out: *mut u8, out_len: usize) -> u32;
         pub fn vault_timer(rec: *mut u8, rec_len: usize, view: u32, out: *mut u8, out_len: usize) -> u32;
+        pub fn vault_equivocators(recs: *const u8, recs_len: usize, lens: *const u32, count: usize, out: *mut u8, out_len: usize) -> u32;
     }
 }
 
@@ -31,4 +32,14 @@ pub fn frame(rec: &mut [u8], link: u8, bytes: &[u8], out: &mut [u8]) -> Result<u
 
 pub fn timer(rec: &mut [u8], view: u32, out: &mut [u8]) -> Result<usize, u8> {
     answer(unsafe { sys::vault_timer(rec.as_mut_ptr(), rec.len(), view, out.as_mut_ptr(), out.len()) })
+}
+
+/// The desk's call has refusals of its own, and names at most 64 vaults.
+pub fn equivocators(records: &[u8], lengths: &[u32], out: &mut [u8]) -> Result<usize, u8> {
+    let (recs, lens, out, space) = (records.as_ptr(), lengths.as_ptr(), out.as_mut_ptr(), out.len());
+    match unsafe { sys::vault_equivocators(recs, records.len(), lens, lengths.len(), out, space) } {
+        code @ (1 | 24) => Err(code as u8),
+        code @ 256..=320 => Ok(code as usize - 256),
+        code => panic!("no such answer: {code}"),
+    }
 }

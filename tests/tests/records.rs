@@ -1,6 +1,6 @@
 //! The Rattle record's classes and bytes against the reference, on contents, on damaged records and on random bytes.
 use comparison::record_class;
-use comparison::records::{class, contents, place, reached, spell, Class, HEAD, LEN, SHARED, SLOTS};
+use comparison::records::{class, contents, damage, reached, spell, Class, LEN};
 use reference::record::encode;
 use reference::rng::Rng;
 
@@ -27,24 +27,7 @@ fn damaged_records_have_the_same_class() {
         let record = &records[rng.below(records.len() as u64) as usize];
         let mut bytes = spell(record);
         for _ in 0..1 + rng.below(2) {
-            let kept: Vec<usize> = (0..SLOTS).filter(|&slot| bytes[place(slot)] == 1).collect();
-            let slot = if kept.is_empty() || rng.below(3) == 0 { rng.below(SLOTS as u64) as usize } else { rng.pick(&kept) };
-            let (mark, view, plan) = (place(slot), place(slot) + 1, place(slot) + 5);
-            let at = match rng.below(9) {
-                0 => rng.below(LEN as u64) as usize,
-                1 => rng.below(HEAD as u64) as usize,
-                2 => SHARED + rng.below(HEAD as u64) as usize,
-                3 => mark,
-                4 | 5 => view + 3,
-                6 => view + rng.below(4) as usize,
-                _ => plan + 7,
-            };
-            bytes[at] = match rng.below(4) {
-                0 => bytes[at].wrapping_add(1),
-                1 => bytes[at].wrapping_sub(1),
-                2 => rng.below(6) as u8,
-                _ => rng.next() as u8,
-            };
+            damage(&mut rng, &mut bytes);
         }
         let expected = class(&bytes);
         assert_eq!(record_class(&bytes), expected);

@@ -66,7 +66,15 @@ fn another_byte_in_a_rehearsal_is_found() {
 }
 
 #[test]
+fn another_byte_in_a_list_is_found() {
+    let script = finds("20", "other-byte", "difference: ");
+    assert!(script[0].starts_with("list ") && script.len() == 1, "{script:?}");
+}
+
+#[test]
 fn a_byte_read_too_far_is_found() {
     let script = finds("4", "overrun", "fault: memory beyond what was lent");
     assert!(script[0].starts_with("call After "), "{script:?}");
+    let script = finds("20", "overrun", "fault: memory beyond what was lent");
+    assert!(script[0].starts_with("list "), "{script:?}");
 }

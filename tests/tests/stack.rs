@@ -4,9 +4,11 @@
 use std::arch::asm;
 use std::ffi::c_void;
 
-use comparison::case::{Case, Class};
-use comparison::cases;
+use comparison::case::{Case, Class, SPACE};
+use comparison::lists::List;
+use comparison::records::{frame_slot, fresh, put, LEN, PREVIOUS};
 use comparison::sides::Rattle;
+use comparison::{cases, vaults};
 
 const MOST: usize = 48 * 1024;
 /// Far more than a call takes.
@@ -60,6 +62,35 @@ fn depth_of(case: &Case) -> usize {
         bytes
     };
     PAINTS.map(once).into_iter().max().expect("two paints")
+}
+
+/// As many records as there may be, of as many vaults, with all votes kept, for two plans in turn.
+fn full_list() -> List {
+    let record = |id: u8| {
+        let mut bytes = fresh([64, 21, id, 0], 0, 7);
+        let votes = (2..=5).flat_map(|kind| (0..64).map(move |sender| frame_slot(kind, sender)));
+        votes.for_each(|slot| put(&mut bytes, slot, 1, 0, u64::from(id % 2)));
+        bytes
+    };
+    List::of(&(0..64).map(record).collect::<Vec<_>>())
+}
+
+/// Where everyone is named, and where all is well but the last record: both look at all of them.
+#[test]
+fn no_list_takes_more_than_48_kilobytes() {
+    let mut list = full_list();
+    for wanted in [Ok(64), Err(24)] {
+        let once = |paint| {
+            let (mut answer, mut out) = (Err(0), [0; SPACE]);
+            let bytes = depth(paint, &mut || answer = vaults::equivocators(&list.records, &list.lengths, &mut out));
+            assert_eq!(answer, wanted);
+            bytes
+        };
+        let deepest = PAINTS.map(once).into_iter().max().expect("two paints");
+        println!("{deepest:>7} bytes of stack, 64 records: {wanted:?}");
+        assert!(deepest <= MOST);
+        put(&mut list.records[63 * LEN..], PREVIOUS[1], 1, 0, 0);
+    }
 }
 
 /// The measure itself: an array of known size shows.

@@ -106,6 +106,15 @@ impl Record {
         (bytes.len() == SIZE).then(|| unsafe { &*bytes.as_ptr().cast() })
     }
 
+    /// Records that lie end to end. None where a part is left over.
+    #[inline(always)]
+    pub fn end_to_end(bytes: &[u8]) -> Option<&[Record]> {
+        let count = bytes.len() / SIZE;
+        // SAFETY: as above, for each of so many records.
+        (bytes.len() == SIZE * count)
+            .then(|| unsafe { std::slice::from_raw_parts(bytes.as_ptr().cast(), count) })
+    }
+
     #[inline(always)]
     pub fn of_mut(bytes: &mut [u8]) -> Option<&mut Record> {
         // SAFETY: as above.

@@ -4,6 +4,7 @@
 //! words and bulk scans (`sound`), safe plans are searched by one selection (`safe`).
 
 mod asked;
+mod equivocation;
 mod layout;
 mod safe;
 mod scan;
@@ -177,6 +178,20 @@ pub fn timer(rec: &mut [u8], view: u32, out: &mut [u8]) -> Answer {
     vault.change_view();
     vault.go_on();
     Ok(vault.count)
+}
+
+/// The numbers of the vaults that spoke twice, rising, from records that lie end to end.
+pub fn equivocators(records: &[u8], lengths: &[u32], out: &mut [u8]) -> Answer {
+    let out = out.first_chunk_mut::<256>().ok_or(1)?;
+    let records = equivocation::collected(records, lengths).ok_or(24)?;
+    let mut count = 0;
+    for s in 0..records[0].n {
+        if equivocation::spoke_twice(records, usize::from(s) & 63) {
+            out[count] = s;
+            count += 1;
+        }
+    }
+    Ok(count)
 }
 
 /// The searches for safe plans over a sound record's reports of the current view, apart from calls.

@@ -1,8 +1,9 @@
 //! The library against the reference and the in-place vault for as long as wanted. A round is made from one seed: random calls, scripts
-//! of the line program or of the rehearsal, or a whole network under an adversary. Each runs in a process of its own, so that a fault of any
-//! kind is found as a difference is; then a script that shows it is made as short as the time allows.
+//! of the line program or of the rehearsal, lists of records, or a whole network under an adversary. Each runs in a process of its own, so that
+//! a fault of any kind is found as a difference is; then a script that shows it is made as short as the time allows.
 mod calls;
 mod lines;
+mod lists;
 mod networks;
 mod rehearsals;
 mod report;
@@ -30,9 +31,9 @@ pub enum Sabotage {
     OlderRecord,
     /// f + 1 vaults lie.
     MoreLiars,
-    /// The library writes another plan into a decision.
+    /// The library writes another plan into a decision, or names another vault.
     OtherByte,
-    /// The library reads a byte beyond the record.
+    /// The library reads a byte beyond the record, or beyond a list of them.
     Overrun,
 }
 
@@ -89,6 +90,7 @@ fn round(seed: u64, sabotage: Sabotage) {
         (_, 0 | 1) => calls::round(rng, sabotage),
         (_, 2) => lines::round(rng, sabotage),
         (_, 3) => rehearsals::round(rng, sabotage),
+        (_, 4) => lists::round(rng, sabotage),
         _ => networks::round(rng, sabotage),
     }
 }
@@ -100,6 +102,7 @@ fn again(script: &[Vec<u8>], sabotage: Sabotage) {
         "call" => calls::again(&words[1..], &script[1..], sabotage),
         "lines" => lines::again(&script[1..], sabotage),
         "rehearsal" => rehearsals::again(&script[1..], sabotage),
+        "list" => lists::again(&words[1..], sabotage),
         "network" => networks::again(&words[1..], &script[1..], sabotage),
         other => panic!("no such script: {other}"),
     }

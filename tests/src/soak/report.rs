@@ -13,6 +13,7 @@ pub fn counts(when: &str) {
     println!("{when}");
     println!("    calls {}, accepted {}; scripts {}, lines {}", seen.calls, seen.accepted, counts.scripts, counts.lines);
     println!("    rehearsals {}, lines {}, decisions by vaults not declared {}", counts.rehearsals, counts.rehearsed, counts.rehearsed_decisions);
+    println!("    lists {}, records in them {}, refused {}, vaults named {}", counts.lists, counts.listed, counts.lists_refused, counts.names);
     println!("    runs {runs}, decisions {decisions}; a proposal was safe by view 0, no lock, one set, two sets: {:?}", counts.clauses);
     for sizes in SIZES {
         let [runs, some, all] = [&counts.runs, &counts.some_decided, &counts.all_decided].map(|by_n| by_n[sizes.clone()].iter().sum::<u64>());
