@@ -26,14 +26,13 @@ use Rattle.settings.specs.declared.Settings.{Settings}
 use Rattle.record.specs.Slots.{rows, Record, frameSlot}
 use Rattle.record.specs.Layout.{decodeRecord}
 use Rattle.record.specs.Size.{recordSize}
-use Rattle.record.specs.Kept.{keptFrame}
 use Rattle.sound.specs.declared.Lent.{Lent}
 use Rattle.sound.specs.declared.Lent.the-variants.{Unsound}
 use Rattle.sound.specs.inside.Sound.{all, lentIs}
 use Rattle.sound.proofs.Laws.{lentLength}
 use Rattle.sound.proofs.All.{allAt}
 use Rattle.contents.proofs.Tests.{allOf}
-use Rattle.equivocation.specs.Named.{any, differ, spokeTwice, rising, named}
+use Rattle.equivocation.specs.Named.{any, twoPlans, spokeTwice, rising, named}
 use Rattle.equivocation.specs.Call.{handedIn, sum, isSound, unlike, mixed, unfit, misfit}
 use Rattle.equivocation.specs.inside.Records.{recordIn, readIn, sizeFits, fits, fitsAt, slotsDiffer, clashing, twiceIn}
 use Rattle.equivocation.proofs.Sound.{soundPass, sizeMost}
@@ -186,7 +185,7 @@ module _ (records lengths : List ℕ) where
 
   -- A vote's slot differs in two of the records just where it does from an earlier one.
   clashingIs : all (sizeFits lengths) (length lengths) ≡ true → (k s : ℕ) → 1 ≤ k → k ≤ 5
-      → clashing records (length lengths) (frameSlot k s) ≡ any (λ x. any (λ y. differ (keptFrame x k s) (keptFrame y k s)) spelled) spelled
+      → clashing records (length lengths) (frameSlot k s) ≡ twoPlans spelled k s
   unfolding clashing
   clashingIs sizes k s low high = sym (
       pairsDiffer spelled (decodeRecord []) k s low high
@@ -212,12 +211,9 @@ module _ (records lengths : List ℕ) where
       → twiceIn records (length lengths) s ≡ spokeTwice (map decodeRecord (handedIn lengths records)) s
   unfolding twiceIn spokeTwice
   twiceIs s sizes =
-      anySame (λ v. clashing records (length lengths) (frameSlot (2 + v) s)) (λ v. pair (2 + v)) 4
+      anySame (λ v. clashing records (length lengths) (frameSlot (2 + v) s)) (λ v. twoPlans spelled (2 + v) s) 4
       (λ v low. clashingIs sizes (2 + v) s (omega arith) (omega arith))
-      ∙ sym (votesAre pair)
-    where
-      pair : ℕ → Bool
-      pair k = any (λ x. any (λ y. differ (keptFrame x k s) (keptFrame y k s)) spelled) spelled
+      ∙ sym (votesAre (λ k. twoPlans spelled k s))
 
   -- ---- what does not fit
 

@@ -26,11 +26,6 @@ use Rattle.equivocation.specs.Call.{handedIn, isSound, unlike, misfit, e
 use Rattle.equivocation.specs.inside.Records.{recordIn, fits, clashesBefore, whom, Put}
 use Rattle.equivocation.proofs.Lists.{risingMost}
 
--- A test denied twice is the test.
-pub notNot : (b : Bool) → b ≡ not (not b)
-notNot true = refl
-notNot false = refl
-
 -- ---- down from i
 
 -- No number from j on, below i, passes the test.

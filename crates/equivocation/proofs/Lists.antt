@@ -4,7 +4,7 @@
 -- Assumes nothing.
 use Prim.Native.Nat.{ℕ, zero, suc, _≤_, _<_}
 use mathlib.Core.Path.{_≡_, refl, sym, _∙_, ap, subst}
-use mathlib.Core.Bool.{Bool, true, false, _||_, cond}
+use mathlib.Core.Bool.{Bool, true, false, _||_, cond, or-false, or-assoc}
 use mathlib.Core.Logic.{⊎-elim}
 use mathlib.Core.List.{List, [], _∷_, _++_, List·Memᴰ, List·Memᴰ·head, List·Memᴰ·tail, List·Memᴰ·not-nil, List·Memᴰ·append-cases, List·Memᴰ·eq-of-singleton}
 use mathlib.Core.List.{map, append-nil, Memᴰ·append-left, Memᴰ·append-right}
@@ -23,22 +23,12 @@ use Rattle.equivocation.specs.Sentences.{recordAt}
 
 -- ---- some of a list
 
--- A test that fails may be left out.
-orNone : (a : Bool) → (false || a) ≡ (a || false)
-orNone true = refl
-orNone false = refl
-
--- Three tests, bracketed the other way.
-orAssoc : (a b c : Bool) → ((a || b) || c) ≡ (a || (b || c))
-orAssoc true b c = refl
-orAssoc false b c = refl
-
 -- The first number may be tested first.
 anyFront : (f : ℕ → Bool) (k : ℕ) → anyBelow f (suc k) ≡ (f 0 || anyBelow (λ i. f (suc i)) k)
 unfolding anyBelow
-anyFront f zero = orNone (f 0)
+anyFront f zero = sym (or-false (f 0))
 anyFront f (suc k) =
-    ap (λ (b : Bool). b || f (suc k)) (anyFront f k) ∙ orAssoc (f 0) (anyBelow (λ i. f (suc i)) k) (f (suc k))
+    ap (λ (b : Bool). b || f (suc k)) (anyFront f k) ∙ or-assoc (f 0) (anyBelow (λ i. f (suc i)) k) (f (suc k))
 
 -- Some of a list pass just where some number's element does.
 pub anyIs : {A : Type 0} (test : A → Bool) (l : List A) (d : A) → any test l ≡ anyBelow (λ i. test (getD l i d)) (length l)

@@ -4,7 +4,7 @@
 -- Assumes nothing.
 use Prim.Native.Nat.{ℕ, zero, suc, _+_, _≤_, _<_}
 use mathlib.Core.Path.{_≡_, refl, ap, sym, _∙_}
-use mathlib.Core.Bool.{Bool, true, false, not, _&&_, _||_, cond}
+use mathlib.Core.Bool.{Bool, true, false, not, _&&_, _||_, cond, and-assoc, and-comm}
 use mathlib.Core.List.{List}
 use mathlib.Core.Option.{none, some}
 use native.Mathlib.Omega.{arith}
@@ -13,14 +13,14 @@ use borrow.Author.Tests.{eq-eqb, eqb-true}
 use lib.Dec.{eqb}
 use lib.ListN.{length, getD}
 use Rattle.rules.specs.inside.Bools.{anyBelow}
-use Rattle.rules.proofs.Bools.{clash, sameTest, anyAt, anyWhere}
+use Rattle.rules.proofs.Bools.{clash, notTrue, sameTest, anyAt, anyWhere}
 use Rattle.frame.specs.declared.Report.{Report}
 use Rattle.frame.specs.declared.Frame.{Frame}
 use Rattle.frame.specs.Refusal.{present}
 use Rattle.record.specs.Slots.{Record, frameSlot, slotOf}
 use Rattle.record.specs.Kept.{frameHeld, keptIn, keptFrame, planOf}
 use Rattle.record.proofs.Forms.{bodyPlan}
-use Rattle.equivocation.specs.Named.{any, differ, voteKinds}
+use Rattle.equivocation.specs.Named.{any, differ, twoPlans, voteKinds}
 use Rattle.equivocation.specs.inside.Records.{slotsDiffer}
 use Rattle.equivocation.proofs.Lists.{anyIs}
 
@@ -37,24 +37,12 @@ anySame f g (suc k) h =
 
 -- Where none below k passes, none does at a number.
 pub noneAt : (f : ℕ → Bool) (k i : ℕ) → anyBelow f k ≡ false → i < k → f i ≡ false
-noneAt f k i off low = go (f i) refl
-  where
-    go : (b : Bool) → f i ≡ b → b ≡ false
-    go true e = absurd (clash (anyAt f k i low e) off)
-    go false e = refl
-
--- Four tests, bracketed the other way.
-orFour : (a b c d : Bool) → (a || (b || (c || (d || false)))) ≡ ((((false || a) || b) || c) || d)
-orFour true b c d = refl
-orFour false true c d = refl
-orFour false false true d = refl
-orFour false false false true = refl
-orFour false false false false = refl
+noneAt f k i off low = notTrue (f i) (λ e. clash (anyAt f k i low e) off)
 
 -- The kinds of vote-1 to vote-4 are the four from 2 on.
 pub votesAre : (test : ℕ → Bool) → any test voteKinds ≡ anyBelow (λ v. test (2 + v)) 4
-unfolding any anyBelow
-votesAre test = orFour (test 2) (test 3) (test 4) (test 5)
+unfolding anyBelow
+votesAre test = anyIs test voteKinds 0
 
 -- ---- pairs
 
@@ -91,10 +79,7 @@ eqbSwap a b = sameTest (eqb a b) (eqb b a) (λ e. eq-eqb b a (sym (eqb-true a b 
 
 -- Three tests, the first two exchanged.
 andSwap : (a b c : Bool) → (a && (b && c)) ≡ (b && (a && c))
-andSwap true true c = refl
-andSwap true false c = refl
-andSwap false true c = refl
-andSwap false false c = refl
+andSwap a b c = sym (and-assoc a b c) ∙ ap (λ (x : Bool). x && c) (and-comm a b) ∙ and-assoc b a c
 
 -- Slots differ either way round.
 differSwap : (x y : Report) → slotsDiffer x y ≡ slotsDiffer y x
@@ -139,8 +124,9 @@ framesDiffer x y k s low high =
 
 -- Two records of a list differ in a kept vote just where the vote's slot of one differs from that of an earlier one.
 pub pairsDiffer : (rs : List Record) (d : Record) (k s : ℕ) → 1 ≤ k → k ≤ 5
-    → any (λ x. any (λ y. differ (keptFrame x k s) (keptFrame y k s)) rs) rs
+    → twoPlans rs k s
     ≡ anyBelow (λ i. anyBelow (λ j. slotsDiffer (getD rs i d .slots (frameSlot k s)) (getD rs j d .slots (frameSlot k s))) i) (length rs)
+unfolding twoPlans
 pairsDiffer rs d k s low high =
     anyIs (λ x. any (λ y. differ (keptFrame x k s) (keptFrame y k s)) rs) rs d
     ∙ anySame (λ i. any (λ y. differ (keptFrame (getD rs i d) k s) (keptFrame y k s)) rs) (λ i. anyBelow (pair i) (length rs)) (length rs) inner

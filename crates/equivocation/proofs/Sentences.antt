@@ -15,7 +15,7 @@ use lib.ListN.{length, getD, take, drop, length-map, List·getD-map, List·getD-
 use lib.Seq.{take-append-seam}
 use borrow.Author.Tests.{eq-eqb, ne-eqb, eqb-true, eqb-false, not-true, not-false}
 use Rattle.rules.specs.Sets.{Set, size, total}
-use Rattle.rules.proofs.Bools.{which, clash, bothSplit, bothJoin}
+use Rattle.rules.proofs.Bools.{which, clash, bothSplit, bothJoin, anyAt, anyWhere}
 use Rattle.rules.proofs.Reports.{none≢some}
 use Rattle.rules.proofs.Quorums.{quorumWeighs, weighShared, weighMono, totalEquals}
 use Rattle.wire.specs.Placed.{placed}
@@ -33,12 +33,13 @@ use Rattle.record.specs.Kept.{bodyIn, frameHeld, keptFrame, planOf}
 use Rattle.record.proofs.Forms.{bodyPlan, keptThere, keptNothing}
 use Rattle.sound.specs.inside.Sound.{sound, lentIs}
 use Rattle.contents.specs.Left.{Left, wrote, gave}
-use Rattle.equivocation.specs.Named.{any, differ, voteKinds, spokeTwice, rising, named}
+use Rattle.equivocation.specs.Named.{any, differ, twoPlans, spokeTwice, rising, named}
 use Rattle.equivocation.specs.Call.{handedIn, sum, isSound, unlike, mixed, unfit, misfit, collectionRows, leftWith, equivocatorsLeft}
 use Rattle.equivocation.specs.Sentences.{recordAt, Keeps, Twice, Accepted, NamedIff, NamedRise, QuorumsNamed, QuorumsCounted}
 use Rattle.equivocation.proofs.Sound.{soundPass, sizeMost, senderBelow}
 use Rattle.equivocation.proofs.Lists.{anyGet, anyFind, anyNone, risingIn, risingHas, risingLength, risingMost, risingRises}
 use Rattle.equivocation.proofs.Lists.{handedLength, namesOf, namedOf}
+use Rattle.equivocation.proofs.Pairs.{votesAre}
 
 -- ---- kept votes
 
@@ -81,14 +82,6 @@ differKeeps a b k s v p q ne here there =
 
 -- ---- who spoke twice
 
--- The kinds of the four votes follow each other.
-voteAt : (m : ℕ) → m < 4 → getD voteKinds m 0 ≡ 2 + m
-voteAt zero low = refl
-voteAt (suc zero) low = refl
-voteAt (suc (suc zero)) low = refl
-voteAt (suc (suc (suc zero))) low = refl
-voteAt (suc (suc (suc (suc m)))) low = absurd (omega arith)
-
 -- Records x and y keep of s, in kind k, frames that differ.
 abbrev pair : ℕ → ℕ → Record → Record → Bool
 pair s k x y = differ (keptFrame x k s) (keptFrame y k s)
@@ -102,21 +95,34 @@ module _ (bs : List (List ℕ)) where
   speltAt : (i : ℕ) → getD spelt i (decodeRecord []) ≡ recordAt bs i
   speltAt i = List·getD-map decodeRecord bs i []
 
+  -- Frames of one kind that differ in two of the records.
+  differPlans : (i j kind s : ℕ) → i < length bs → j < length bs → pair s kind (recordAt bs i) (recordAt bs j) ≡ true → twoPlans spelt kind s ≡ true
+  unfolding twoPlans
+  differPlans i j kind s li lj h =
+      let long : length spelt ≡ length bs = length-map bs decodeRecord in
+      let both : pair s kind (getD spelt i (decodeRecord [])) (getD spelt j (decodeRecord [])) ≡ true = (λ t. pair s kind (speltAt i t) (speltAt j t)) ∙ h in
+      anyGet (λ x. any (pair s kind x) spelt) spelt (decodeRecord []) i (omega arith)
+      (anyGet (pair s kind (getD spelt i (decodeRecord []))) spelt (decodeRecord []) j (omega arith) both)
+
+  -- Where there are such, they are found.
+  plansDiffer : (kind s : ℕ) → twoPlans spelt kind s ≡ true
+      → (i : ℕ) × (j : ℕ) × (i < length bs) × (j < length bs) × (pair s kind (recordAt bs i) (recordAt bs j) ≡ true)
+  unfolding twoPlans
+  plansDiffer kind s h =
+      let long : length spelt ≡ length bs = length-map bs decodeRecord in
+      let (i, li, first) = anyFind (λ x. any (pair s kind x) spelt) spelt (decodeRecord []) h in
+      let (j, lj, both) = anyFind (pair s kind (getD spelt i (decodeRecord []))) spelt (decodeRecord []) first in
+      (i, j, omega arith, omega arith, (λ t. pair s kind (sym (speltAt i) t) (sym (speltAt j) t)) ∙ both)
+
   -- Two plans for one view and one kind of vote: it spoke twice.
   keepsSpoke : (i j kind s v p q : ℕ) → i < length bs → j < length bs → 2 ≤ kind → kind ≤ 5 → p ≢ q
       → Keeps (recordAt bs i) kind s v p → Keeps (recordAt bs j) kind s v q → spokeTwice spelt s ≡ true
   unfolding spokeTwice
   keepsSpoke i j kind s v p q li lj low high ne here there =
-      let long : length spelt ≡ length bs = length-map bs decodeRecord in
-      let e : getD voteKinds (kind - 2) 0 ≡ kind = voteAt (kind - 2) (omega arith) ∙ omega arith in
-      let both : pair s kind (getD spelt i (decodeRecord [])) (getD spelt j (decodeRecord [])) ≡ true =
-      (λ t. pair s kind (speltAt i t) (speltAt j t)) ∙ differKeeps (recordAt bs i) (recordAt bs j) kind s v p q ne here there in
-      let second : any (pair s kind (getD spelt i (decodeRecord []))) spelt ≡ true =
-      anyGet (pair s kind (getD spelt i (decodeRecord []))) spelt (decodeRecord []) j (omega arith) both in
-      let first : any (λ x. any (pair s kind x) spelt) spelt ≡ true =
-      anyGet (λ x. any (pair s kind x) spelt) spelt (decodeRecord []) i (omega arith) second in
-      anyGet (λ k. any (λ x. any (pair s k x) spelt) spelt) voteKinds 0 (kind - 2) (omega arith)
-      (subst (λ (k : ℕ). any (λ x. any (pair s k x) spelt) spelt ≡ true) (sym e) first)
+      let e : kind ≡ 2 + (kind - 2) = omega arith in
+      let plans = differPlans i j kind s li lj (differKeeps (recordAt bs i) (recordAt bs j) kind s v p q ne here there) in
+      votesAre (λ k. twoPlans spelt k s)
+      ∙ anyAt (λ vote. twoPlans spelt (2 + vote) s) 4 (kind - 2) (omega arith) (subst (λ (k : ℕ). twoPlans spelt k s ≡ true) e plans)
 
   -- Frames of a vote that differ in two of the records are two plans for one view.
   differTwice : (i j kind s : ℕ) → i < length bs → j < length bs → s < rows → 2 ≤ kind → kind ≤ 5
@@ -143,14 +149,9 @@ module _ (bs : List (List ℕ)) where
   spokeKeeps : (s : ℕ) → s < rows → spokeTwice spelt s ≡ true → Twice bs s
   unfolding spokeTwice
   spokeKeeps s row h =
-      let long : length spelt ≡ length bs = length-map bs decodeRecord in
-      let (m, lm, ofKind) = anyFind (λ k. any (λ x. any (pair s k x) spelt) spelt) voteKinds 0 h in
-      let (i, li, ofFirst) = anyFind (λ x. any (pair s (getD voteKinds m 0) x) spelt) spelt (decodeRecord []) ofKind in
-      let (j, lj, ofBoth) = anyFind (pair s (getD voteKinds m 0) (getD spelt i (decodeRecord []))) spelt (decodeRecord []) ofFirst in
-      let is : pair s (getD voteKinds m 0) (recordAt bs i) (recordAt bs j) ≡ true =
-      (λ t. pair s (getD voteKinds m 0) (sym (speltAt i) t) (sym (speltAt j) t)) ∙ ofBoth in
-      let e : getD voteKinds m 0 ≡ 2 + m = voteAt m lm in
-      differTwice i j (getD voteKinds m 0) s (omega arith) (omega arith) row (omega arith) (omega arith) is
+      let (vote, low, plans) = anyWhere (λ vote. twoPlans spelt (2 + vote) s) 4 (sym (votesAre (λ k. twoPlans spelt k s)) ∙ h) in
+      let (i, j, li, lj, both) = plansDiffer (2 + vote) s plans in
+      differTwice i j (2 + vote) s li lj row (omega arith) (omega arith) both
 
   -- And conversely.
   twiceSpoke : (s : ℕ) → Twice bs s → spokeTwice spelt s ≡ true

@@ -21,13 +21,17 @@ differ none y = false
 differ (some x) none = false
 differ (some x) (some y) = eqb (x .view) (y .view) && not (eqb (planOf (x .body)) (planOf (y .body)))
 
+-- 'with two different plans for one view and one kind': two of the records keep such frames of kind k in row s.
+unfoldable pub twoPlans : List Record → ℕ → Set
+twoPlans rs k s = any (λ x. any (λ y. differ (keptFrame x k s) (keptFrame y k s)) rs) rs
+
 -- 'kept vote frames only': the kinds of vote-1 to vote-4.
 abbrev pub voteKinds : List ℕ
 voteKinds = 2 ∷ 3 ∷ 4 ∷ 5 ∷ []
 
--- 'every vault that appears in them with two different plans for one view and one kind'.
+-- 'every vault that appears in them' so.
 unfoldable pub spokeTwice : List Record → Set
-spokeTwice rs s = any (λ k. any (λ x. any (λ y. differ (keptFrame x k s) (keptFrame y k s)) rs) rs) voteKinds
+spokeTwice rs s = any (λ k. twoPlans rs k s) voteKinds
 
 -- 'by rising number, one byte each': the members of a set below n.
 unfoldable pub rising : Set → ℕ → List ℕ
