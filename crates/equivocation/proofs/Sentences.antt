@@ -31,7 +31,9 @@ use Rattle.record.specs.Slots.{rows, Record, frameSlot, slotOf}
 use Rattle.record.specs.Layout.{decodeRecord}
 use Rattle.record.specs.Kept.{bodyIn, frameHeld, keptFrame, planOf}
 use Rattle.record.proofs.Forms.{bodyPlan, keptThere, keptNothing}
-use Rattle.sound.specs.inside.Sound.{sound, lentIs}
+use Rattle.sound.specs.declared.Lent.{Lent}
+use Rattle.sound.specs.declared.Lent.the-variants.{Blank, Unsound, Sound}
+use Rattle.sound.specs.inside.Sound.{lentIs}
 use Rattle.contents.specs.Left.{Left, wrote, gave}
 use Rattle.equivocation.specs.Named.{any, differ, twoPlans, spokeTwice, rising, named}
 use Rattle.equivocation.specs.Call.{handedIn, sum, isSound, unlike, mixed, unfit, misfit, collectionRows, leftWith, equivocatorsLeft}
@@ -163,7 +165,7 @@ module _ (bs : List (List ℕ)) where
 -- Records that row 24 lets pass: some, sound, and of one n.
 record Fit (bs : List (List ℕ)) : Type 0 where
   someOne : 1 ≤ length bs
-  passed : (i : ℕ) → i < length bs → sound (recordAt bs i) ≡ true
+  passed : (i : ℕ) → i < length bs → isSound (lentIs (getD bs i [])) ≡ true
   alike : (i : ℕ) → i < length bs → recordAt bs i .set .n ≡ recordAt bs 0 .set .n
 
 -- A call on such records that wrote their names at the start of the output.
@@ -198,7 +200,7 @@ fitOf bs e =
     let one : 1 ≤ length bs = omega arith in
     record {
       someOne = one;
-      passed = λ i l. soundPass (getD bs i []) (not-false (isSound (lentIs (getD bs i []))) (anyNone (λ b. not (isSound (lentIs b))) bs [] i sounds l));
+      passed = λ i l. not-false (isSound (lentIs (getD bs i []))) (anyNone (λ b. not (isSound (lentIs b))) bs [] i sounds l);
       alike = alikeOf bs one mix;
     }
 
@@ -241,17 +243,29 @@ module _ (bs : List (List ℕ)) (left : List ℕ) (count : ℕ) (w : Wrote bs le
 
   -- n is at most 64.
   mostNames : recordAt bs 0 .set .n ≤ 64
-  mostNames = sizeMost (recordAt bs 0) (w .fit .passed 0 (w .fit .someOne))
+  mostNames = sizeMost (recordAt bs 0) (soundPass (getD bs 0 []) (w .fit .passed 0 (w .fit .someOne)))
 
   -- Whoever has two plans has a row below n.
   rowBelow : (s : ℕ) → Twice bs s → s < recordAt bs 0 .set .n
   rowBelow s t =
       let there = keptWas (recordAt bs (t .i)) (t .kind) s (record { kind = t .kind; sender = s; view = t .view; body = Plan (t .p) }) (t .here) .0 in
-      let pass = w .fit .passed (t .i) (t .records .0) in
+      let pass = soundPass (getD bs (t .i) []) (w .fit .passed (t .i) (t .records .0)) in
       let (low, high) = t .vote in
       let below : s < recordAt bs (t .i) .set .n =
       senderBelow (recordAt bs (t .i)) pass (t .kind) s (omega arith) (omega arith) (t .row) there in
       subst (λ (n : ℕ). s < n) (w .fit .alike (t .i) (t .records .0)) below
+
+-- The test of a sound record passes for no other.
+soundIs : (x : Lent) → isSound x ≡ true → x ≡ Sound
+soundIs Blank e = absurd (clash e refl)
+soundIs Unsound e = absurd (clash e refl)
+soundIs Sound e = refl
+
+-- Each record of an accepted call is sound.
+pub acceptedSound : (records lengths out left : List ℕ) (count i : ℕ) → Accepted records lengths out count left → i < length (handedIn lengths records)
+    → lentIs (getD (handedIn lengths records) i []) ≡ Sound
+acceptedSound records lengths out left count i e low =
+    soundIs (lentIs (getD (handedIn lengths records) i [])) (acceptedAs records lengths out left count e .fit .passed i low)
 
 -- ---- the promises
 

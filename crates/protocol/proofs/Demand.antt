@@ -124,7 +124,7 @@ module _ (c : ContentsSetting) (Began : ℕ → Type 0) where
         subst (λ (j : ℕ). e ∈ written l j → Past′.Told c Began (past l) j e) id (g .told e) at
 
     -- No vault sent one vote twice in a view, for two plans.
-    onceAt : (i k w p q : ℕ) → Voted (past l) i k w p → Voted (past l) i k w q → p ≡ q
+    pub onceAt : (i k w p q : ℕ) → Voted (past l) i k w p → Voted (past l) i k w q → p ≡ q
     onceAt i k w p q x y =
         let (r, id, third, g) = author i _ x in
         subst (λ (j : ℕ). Voted (past l) j k w p → Voted (past l) j k w q → p ≡ q) id (g .once k w p q) x y

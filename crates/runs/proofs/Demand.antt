@@ -91,28 +91,28 @@ startedCases (model.earlier s) = inr s
 
 module _ (c : Setting) where
   -- The same vaults and rule-keepers, for the run by contents.
-  abbrev plain : model.ContentsSetting
+  abbrev pub plain : model.ContentsSetting
   plain = record { vaults = c .vaults; keeps = c .keeps; most = c .most }
 
   -- The record of vault i.
-  record Own (i : ℕ) (r : Record) : Type 0 where
+  pub record Own (i : ℕ) (r : Record) : Type 0 where
     vaults : vaultsOf (r .set) ≡ c .vaults
     id : r .set .id ≡ i
     fine : Fine r
 
   -- Vault i's bytes and entries in the byte run, and its record and entries in the run by contents.
-  record Same (i : ℕ) (rec : List ℕ) (b : Option Record) (es fs : List Entry) : Type 0 where
-    held : c .keeps i ≡ true → Spells rec b
-    own : (r : Record) → b ≡ some r → Own i r
-    agree : es ≡ fs
-    valid : AllValid fs
+  pub record Same (i : ℕ) (rec : List ℕ) (b : Option Record) (es fs : List Entry) : Type 0 where
+    pub held : c .keeps i ≡ true → Spells rec b
+    pub own : (r : Record) → b ≡ some r → Own i r
+    pub agree : es ≡ fs
+    pub valid : AllValid fs
 
   -- A run by contents: its records are what the bytes spell, its entries the same, and its starts are those of the byte run.
-  record Carried (l : List Item) : Type 0 where
-    items : List model.ContentsItem
-    run : model.ContentsRun plain items
-    same : (i : ℕ) → Same i (recordAt c l i) (model.recordAt items i) (written l i) (model.written items i)
-    starts : (p : ℕ) → model.ContentsStarted p items → Started p l
+  pub record Carried (l : List Item) : Type 0 where
+    pub items : List model.ContentsItem
+    pub run : model.ContentsRun plain items
+    pub same : (i : ℕ) → Same i (recordAt c l i) (model.recordAt items i) (written l i) (model.written items i)
+    pub starts : (p : ℕ) → model.ContentsStarted p items → Started p l
 
   -- ---- what a run lets a call bring
 
@@ -298,7 +298,7 @@ module _ (c : Setting) where
 
   module _ {keepsRules : Rules} (law : (rec : List ℕ) (a : ByteCall) (out : List ℕ) (left : Left) → keepsRules rec a out left → left ≡ leaves rec a out) where
     -- So each run is carried to a run by contents.
-    carry : {l : List Item} → Run c keepsRules l → Carried l
+    pub carry : {l : List Item} → Run c keepsRules l → Carried l
     carry nothingYet = carryNone
     carry (andThen {l = l} {x = x} run keeps low ruled fair) = go (carry run) (law (recordAt c l (x .at)) (x .call) (x .out) (x .left) ruled)
       where

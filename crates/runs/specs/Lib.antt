@@ -3,3 +3,4 @@ pub mod Claim
 pub mod Left
 pub mod Shown
 pub mod Fixed
+pub mod Votes

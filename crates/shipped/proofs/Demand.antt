@@ -13,7 +13,7 @@ use Rattle.shipped.specs.Contracts.{Contract, byStart, byFrame, byTimer}
 use Rattle.shipped.specs.Sentences.{AsFixed}
 
 -- A run by the contracts is a run by what the paper fixes.
-contractFixed : (rec : List ℕ) (a : ByteCall) (out : List ℕ) (left : Left) → Contract rec a out left → Fixed rec a out left
+pub contractFixed : (rec : List ℕ) (a : ByteCall) (out : List ℕ) (left : Left) → Contract rec a out left → Fixed rec a out left
 contractFixed rec a out left (byStart κs r o set plan answer rec′ out′ learnt) = learnt
 contractFixed rec a out left (byFrame κs r s o link answer rec′ out′ learnt) = learnt
 contractFixed rec a out left (byTimer κs r o view answer rec′ out′ learnt) = learnt

@@ -56,7 +56,7 @@ numbersTell rec a out = tellsLeft (leaves rec a out) (refusalNumbers rec a out)
 -- ---- the exports' runs are those that the paper fixes
 
 -- A run by the exports is a run by what the paper fixes.
-exportFixed : (rec : List ℕ) (a : ByteCall) (out : List ℕ) (left : Left) → ExportContract rec a out left → Fixed rec a out left
+pub exportFixed : (rec : List ℕ) (a : ByteCall) (out : List ℕ) (left : Left) → ExportContract rec a out left → Fixed rec a out left
 exportFixed rec a out left (byStart κs r o n f id class plan number rec′ out′ learnt) = ap leftOf learnt ∙ numbersTell rec a out
 exportFixed rec a out left (byFrame κs r s o link number rec′ out′ learnt) = ap leftOf learnt ∙ numbersTell rec a out
 exportFixed rec a out left (byTimer κs r o view number rec′ out′ learnt) = ap leftOf learnt ∙ numbersTell rec a out
