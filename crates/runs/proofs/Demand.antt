@@ -89,6 +89,10 @@ startedCases (model.earlier s) = inr s
 
 -- ---- the run by contents
 
+-- Calls by these rules leave no more than the paper lets them.
+abbrev pub Follows : Rules → Type 0
+Follows keepsRules = (rec : List ℕ) (a : ByteCall) (out : List ℕ) (left : Left) → keepsRules rec a out left → Fixed rec a out left
+
 module _ (c : Setting) where
   -- The same vaults and rule-keepers, for the run by contents.
   abbrev pub plain : model.ContentsSetting
@@ -296,7 +300,7 @@ module _ (c : Setting) where
       begun p s (frame link bytes) call e = let z : _≡_ {A = ℕ} 0 1 = cc in absurd (omega arith)
       begun p s (timer view) call e = let z : _≡_ {A = ℕ} 0 1 = cc in absurd (omega arith)
 
-  module _ {keepsRules : Rules} (law : (rec : List ℕ) (a : ByteCall) (out : List ℕ) (left : Left) → keepsRules rec a out left → left ≡ leaves rec a out) where
+  module _ {keepsRules : Rules} (law : Follows keepsRules) where
     -- So each run is carried to a run by contents.
     pub carry : {l : List Item} → Run c keepsRules l → Carried l
     carry nothingYet = carryNone
@@ -322,8 +326,7 @@ module _ (c : Setting) where
 
 -- In every run any two decisions are for the same plan; and if all vaults keep the rules, for the plan of an accepted start.
 -- So it is of all calls that leave no more than the paper lets them.
-pub demand3By : {keepsRules : Rules} → ((rec : List ℕ) (a : ByteCall) (out : List ℕ) (left : Left) → keepsRules rec a out left → left ≡ leaves rec a out)
-    → Demand3 keepsRules
+pub demand3By : {keepsRules : Rules} → Follows keepsRules → Demand3 keepsRules
 demand3By law c l run = record {
   agreement = λ i j p q a b. claim .agreement i j p q (decided i p a) (decided j q b);
   validity = λ all i p a. v .starts p (claim .validity all i p (decided i p a));

@@ -3,12 +3,10 @@
 -- Assumes nothing.
 use Prim.Native.Nat.{ℕ, _<_}
 use mathlib.Core.Path.{_≡_}
-use mathlib.Core.List.{List}
 use native.Mathlib.Omega.{arith}
 use lib.ListN.{length}
-use Rattle.contents.specs.Left.{Left}
-use Rattle.runs.specs.Runs.{ByteCall, Rules}
-use Rattle.runs.specs.Fixed.{leaves}
+use Rattle.runs.specs.Runs.{Rules}
+use Rattle.runs.proofs.Demand.{Follows}
 use Rattle.runs.proofs.Votes.{onePlanBy}
 use Rattle.equivocation.specs.Call.{handedIn}
 use Rattle.equivocation.proofs.Lists.{handedLength}
@@ -20,8 +18,7 @@ use Rattle.shipped.proofs.Demand.{contractFixed}
 use Rattle.shipped.proofs.Exports.{exportFixed}
 
 -- Of all calls that leave no more than the paper lets them.
-unnamedBy : {keepsRules : Rules} → ((rec : List ℕ) (a : ByteCall) (out : List ℕ) (left : Left) → keepsRules rec a out left → left ≡ leaves rec a out)
-    → KeepersUnnamed keepsRules
+unnamedBy : {keepsRules : Rules} → Follows keepsRules → KeepersUnnamed keepsRules
 unnamedBy law c l run records lengths out left count s e had keeps at =
     let t = namedIff records lengths out left count s e .0 at in
     let (li, lj) = t .records in
