@@ -5,7 +5,7 @@ use std::collections::BTreeSet;
 use comparison::compared::Harm;
 use comparison::lists::{Desk, List, Named, MOST};
 use comparison::records::{damage, frame_slot, get, place, reached, spell, LEN};
-use comparison::sim::{self, Mode, Setup, Style};
+use comparison::sim::{self, Mode, Setup, Style, Wrong};
 use comparison::text::bytes_of;
 use comparison::vaults;
 use reference::collections::{collection, Coverage, Item};
@@ -43,10 +43,9 @@ fn any_of<'a, T>(rng: &mut Rng, items: &'a [T]) -> &'a T {
     &items[rng.below(items.len() as u64) as usize]
 }
 
-/// The names in random lists of one run's records.
-fn named_in_run(desk: &mut Desk, rng: &mut Rng, setup: &Setup) -> BTreeSet<u8> {
+/// The names in random lists of one run's records, none of them a rule-keeper's, and what went wrong in the run.
+fn named_in_run(desk: &mut Desk, rng: &mut Rng, setup: &Setup) -> (BTreeSet<u8>, Option<Wrong>) {
     let run = sim::run_collected(setup, 60);
-    assert_eq!(run.outcome.wrong, None, "{setup:?}");
     let records: Vec<Vec<u8>> = run.moments.iter().chain(&run.last).map(spell).collect();
     let mut names = BTreeSet::new();
     for _ in 0..LISTS_OF_RUN {
@@ -58,7 +57,7 @@ fn named_in_run(desk: &mut Desk, rng: &mut Rng, setup: &Setup) -> BTreeSet<u8> {
     for vault in &names {
         assert!(!run.keepers.contains(vault), "vault {vault} keeps the rules: {setup:?}");
     }
-    names
+    (names, run.outcome.wrong)
 }
 
 /// A vault that keeps the rules votes once of a kind in a view: only liars are named, in some of the runs all of several.
@@ -69,7 +68,8 @@ fn only_liars_of_networks_are_named() {
     for (n, f, liars, seeds) in [(4, 1, 1, 40), (4, 1, 0, 4), (7, 2, 2, 12), (10, 3, 3, 4)] {
         for (style, seed) in STYLES.into_iter().flat_map(|style| (0..seeds).map(move |seed| (style, seed))) {
             let setup = Setup { n, f, liars, mode: Mode::Bytes, fault: Fault::None, style, seed };
-            let names = named_in_run(&mut desk, &mut rng, &setup);
+            let (names, wrong) = named_in_run(&mut desk, &mut rng, &setup);
+            assert_eq!(wrong, None, "{setup:?}");
             runs += 1;
             with_names += u64::from(!names.is_empty());
             all_liars += u64::from(liars > 1 && names.len() == usize::from(liars));
@@ -77,6 +77,26 @@ fn only_liars_of_networks_are_named() {
     }
     println!("{runs} runs, {with_names} with names, {all_liars} with all of several liars");
     assert!(with_names > 0 && all_liars > 0);
+}
+
+/// Where more than f lie, two plans may be decided. Then too only liars are named.
+#[test]
+fn only_liars_are_named_where_two_plans_are_decided() {
+    let (mut desk, mut rng) = (desk(), Rng(17));
+    let (mut runs, mut disagreed, mut with_names) = (0, 0, 0);
+    for (n, f, liars, seeds) in [(4, 1, 2, 40), (7, 2, 3, 20), (7, 2, 4, 20), (10, 3, 5, 6)] {
+        for (style, seed) in [Style::Camps, Style::Rounds].into_iter().flat_map(|style| (0..seeds).map(move |seed| (style, seed))) {
+            let setup = Setup { n, f, liars, mode: Mode::Bytes, fault: Fault::None, style, seed };
+            let (names, wrong) = named_in_run(&mut desk, &mut rng, &setup);
+            runs += 1;
+            if matches!(wrong, Some(Wrong::Disagreement { .. })) {
+                disagreed += 1;
+                with_names += u64::from(!names.is_empty());
+            }
+        }
+    }
+    println!("{runs} runs with more than f liars, {disagreed} with two plans decided, {with_names} of these with names");
+    assert!(disagreed > 0 && with_names > 0);
 }
 
 // Damaged lists.

@@ -27,6 +27,7 @@ use Rattle.protocol.proofs.Demand.{Inv, invariant, onceAt}
 use Rattle.contents.specs.Contents.{keptOf, contents}
 use Rattle.contents.specs.Spelling.{Spells, HoldsContents}
 use Rattle.runs.specs.Runs.{Rules, Item, entriesIn, Setting, recordAt, written, Run, andThen}
+use Rattle.runs.specs.Fixed.{Fixed}
 use Rattle.runs.specs.Votes.{Had, KeepsPlan, OnePlanKept}
 use Rattle.runs.proofs.Demand.{Follows, plain, Carried, carry}
 
@@ -104,3 +105,7 @@ onePlanBy law c l run a b ha hb (suc k) s v p q low high row keeps x y =
     onceAt (plain c) (λ p. Unit {0}) (goodRecords c w) s k v p q
     (subst (λ (es : List Entry). broadcast k s v p ∈ es) (w .same s .agree) one)
     (subst (λ (es : List Entry). broadcast k s v q ∈ es) (w .same s .agree) other)
+
+-- Of the calls that the paper fixes.
+pub onePlanFixed : OnePlanKept Fixed
+onePlanFixed = onePlanBy (λ rec a out left e. e)

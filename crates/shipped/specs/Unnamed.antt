@@ -1,4 +1,5 @@
--- Who keeps the rules is not named (document 02, wish 5, 'Name the vaults that spoke twice'): not by records of vaults that keep them, in any run.
+-- Who keeps the rules is not named (document 02, wish 5, 'Name the vaults that spoke twice'): not by records of vaults that keep them, in runs as demand 3
+-- means them, so where at most f break the rules. Nothing is said of runs in which more do.
 -- Assumes nothing.
 use Prim.Native.Nat.{ℕ, _<_}
 use mathlib.Core.Path.{_≡_}
