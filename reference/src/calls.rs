@@ -52,8 +52,8 @@ pub(crate) fn check_output(out: &[u8]) -> Result<(), u8> {
     Ok(())
 }
 
-/// 2: frame or timer on a blank record; 3: on an unsound record
-fn check_sound(rec: &[u8], record: &mut Record) -> Result<(), u8> {
+/// 2: frame or timer on a blank record; 3: on an unsound record; writing a remnant meets them too
+pub(crate) fn check_sound(rec: &[u8], record: &mut Record) -> Result<(), u8> {
     match record::classify_into(rec, record) {
         State::Blank => Err(2),
         State::Unsound => Err(3),

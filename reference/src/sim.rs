@@ -239,7 +239,31 @@ pub enum Act {
     Restore,
 }
 
-pub struct Network {
+/// Who answers the calls in place of the network: hosts whose power may be cut (cuts.rs). Each has
+/// stored the last accepted call that was made, so what the network knows of a vault stays right
+/// after a cut. Addition to the interface.
+pub(crate) trait Hosts {
+    /// The entries of an accepted call that was made, or a refusal. A call that was cut, or that no
+    /// run may have, is a refusal 0.
+    fn call(&mut self, id: u8, call: &Call) -> Result<Vec<Entry>, u8>;
+
+    /// A moment to which the adversary would like the vault to come back.
+    fn mark(&mut self, id: u8);
+
+    /// The adversary wants a cut here, and a restart.
+    fn cut(&mut self, id: u8);
+
+    /// The current view by what is stored, where anything is.
+    fn view(&self, id: u8) -> Option<u32>;
+
+    /// Whether the vault may come back from an older remnant.
+    fn returns(&self, id: u8) -> bool;
+
+    /// Whether it so belongs to the f, although it answers calls.
+    fn lies(&self, id: u8) -> bool;
+}
+
+pub struct Network<'a> {
     n: u8,
     f: u8,
     mode: Mode,
@@ -261,10 +285,13 @@ pub struct Network {
     /// For output spaces and blank records only, so that all modes see one schedule.
     spaces: Rng,
     collector: Option<Collector>,
+    hosts: Option<&'a mut dyn Hosts>,
+    /// Nothing but disagreement is noted.
+    agreement_only: bool,
 }
 
-impl Network {
-    pub fn new(n: u8, f: u8, liars: &[u8], mode: Mode, fault: Fault, seed: u64) -> Network {
+impl<'a> Network<'a> {
+    pub fn new(n: u8, f: u8, liars: &[u8], mode: Mode, fault: Fault, seed: u64) -> Network<'a> {
         // The calls over bytes have no faults, so a broken rule can only be run by contents.
         assert!(fault == Fault::None || mode == Mode::Contents);
         let mut spaces = Rng(seed);
@@ -288,6 +315,8 @@ impl Network {
             told: |_, _| {},
             spaces,
             collector: None,
+            hosts: None,
+            agreement_only: false,
         }
     }
 
@@ -313,10 +342,18 @@ impl Network {
         match act {
             Act::Call(call) => return self.answered(id, &call),
             Act::Store => {
+                if let Some(hosts) = &mut self.hosts {
+                    hosts.mark(id);
+                    return Ok(());
+                }
                 let keeper = Keeper { stored: None, ..self.keeper(id).clone() };
                 self.keeper_mut(id).stored = Some(Box::new(keeper));
             }
             Act::Restore => {
+                if let Some(hosts) = &mut self.hosts {
+                    hosts.cut(id);
+                    return Ok(());
+                }
                 if let Some(stored) = self.keeper_mut(id).stored.take() {
                     *self.keeper_mut(id) = *stored;
                 }
@@ -358,7 +395,15 @@ impl Network {
     }
 
     pub fn view(&self, id: u8) -> Option<u32> {
-        self.keeper(id).view
+        match &self.hosts {
+            Some(hosts) => hosts.view(id),
+            None => self.keeper(id).view,
+        }
+    }
+
+    /// Whether the vault answers calls and belongs to the f all the same.
+    fn excused(&self, id: u8) -> bool {
+        self.hosts.as_ref().is_some_and(|hosts| hosts.lies(id))
     }
 
     pub fn decided(&self, id: u8) -> bool {
@@ -423,16 +468,20 @@ impl Network {
     }
 
     fn note(&mut self, wrong: Wrong) {
-        self.wrong.get_or_insert(wrong);
+        if !self.agreement_only || matches!(wrong, Wrong::Disagreement { .. }) {
+            self.wrong.get_or_insert(wrong);
+        }
     }
 
     // ----- Calls.
 
     fn answered(&mut self, id: u8, call: &Call) -> Result<(), u8> {
-        let answer = match self.mode {
-            Mode::Contents => self.by_contents(id, call),
-            Mode::Bytes => self.by_bytes(id, call).map(|entries| (entries, None)),
-            Mode::Both => self.by_both(id, call),
+        let hosted = self.hosts.as_mut().map(|hosts| hosts.call(id, call));
+        let answer = match (hosted, self.mode) {
+            (Some(answer), _) => answer.map(|entries| (entries, None)),
+            (None, Mode::Contents) => self.by_contents(id, call),
+            (None, Mode::Bytes) => self.by_bytes(id, call).map(|entries| (entries, None)),
+            (None, Mode::Both) => self.by_both(id, call),
         };
         match answer {
             Ok((entries, clause)) => {
@@ -597,6 +646,9 @@ impl Network {
         self.check_form(to, &frame);
         self.check_once(id, &frame);
         self.count_frame(id, &frame);
+        if self.agreement_only && self.sent_before(to, &frame) {
+            return;
+        }
         let index = self.sent.len();
         self.sent.push(Sent { to, frame });
         self.places.entry((frame.view, frame.kind)).or_default().push(index);
@@ -605,6 +657,12 @@ impl Network {
                 self.pending.push((index, receiver));
             }
         }
+    }
+
+    /// A vault broken on purpose may write a frame over and over; one of them is enough to deliver.
+    fn sent_before(&self, to: Option<u8>, frame: &Frame) -> bool {
+        let places = self.places.get(&(frame.view, frame.kind)).map_or(&[][..], Vec::as_slice);
+        places.iter().map(|&index| self.sent[index]).any(|s| s.to == to && s.frame == *frame)
     }
 
     /// Whoever gets the frame must find it well-formed.
@@ -627,7 +685,8 @@ impl Network {
     /// Every kind but the view-change goes out at most once a view; a timer may repeat that one.
     fn check_once(&mut self, id: u8, frame: &Frame) {
         let (kind, view) = (frame.kind, frame.view);
-        if kind != VIEW_CHANGE && !self.keeper_mut(id).written.insert((kind, view)) {
+        let first = kind == VIEW_CHANGE || self.keeper_mut(id).written.insert((kind, view));
+        if !first && !self.excused(id) {
             self.note(Wrong::SecondFrame { vault: id, kind, view });
         }
     }
@@ -649,17 +708,20 @@ impl Network {
     fn absorb_timer(&mut self, id: u8, view: u32, entry: &Entry) {
         let last = self.keeper_mut(id).view.replace(view);
         let forwards = last.map_or(view == 0, |last| view > last);
-        if !forwards {
+        if !forwards && !self.excused(id) {
             self.note(Wrong::WrongEntry { vault: id, entry: *entry });
         }
         self.tally.views_entered += u64::from(view > 0);
     }
 
     fn absorb_decision(&mut self, id: u8, decision: Report) {
-        if self.keeper(id).decided {
+        let again = std::mem::replace(&mut self.keeper_mut(id).decided, true);
+        if self.excused(id) {
+            return;
+        }
+        if again {
             self.note(Wrong::SecondDecision { vault: id });
         }
-        self.keeper_mut(id).decided = true;
         self.decisions.push((id, decision));
         self.tally.decisions += 1;
         self.tally.late_decisions += u64::from(decision.view > 0);
@@ -694,7 +756,7 @@ impl Network {
 
     /// Validity is claimed only where all n vaults keep the rules.
     fn nobodys_plan(&self) -> Option<Wrong> {
-        if !self.liars().is_empty() {
+        if !self.liars().is_empty() || (0..self.n).any(|id| self.excused(id)) {
             return None;
         }
         let started: Vec<u64> = self
@@ -712,7 +774,10 @@ impl Network {
     pub fn finish(mut self) -> Outcome {
         self.tally.runs = 1;
         self.tally.two_plans_locked = u64::from(self.locked_plans.len() > 1);
-        let wrong = self.wrong.clone().or_else(|| self.nobodys_plan());
+        if let Some(wrong) = self.nobodys_plan() {
+            self.note(wrong);
+        }
+        let wrong = self.wrong.clone();
         let started = self.vaults.iter().flatten().filter(|keeper| keeper.view.is_some()).count();
         Outcome { tally: self.tally, decisions: self.decisions, started, wrong }
     }
@@ -735,7 +800,7 @@ impl Keeper {
 }
 
 /// Any blank record will do at first: zeros, or left-over contents with an n of 0.
-fn blank_bytes(rng: &mut Rng) -> Vec<u8> {
+pub(crate) fn blank_bytes(rng: &mut Rng) -> Vec<u8> {
     if rng.one_in(2) {
         return vec![0; RECORD_LEN];
     }
@@ -831,7 +896,8 @@ pub enum Style {
     Chaos,
     /// Views that a liar leads, in which each half of the vaults is shown a plan of its own.
     Camps,
-    /// Camps with a vault in both, whose host lends it an older record in between: sabotage.
+    /// Camps with a vault in both, whose host lends it an older record in between: sabotage. Where
+    /// hosts answer (cuts.rs) its power is cut in between.
     OlderRecord,
     /// Lossless links in order, silent liars, timers only when nothing is on its way.
     Calm,
@@ -862,6 +928,20 @@ pub fn run_told(setup: &Setup, told: fn(u8, &Act)) -> Outcome {
     director.net.finish()
 }
 
+/// The vaults that keep the rules in a run of this setup.
+pub(crate) fn keepers(setup: &Setup) -> Vec<u8> {
+    Director::new(setup).keepers
+}
+
+/// `run`, with hosts that answer the calls. After anything wrong, or disagreement only, it ends.
+pub(crate) fn run_hosted(setup: &Setup, hosts: &mut dyn Hosts, agreement_only: bool) -> Outcome {
+    let mut director = Director::new(setup);
+    director.net.hosts = Some(hosts);
+    director.net.agreement_only = agreement_only;
+    director.perform(setup.style);
+    director.net.finish()
+}
+
 /// The network of a setup under a list of acts; what a run may not have is left out.
 pub fn replay(setup: &Setup, acts: &[(u8, Act)]) -> Outcome {
     let mut net = Director::new(setup).net;
@@ -873,8 +953,8 @@ pub fn replay(setup: &Setup, acts: &[(u8, Act)]) -> Outcome {
     net.finish()
 }
 
-struct Director {
-    net: Network,
+struct Director<'a> {
+    net: Network<'a>,
     rng: Rng,
     keepers: Vec<u8>,
     liars: Vec<u8>,
@@ -894,8 +974,8 @@ struct Scene {
     reach: u64,
 }
 
-impl Director {
-    fn new(setup: &Setup) -> Director {
+impl<'a> Director<'a> {
+    fn new(setup: &Setup) -> Director<'a> {
         let mut rng = Rng(setup.seed);
         let mut everyone: Vec<u8> = (0..setup.n).collect();
         shuffle(&mut rng, &mut everyone);
@@ -940,6 +1020,11 @@ impl Director {
         let plan = self.rng.pick(&self.plans);
         let class = self.rng.below(8) as u8;
         let answer = self.net.start(id, class, plan);
+        if self.net.hosts.is_some() {
+            // A start that was cut may come again, with another class and plan.
+            self.waiting.extend(answer.is_err().then_some(id));
+            return;
+        }
         assert!(answer.is_ok() || self.net.wrong.is_some(), "right settings on a blank record");
     }
 
@@ -1340,6 +1425,9 @@ impl Director {
             let mut plans = self.plans.clone();
             shuffle(&mut self.rng, &mut plans);
             let mut one = self.at(view);
+            // Who comes back from an older remnant is in both camps.
+            let returns = |id| self.net.hosts.as_ref().is_some_and(|hosts| hosts.returns(id));
+            one.sort_by_key(|&id| returns(id));
             let both = if older { one.pop() } else { None };
             let mut other = one.split_off(one.len() / 2);
             one.extend(both);
@@ -1728,8 +1816,8 @@ pub fn loss_run_told(setup: &Setup, rounds: u32, told: fn(u8, &Act)) -> LossRun 
     director.until_decided(rounds, Director::calm_round)
 }
 
-impl Director {
-    fn until_decided(mut self, rounds: u32, round: fn(&mut Director)) -> LossRun {
+impl<'a> Director<'a> {
+    fn until_decided(mut self, rounds: u32, round: fn(&mut Director<'a>)) -> LossRun {
         for _ in 0..rounds {
             if self.net.wrong.is_some() || self.started().iter().all(|&id| self.net.decided(id)) {
                 break;
