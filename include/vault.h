@@ -5,8 +5,8 @@
  * sent or timed stands in the output. Any pointers with true lengths are fine, and any bytes: a call that can't act answers with a
  * refusal. What is lent to one call must not overlap. Calls on different records may run at the same time.
  *
- * Answers of vault_start, vault_frame and vault_timer
- *   1 to 19, 21, 22           a refusal, by enum vault_refusal: record and output are unchanged
+ * Answers of vault_start, vault_frame, vault_timer and vault_restart
+ *   1 to 19, 21, 22           a refusal, by enum vault_refusal: record and output are unchanged (vault_restart: 1, 4, 25, 26)
  *   VAULT_ACCEPTED + count    accepted: the record is the new one, and the first count bytes of the output hold the entries; count is
  *                             at most VAULT_LONGEST_OUTPUT, may be 0, and the bytes beyond it keep their contents
  *
@@ -18,20 +18,30 @@
  * A frame: kind (enum vault_kind), sender, view (4 bytes), then what its kind has. Its length follows from the kind.
  *
  * A host's duty
- *   Store    The record after an accepted call goes to stable storage before any entry of that call is sent or acted on. A vault that
- *            comes back after a crash with an older record could vote twice, and agreement is lost. Nothing else need be stored.
- *            Several calls may be made before the record is stored once, if the entries of all of them wait for that.
+ *   Store    Store, then send. After an accepted call vault_write_remnant gives VAULT_REMNANT_SIZE bytes, the remnant: they go to stable
+ *            storage, whole, before any entry of that call is sent or acted on, a decision too. A power cut must leave the old remnant or
+ *            the new one: write a new file, sync it, and rename it over the old one. A vault that comes back with an older remnant could
+ *            vote twice, and agreement is lost: it counts as one of the f. Nothing else need be stored. Several calls may be made before the
+ *            remnant is stored once, if the entries of all of them wait for that. The whole record may be stored in its place.
  *   Send     Each frame as it is, to its recipients. A frame may be lost, repeated, or come late. Tell vault_frame the sender that the
  *            link stands for, and not a byte of the frame.
  *   Repeat   The vault writes each frame once. Over a link that may lose frames, keep the latest frame of each kind with its recipient,
  *            and send it again once a delay of the link class, until its view is below the current one. By itself only a view-change is
  *            repeated, by vault_timer; a proposal, vote, suggest or proof never is. A frame that comes again is refused with 16 or 17
- *            and does no harm. After a crash the frames to repeat are gone: the timer goes on, and the next view brings new ones.
+ *            and does no harm. After a power cut the frames to repeat are gone, and those that others sent: they repeat theirs, the timer
+ *            goes on, and the next view brings new ones.
  *   Timer    A timer entry replaces the timer of any earlier view. When it runs out call vault_timer with its view, and again after
  *            the same time for as long as the view lasts, also after the decision: others may need this vault's later views.
- *   Restart  Lend the stored record again: vault_current tells its view, whose timer is to be set, and vault_decision the decision, which
- *            may have been stored and not yet acted on. A record of zeros is a blank one: once the vault was started, never take a
- *            missing or an empty file for it.
+ *   Restart  vault_restart, with a blank record (all zeros will do) and the stored remnant, at any moment and any number of times: the vault
+ *            goes on with its own votes and without the others' frames, and the timer entry is to be obeyed. It repeats no decision:
+ *            vault_decision tells the one that was stored, and perhaps not yet acted on. A call after which the old remnant was left
+ *            counts as never made, its decision too; where that was the start, nothing is stored, nothing has left the vault, and it may
+ *            start again. Once a remnant is stored, never start afresh, and never take a missing or an empty file for a blank vault. A
+ *            host that stores the whole record lends it again instead: vault_current tells its view, whose timer is to be set.
+ *
+ * The remnant's bytes: n, f, id, link class (1 each), current view (4), starting plan (8), then 17 slots as in a record: the own proposal, vote-1,
+ * vote-2, vote-3, vote-4, view-change, suggest and proof; the three reports of the own suggest, and of the own proof; own previous vote-1, own
+ * previous vote-2, decision.
  *
  * The record's bytes, for a desk that looks at one (only the calls write it). A slot is 13 bytes: mark (1 present, 0 absent), view (4),
  * plan (8), big-endian; 64 slots of a kind are those of vaults 0 to 63.
@@ -61,12 +71,13 @@ extern "C" {
 #endif
 
 #define VAULT_VERSION_MAJOR 1
-#define VAULT_VERSION_MINOR 2
+#define VAULT_VERSION_MINOR 3
 #define VAULT_VERSION_PATCH 0
 #define VAULT_VERSION (VAULT_VERSION_MAJOR * 10000 + VAULT_VERSION_MINOR * 100 + VAULT_VERSION_PATCH)
 
 #define VAULT_RECORD_SIZE 11703   /* bytes of a record */
-#define VAULT_OUTPUT_SIZE 256     /* bytes of output that a call must be lent, or more */
+#define VAULT_REMNANT_SIZE 237    /* bytes of a remnant, and of output that vault_write_remnant must be lent, or more */
+#define VAULT_OUTPUT_SIZE 256     /* bytes of output that every other call must be lent, or more */
 #define VAULT_ACCEPTED 256        /* the answer of an accepted call, less the bytes written */
 #define VAULT_LONGEST_OUTPUT 205  /* no call writes more bytes */
 #define VAULT_LONGEST_ENTRY 46    /* with the recipient byte */
@@ -80,10 +91,10 @@ extern "C" {
 
 /* Refusals. They are tested in the order of their numbers, but 21 and 22 between 14 and 15. */
 enum vault_refusal {
-    VAULT_REFUSED_OUTPUT = 1,     /* the output has fewer than VAULT_OUTPUT_SIZE bytes, or two numbers for a question */
-    VAULT_REFUSED_BLANK = 2,      /* not start: a blank record, the vault has not been started */
-    VAULT_REFUSED_UNSOUND = 3,    /* not start: bytes that are no sound record, or not VAULT_RECORD_SIZE of them */
-    VAULT_REFUSED_STARTED = 4,    /* start on a record that is not blank */
+    VAULT_REFUSED_OUTPUT = 1,     /* the output has fewer than VAULT_OUTPUT_SIZE bytes, VAULT_REMNANT_SIZE for a remnant, or two numbers */
+    VAULT_REFUSED_BLANK = 2,      /* not start or restart: a blank record, the vault has not been started */
+    VAULT_REFUSED_UNSOUND = 3,    /* not start or restart: bytes that are no sound record, or not VAULT_RECORD_SIZE of them */
+    VAULT_REFUSED_STARTED = 4,    /* start or restart on a record that is not blank */
     VAULT_REFUSED_N = 5,          /* start: n is below 4 or above 64 */
     VAULT_REFUSED_F = 6,          /* start: f is 0, or 3f is n or more */
     VAULT_REFUSED_ID = 7,         /* start: id is n or more */
@@ -101,7 +112,9 @@ enum vault_refusal {
     VAULT_REFUSED_LAST_VIEW = 19, /* timer: the current view is the last one, 4294967295 */
     VAULT_REFUSED_REPORT_VIEW = 21, /* frame: a report that is present, the lock too, is for the frame's view or a higher one */
     VAULT_REFUSED_PREVIOUS = 22,  /* frame: previous is present and highest is not, or previous is not below it or for the same plan */
-    VAULT_REFUSED_RECORDS = 24    /* equivocators: not 2 to 64 records, one is blank or no sound record, or they differ in n or f */
+    VAULT_REFUSED_RECORDS = 24,   /* equivocators: not 2 to 64 records, one is blank or no sound record, or they differ in n or f */
+    VAULT_REFUSED_REMNANT_LENGTH = 25,  /* restart: the remnant has not VAULT_REMNANT_SIZE bytes */
+    VAULT_REFUSED_REMNANT_UNSOUND = 26  /* restart: what the remnant says makes no sound record */
 };
 
 /* Kinds of frames, byte 0 of a frame, and what follows kind, sender and view. */
@@ -134,6 +147,9 @@ uint32_t vault_version(void);
 /* VAULT_RECORD_SIZE, as the library has it. */
 uint32_t vault_record_size(void);
 
+/* VAULT_REMNANT_SIZE, as the library has it. */
+uint32_t vault_remnant_size(void);
+
 /* Starts vault `id` of `n`, of which up to `f` may lie, with a starting plan. The record must be blank: all zeros will do. The link
  * class, 0 to 7, is for a delay of 20, 50, 100, 200, 500, 1000, 2000 or 5000 milliseconds; a timer is nine delays. All vaults have the
  * same n and f. Refusals: 1, 4 to 8. */
@@ -148,6 +164,17 @@ uint32_t vault_frame(uint8_t *record, size_t record_length, uint8_t sender, cons
 /* The timer of a view has run out. It may be called again for the same view: the view-change is then sent once more.
  * Refusals: 1 to 3, 18, 19. */
 uint32_t vault_timer(uint8_t *record, size_t record_length, uint32_t view, uint8_t *output, size_t output_length);
+
+/* Writes the remnant of a record, which is only read: what the host stores before any entry of the call that left the record is sent. The answer is
+ * VAULT_ACCEPTED + VAULT_REMNANT_SIZE, and the remnant is the first bytes of the output. Refusals: 1 where output_length is below
+ * VAULT_REMNANT_SIZE, 2, 3. */
+uint32_t vault_write_remnant(const uint8_t *record, size_t record_length, uint8_t *output, size_t output_length);
+
+/* Comes back after a power cut, with the remnant that was stored last. The record must be blank: all zeros will do. It becomes the vault's, with its
+ * own row and no others, and the output has one timer entry, of the current view. No frame is sent, and a stored decision is not repeated. Refusals:
+ * 1, 4, 25, 26. The library cannot tell an older remnant, or another vault's: that is the host's duty. */
+uint32_t vault_restart(uint8_t *record, size_t record_length, const uint8_t *remnant, size_t remnant_length,
+                       uint8_t *output, size_t output_length);
 
 /* For a host that comes back: out[0] is the record's current view, out[1] the milliseconds of its timer, and the answer is
  * VAULT_ACCEPTED. Refusals, with `out` unchanged: 1 where out_count is below 2, 2 and 3 as for a frame. */

@@ -8,6 +8,7 @@ mod equivocation;
 mod folder;
 mod lines;
 mod records;
+mod remnants;
 mod runs;
 mod searches;
 mod shapes;
@@ -69,5 +70,6 @@ fn main() {
     lines::print(&mut summary);
     counts::print();
     equivocation::print(&clock, &mut summary, &SIZES);
+    remnants::print(&clock, &mut summary, &[SIZES[0], SIZES[2]]);
     summary.print();
 }

@@ -16,12 +16,14 @@ pub enum Aim {
     Search,
     /// Who spoke twice: no record is written, so it counts as a quiet call.
     Twice,
+    /// Remnants and restarts: no step acts, so they count as quiet calls.
+    Remnant,
     /// The reference's time over the library's.
     Lines,
 }
 
 impl Aim {
-    const ALL: [Aim; 8] = [
+    const ALL: [Aim; 9] = [
         Aim::Quiet,
         Aim::Vain,
         Aim::Refused,
@@ -29,6 +31,7 @@ impl Aim {
         Aim::Run,
         Aim::Search,
         Aim::Twice,
+        Aim::Remnant,
         Aim::Lines,
     ];
 
@@ -50,6 +53,7 @@ impl Aim {
             Aim::Run => "whole run of 4 or of 64 vaults",
             Aim::Search => "slowest search at n = 64",
             Aim::Twice => "who spoke twice, in 2 to 64 records",
+            Aim::Remnant => "remnant written, restart from one",
             Aim::Lines => "lines a second, over the reference's",
         }
     }
@@ -57,7 +61,7 @@ impl Aim {
     /// The most of a ratio to the in-place vault; for lines the least of one to the reference.
     fn bound(self) -> f64 {
         match self {
-            Aim::Quiet | Aim::Vain | Aim::Refused | Aim::Twice => 2.5,
+            Aim::Quiet | Aim::Vain | Aim::Refused | Aim::Twice | Aim::Remnant => 2.5,
             Aim::Acting | Aim::Search => 5.0,
             Aim::Run => 4.0,
             Aim::Lines => 3.0,

@@ -1,4 +1,4 @@
-/* A host: one vault a process, over UDP on localhost. Vault i has port PORT + i. The record is stored before anything is sent, so the
+/* A host: one vault a process, over UDP on localhost. Vault i has port PORT + i. The remnant is stored before anything is sent, so the
  * process may be killed at any moment and started again with `resume`. Build at the repository's top:
  *   rt staticlib vault_c
  *   cc -std=c11 -Wall -Wextra -Iinclude examples/udp/vault_udp.c target/staticlib/libvault_c.a -o target/vault_udp
@@ -25,7 +25,7 @@
 #include <unistd.h>
 
 enum {
-    CALLS = 32,            /* at most so many calls before the record is stored */
+    CALLS = 32,            /* at most so many calls before the remnant is stored */
     UNDERWAY = 1024,       /* at most so many frames on a slow link; more are lost */
     KINDS = VAULT_PROOF,
     DELAYS_IN_TIMER = 9
@@ -35,7 +35,7 @@ enum {
 static const char *folder;
 static uint64_t vaults = 4, liars = 1, id, link_class = 1, plan, port, loss, delay, repeat, seed;
 
-/* The vault: its record, and the entries that wait until the record is stored. */
+/* The vault: its record, and the entries that wait until its remnant is stored. */
 static uint8_t record[VAULT_RECORD_SIZE];
 static uint8_t output[VAULT_OUTPUT_SIZE];
 static uint8_t waiting[CALLS * VAULT_LONGEST_OUTPUT];
@@ -58,7 +58,7 @@ static struct underway {
 } underway[UNDERWAY];
 static size_t underway_count;
 
-static int links, folder_open; /* one socket for all links; the folder of the record */
+static int links, folder_open; /* one socket for all links; the folder of the remnant */
 static uint64_t sent, lost, taken, refused, stores;
 static volatile sig_atomic_t ended;
 
@@ -160,30 +160,38 @@ static void send_again(void)
             send_said(&said[kind]);
 }
 
-/* ---- The stored record */
+/* ---- The stored remnant */
 
-/* Either the old record or the new one is in the file, whenever the power fails; once this returns, the new one. */
+/* Either the old remnant or the new one is in the file, whenever the power fails; once this returns, the new one. The frames of others are not
+ * stored: to have lost them is as if they had not come, and their hosts send them again while the view lasts. What the vault itself has said
+ * must not be lost, or it could say something else. */
 static void store(void)
 {
-    int file = openat(folder_open, "record.new", O_WRONLY | O_CREAT | O_TRUNC, 0600);
+    uint8_t remnant[VAULT_REMNANT_SIZE];
+    uint32_t answer = vault_write_remnant(record, sizeof record, remnant, sizeof remnant);
+    if (answer < VAULT_ACCEPTED)
+        stop_refused(answer);
+    int file = openat(folder_open, "remnant.new", O_WRONLY | O_CREAT | O_TRUNC, 0600);
     if (file < 0)
-        fail("record.new");
-    if (write(file, record, sizeof record) != sizeof record)
-        fail("record.new");
-    if (fsync(file) || close(file) || renameat(folder_open, "record.new", folder_open, "record") || fsync(folder_open))
-        fail("the record is not stored");
+        fail("remnant.new");
+    if (write(file, remnant, sizeof remnant) != sizeof remnant)
+        fail("remnant.new");
+    if (fsync(file) || close(file) || renameat(folder_open, "remnant.new", folder_open, "remnant") || fsync(folder_open))
+        fail("the remnant is not stored");
     stores++;
 }
 
-/* The file must be there and whole: a missing record is not a blank one. */
-static void load(void)
+/* The file must be there: a missing remnant is not a blank record. How many bytes it has; one of another length is refused. */
+static size_t load(uint8_t *remnant, size_t size)
 {
-    int file = openat(folder_open, "record", O_RDONLY);
+    int file = openat(folder_open, "remnant", O_RDONLY);
     if (file < 0)
-        fail("record");
-    if (read(file, record, sizeof record) != sizeof record)
-        stop("the stored record is too short");
+        fail("remnant");
+    ssize_t length = read(file, remnant, size);
+    if (length < 0)
+        fail("remnant");
     close(file);
+    return (size_t)length;
 }
 
 /* ---- Calls and their entries */
@@ -229,7 +237,7 @@ static void answered(uint32_t answer)
     waiting_count += answer - VAULT_ACCEPTED;
 }
 
-/* First the record, then its entries. */
+/* First the remnant, then the entries. */
 static void store_and_act(void)
 {
     if (!changed)
@@ -291,8 +299,8 @@ static void run(void)
 
 static void start(void)
 {
-    if (faccessat(folder_open, "record", F_OK, 0) == 0)
-        stop("there is a record already: resume");
+    if (faccessat(folder_open, "remnant", F_OK, 0) == 0)
+        stop("there is a remnant already: resume");
     uint32_t answer = vault_start(record, sizeof record, (uint8_t)vaults, (uint8_t)liars, (uint8_t)id, (uint8_t)link_class, plan, output,
                                   sizeof output);
     if (answer < VAULT_ACCEPTED)
@@ -301,16 +309,19 @@ static void start(void)
     store_and_act();
 }
 
-/* The record tells view and timer. It also tells a decision that was stored, and perhaps not acted on before the process died. */
+/* The output has the timer. The record also tells a decision that was stored, and perhaps not acted on before the process died. */
 static void resume(void)
 {
-    uint32_t current[2], answer;
+    uint8_t remnant[VAULT_REMNANT_SIZE + 1];
     uint64_t decision[2];
-    load();
-    answer = vault_current(record, sizeof record, current, 2);
+    size_t length = load(remnant, sizeof remnant);
+    uint32_t answer = vault_restart(record, sizeof record, remnant, length, output, sizeof output);
     if (answer < VAULT_ACCEPTED)
         stop_refused(answer);
-    set_timer(current[0], current[1]);
+    /* The library can't tell whose folder this is. */
+    if (remnant[2] != id)
+        stop("the remnant is another vault's");
+    act(output, answer - VAULT_ACCEPTED);
     if (vault_decision(record, sizeof record, decision, 2) > VAULT_ACCEPTED)
         decide(decision[0], decision[1]);
 }
@@ -318,7 +329,7 @@ static void resume(void)
 static void open_all(void)
 {
     struct sockaddr_in own = {.sin_family = AF_INET, .sin_port = htons((uint16_t)(port + id)), .sin_addr.s_addr = htonl(INADDR_LOOPBACK)};
-    /* The port comes before the record: while one process has it, no other can run the same vault. */
+    /* The port comes before the remnant: while one process has it, no other can run the same vault. */
     links = socket(AF_INET, SOCK_DGRAM, 0);
     if (links < 0)
         fail("socket");

@@ -14,9 +14,9 @@ const MOST: usize = 2 * LEN;
 #[derive(Clone, Copy, PartialEq, Eq, Debug)]
 pub enum Harm {
     None,
-    /// The last byte of a decision's entry is another, or the last name.
+    /// The last byte of a decision's entry is another, or the last name, or the last byte of a restart's timer.
     OtherByte,
-    /// A byte beyond the record is read where a call decides, or beyond the records where it names.
+    /// A byte beyond the record is read where a call decides, beyond the records where it names, or beyond the remnant at a restart.
     Overrun,
 }
 

@@ -8,6 +8,7 @@ use reference::rng::Rng;
 use crate::case::SPACE;
 use crate::compared::{overrun, same, Harm};
 use crate::pages::{Closed, Edge};
+use crate::random::filler;
 use crate::records::{class, contents, spell, Class, LEN};
 use crate::vaults;
 
@@ -131,12 +132,6 @@ impl Desk {
         same(&format!("output on {from}"), &out, "reference's own call", &own_out);
         named
     }
-}
-
-fn filler(rng: &mut Rng, space: usize) -> Vec<u8> {
-    let mut bytes = vec![0; space];
-    rng.fill(&mut bytes);
-    bytes
 }
 
 /// An item is in the library's layout what it says.

@@ -262,3 +262,25 @@ pub fn blank(rng: &mut Rng) -> Vec<u8> {
     }
     rec
 }
+
+/// What an output holds before a call.
+pub fn filler(rng: &mut Rng, space: usize) -> Vec<u8> {
+    let mut bytes = vec![0; space];
+    rng.fill(&mut bytes);
+    bytes
+}
+
+/// A length of bytes that should have another: none, a little less or more, or far off.
+pub fn other_length(rng: &mut Rng, length: usize) -> usize {
+    match rng.below(5) {
+        0 => 0,
+        1 => length - 1,
+        2 => length + 1,
+        3 => length - 1 - rng.below(length as u64 / 2) as usize,
+        _ => rng.pick(&[length + 2, length + 100, 2 * length]),
+    }
+}
+
+pub fn any_of<'a, T>(rng: &mut Rng, items: &'a [T]) -> &'a T {
+    &items[rng.below(items.len() as u64) as usize]
+}

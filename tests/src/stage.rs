@@ -1,6 +1,8 @@
 //! What a round's process leaves behind, however it ends: its counts, what it was about to do, and what it said last.
 use std::sync::atomic::{AtomicPtr, Ordering};
 
+use reference::cuts::Item;
+
 use crate::compared::{add_each, Seen};
 use crate::lists::Named;
 use crate::pages::{self, Edge};
@@ -27,6 +29,13 @@ pub struct Counts {
     pub listed: u64,
     pub lists_refused: u64,
     pub names: u64,
+    /// Networks with power cuts, the items in them, the cuts, the restarts accepted and refused, and decisions.
+    pub cut_runs: u64,
+    pub cut_items: u64,
+    pub cuts: u64,
+    pub restarts: u64,
+    pub restarts_refused: u64,
+    pub cut_decisions: u64,
     /// By n: runs, those in which some vault decided, those in which all that were started did, and decisions.
     pub runs: [u64; 65],
     pub some_decided: [u64; 65],
@@ -58,6 +67,16 @@ impl Counts {
         match named {
             Ok(names) => self.names += names.len() as u64,
             Err(_) => self.lists_refused += 1,
+        }
+    }
+
+    pub fn add_item(&mut self, item: &Item, accepted: bool) {
+        self.cut_items += 1;
+        match item {
+            Item::Cut { .. } | Item::CallCut { .. } => self.cuts += 1,
+            Item::Restart { .. } if accepted => self.restarts += 1,
+            Item::Restart { .. } => self.restarts_refused += 1,
+            Item::Made { .. } | Item::Write { .. } => {}
         }
     }
 }

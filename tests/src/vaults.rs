@@ -6,6 +6,9 @@ mod sys {
         pub fn vault_frame(rec: *mut u8, rec_len: usize, link: u8, bytes: *const u8, len: usize, out: *mut u8, out_len: usize) -> u32;
         pub fn vault_timer(rec: *mut u8, rec_len: usize, view: u32, out: *mut u8, out_len: usize) -> u32;
         pub fn vault_equivocators(recs: *const u8, recs_len: usize, lens: *const u32, count: usize, out: *mut u8, out_len: usize) -> u32;
+        pub fn vault_remnant_size() -> u32;
+        pub fn vault_write_remnant(rec: *const u8, rec_len: usize, out: *mut u8, out_len: usize) -> u32;
+        pub fn vault_restart(rec: *mut u8, rec_len: usize, remnant: *const u8, len: usize, out: *mut u8, out_len: usize) -> u32;
     }
 }
 
@@ -40,6 +43,29 @@ pub fn equivocators(records: &[u8], lengths: &[u32], out: &mut [u8]) -> Result<u
     match unsafe { sys::vault_equivocators(recs, records.len(), lens, lengths.len(), out, space) } {
         code @ (1 | 24) => Err(code as u8),
         code @ 256..=320 => Ok(code as usize - 256),
+        code => panic!("no such answer: {code}"),
+    }
+}
+
+pub fn remnant_size() -> usize {
+    unsafe { sys::vault_remnant_size() as usize }
+}
+
+/// A remnant has one length.
+pub fn write_remnant(rec: &[u8], out: &mut [u8]) -> Result<usize, u8> {
+    match unsafe { sys::vault_write_remnant(rec.as_ptr(), rec.len(), out.as_mut_ptr(), out.len()) } {
+        code @ 1..=3 => Err(code as u8),
+        493 => Ok(237),
+        code => panic!("no such answer: {code}"),
+    }
+}
+
+/// A timer entry has one length.
+pub fn restart(rec: &mut [u8], remnant: &[u8], out: &mut [u8]) -> Result<usize, u8> {
+    let (out, space) = (out.as_mut_ptr(), out.len());
+    match unsafe { sys::vault_restart(rec.as_mut_ptr(), rec.len(), remnant.as_ptr(), remnant.len(), out, space) } {
+        code @ (1 | 4 | 25 | 26) => Err(code as u8),
+        266 => Ok(10),
         code => panic!("no such answer: {code}"),
     }
 }

@@ -3,9 +3,10 @@
 use std::cell::Cell;
 
 use comparison::case::{Case, Class, Expected};
-use comparison::cases;
-use comparison::records::LEN;
+use comparison::records::{frame_slot, fresh, put, LEN};
+use comparison::remnants::REMNANT_SIZE;
 use comparison::sides::Rattle;
+use comparison::{cases, vaults};
 use reference::vault::Step;
 
 /// The most that a call copies in which no step acts, in bytes.
@@ -16,6 +17,8 @@ const MOST_SEARCHED: usize = 17_000;
 const MOST_WRITTEN: usize = 1_000;
 /// A start writes a record.
 const MOST_FILLED: usize = 2 * LEN;
+/// A restart writes two, and the one apart is zeroed before.
+const MOST_RESTARTED: usize = 3 * LEN;
 
 thread_local! {
     /// The bytes copied and filled by this thread.
@@ -103,4 +106,25 @@ fn a_quiet_call_copies_at_most_one_record() {
         slips.extend(counts.iter().map(|count| format!("n = {n}: {count:?}")));
     }
     assert!(slips.is_empty(), "too many bytes, copied and filled: {slips:#?}");
+}
+
+/// The bytes that work copies, and those that it fills.
+fn counted_in(work: impl FnOnce()) -> (usize, usize) {
+    let before = (COPIED.get(), FILLED.get());
+    work();
+    (COPIED.get() - before.0, FILLED.get() - before.1)
+}
+
+/// A remnant is made of slots, and so is a restart's record: apart, to be tested, and then where it is lent. No record is copied whole.
+#[test]
+fn a_remnant_and_a_restart_copy_no_record() {
+    let mut rec = fresh([64, 21, 0, 0], 0, 7);
+    (2..=5).for_each(|kind| put(&mut rec, frame_slot(kind, 0), 1, 0, 7));
+    let (mut remnant, mut out, mut back) = ([0; REMNANT_SIZE], [0; 256], vec![0; LEN]);
+    let written = counted_in(|| assert_eq!(vaults::write_remnant(&rec, &mut remnant), Ok(REMNANT_SIZE)));
+    let restarted = counted_in(|| assert_eq!(vaults::restart(&mut back, &remnant, &mut out), Ok(10)));
+    for ((copied, filled), most_filled, name) in [(written, 0, "a remnant"), (restarted, MOST_RESTARTED, "a restart")] {
+        println!("{copied:>7} bytes copied, {filled} filled: {name}");
+        assert!(copied <= MOST_WRITTEN && filled <= most_filled, "{name}");
+    }
 }

@@ -4,6 +4,7 @@ use std::collections::BTreeSet;
 
 use comparison::compared::Harm;
 use comparison::lists::{Desk, List, Named, MOST};
+use comparison::random::any_of;
 use comparison::records::{damage, frame_slot, get, place, reached, spell, LEN};
 use comparison::sim::{self, Mode, Setup, Style, Wrong};
 use comparison::text::bytes_of;
@@ -38,10 +39,6 @@ fn lists_are_named_as_the_reference_does() {
 const STYLES: [Style; 6] = [Style::Rounds, Style::Feints, Style::Partitions, Style::Chaos, Style::Camps, Style::Calm];
 /// Lists of the records of one run.
 const LISTS_OF_RUN: u64 = 6;
-
-fn any_of<'a, T>(rng: &mut Rng, items: &'a [T]) -> &'a T {
-    &items[rng.below(items.len() as u64) as usize]
-}
 
 /// The names in random lists of one run's records, none of them a rule-keeper's, and what went wrong in the run.
 fn named_in_run(desk: &mut Desk, rng: &mut Rng, setup: &Setup) -> (BTreeSet<u8>, Option<Wrong>) {

@@ -31,6 +31,13 @@ fn an_older_record_is_found() {
     assert!(script.iter().any(|line| line.ends_with(" restore")) && script.len() < 100);
 }
 
+/// "A vault returned from an older remnant belongs to the f": with as many liars beside it, two plans are decided.
+#[test]
+fn an_older_remnant_is_found() {
+    let script = finds("1", "older-remnant", "disagreement: ");
+    assert!(script[0].starts_with("cuts ") && script.len() == 1, "{script:?}");
+}
+
 #[test]
 fn more_liars_than_f_are_found() {
     let script = finds("1", "more-liars", "disagreement: ");
@@ -72,9 +79,17 @@ fn another_byte_in_a_list_is_found() {
 }
 
 #[test]
+fn another_byte_after_a_restart_is_found() {
+    let script = finds("13", "other-byte", "difference: ");
+    assert!(script[0].starts_with("cuts ") && script.len() == 1, "{script:?}");
+}
+
+#[test]
 fn a_byte_read_too_far_is_found() {
     let script = finds("4", "overrun", "fault: memory beyond what was lent");
     assert!(script[0].starts_with("call After "), "{script:?}");
     let script = finds("20", "overrun", "fault: memory beyond what was lent");
     assert!(script[0].starts_with("list "), "{script:?}");
+    let script = finds("13", "overrun", "fault: memory beyond what was lent");
+    assert!(script[0].starts_with("cuts "), "{script:?}");
 }

@@ -7,7 +7,8 @@ use std::ffi::c_void;
 use comparison::case::{Case, Class, SPACE};
 use comparison::lists::List;
 use comparison::records::{frame_slot, fresh, put, LEN, PREVIOUS};
-use comparison::sides::Rattle;
+use comparison::remnants::REMNANT_SIZE;
+use comparison::sides::{Answer, Rattle};
 use comparison::{cases, vaults};
 
 const MOST: usize = 48 * 1024;
@@ -90,6 +91,42 @@ fn no_list_takes_more_than_48_kilobytes() {
         println!("{deepest:>7} bytes of stack, 64 records: {wanted:?}");
         assert!(deepest <= MOST);
         put(&mut list.records[63 * LEN..], PREVIOUS[1], 1, 0, 0);
+    }
+}
+
+/// The most stack that a call takes; each paint has a record of its own.
+fn deepest(rec: &[u8], mut call: impl FnMut(&mut [u8]) -> Answer, wanted: Answer) -> usize {
+    let once = |paint| {
+        let (mut rec, mut answer) = (rec.to_vec(), Err(0));
+        let bytes = depth(paint, &mut || answer = call(&mut rec));
+        assert_eq!(answer, wanted);
+        bytes
+    };
+    PAINTS.map(once).into_iter().max().expect("two paints")
+}
+
+/// Of 64 vaults and of 4: a remnant of a full record, and the restart from it, which tests a record of its own. Both accepted, and refused as
+/// late as they get.
+#[test]
+fn no_remnant_takes_more_than_48_kilobytes() {
+    for (n, f) in [(4, 1), (64, 21)] {
+        let mut full = fresh([n, f, 0, 0], 0, 7);
+        let votes = (2..=5).flat_map(|kind| (0..usize::from(n)).map(move |sender| frame_slot(kind, sender)));
+        votes.for_each(|slot| put(&mut full, slot, 1, 0, 7));
+        let (mut remnant, mut out) = ([0; REMNANT_SIZE], [0; SPACE]);
+        for wanted in [Ok(REMNANT_SIZE), Err(3)] {
+            let bytes = deepest(&full, |rec| vaults::write_remnant(rec, &mut remnant), wanted);
+            println!("{bytes:>7} bytes of stack, n = {n}, a remnant written: {wanted:?}");
+            assert!(bytes <= MOST);
+            put(&mut full, PREVIOUS[1], 1, 0, 0);
+        }
+        for wanted in [Ok(10), Err(26)] {
+            let bytes = deepest(&[0; LEN], |rec| vaults::restart(rec, &remnant, &mut out), wanted);
+            println!("{bytes:>7} bytes of stack, n = {n}, a restart: {wanted:?}");
+            assert!(bytes <= MOST);
+            // The previous vote-2 is at its highest's view.
+            remnant[16 + 13 * 15] = 1;
+        }
     }
 }
 

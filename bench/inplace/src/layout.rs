@@ -136,6 +136,23 @@ impl Record {
         u64::from_be_bytes(self.plan)
     }
 
+    /// Settings, current view and starting plan.
+    #[inline(always)]
+    pub fn head(&self) -> [u8; 16] {
+        let mut bytes = [0; 16];
+        bytes[..4].copy_from_slice(&[self.n, self.f, self.id, self.class]);
+        bytes[4..8].copy_from_slice(&self.view);
+        bytes[8..].copy_from_slice(&self.plan);
+        bytes
+    }
+
+    #[inline(always)]
+    pub fn set_head(&mut self, bytes: &[u8; 16]) {
+        [self.n, self.f, self.id, self.class] = [bytes[0], bytes[1], bytes[2], bytes[3]];
+        self.view.copy_from_slice(&bytes[4..8]);
+        self.plan.copy_from_slice(&bytes[8..]);
+    }
+
     /// A started record: settings and plan, and nothing kept.
     pub fn fill(&mut self, [n, f, id, class]: [u8; 4], plan: u64) {
         // SAFETY: a record of zero bytes is one.

@@ -6,6 +6,7 @@
 mod asked;
 mod equivocation;
 mod layout;
+mod remnant;
 mod safe;
 mod scan;
 mod sound;
@@ -17,6 +18,7 @@ use sound::Present;
 use vault::Vault;
 
 pub use layout::SIZE;
+pub use remnant::SIZE as REMNANT_SIZE;
 
 /// The byte count written, or a refusal's number.
 pub type Answer = Result<usize, u8>;
@@ -192,6 +194,33 @@ pub fn equivocators(records: &[u8], lengths: &[u32], out: &mut [u8]) -> Answer {
         }
     }
     Ok(count)
+}
+
+/// The remnant of a record, at the start of the output.
+pub fn write_remnant(rec: &[u8], out: &mut [u8]) -> Answer {
+    let out = out.first_chunk_mut().ok_or(1)?;
+    let rec = Record::of(rec).ok_or(3)?;
+    if rec.n == 0 {
+        return Err(2);
+    }
+    sound::present(rec).ok_or(3)?;
+    remnant::write(rec, out);
+    Ok(remnant::SIZE)
+}
+
+/// The record that a remnant makes is built apart, and copied where it is sound.
+pub fn restart(rec: &mut [u8], remnant: &[u8], out: &mut [u8]) -> Answer {
+    let out = out.first_chunk_mut::<256>().ok_or(1)?;
+    Record::of(rec).filter(|rec| rec.n == 0).ok_or(4)?;
+    let remnant = remnant.try_into().map_err(|_| 25)?;
+    let mut bytes = [0; SIZE];
+    let made = Record::of_mut(&mut bytes).ok_or(26)?;
+    remnant::read(remnant, made).ok_or(26)?;
+    let present = sound::present(made).ok_or(26)?;
+    rec.copy_from_slice(&bytes);
+    let mut vault = Vault::new(Record::of_mut(rec).ok_or(4)?, out, present);
+    vault.timer_entry();
+    Ok(vault.count)
 }
 
 /// The searches for safe plans over a sound record's reports of the current view, apart from calls.

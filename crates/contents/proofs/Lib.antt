@@ -11,3 +11,5 @@ pub mod Ready
 pub mod Lent
 pub mod Stays
 pub mod Spelling
+pub mod Own
+pub mod Remnant

@@ -71,7 +71,7 @@ module _ (r : Record) (fine : Fine r) where
   }
 
   -- They are below 256.
-  fineBytes : Bytes (encodeRecord (slotted r))
+  pub fineBytes : Bytes (encodeRecord (slotted r))
   fineBytes = encodeBytes (slotted r) (fitsSlotted r (fine .sound) (fine .ranged))
 
 -- Slots hold no previous votes but vote-1's and vote-2's.

@@ -1,5 +1,9 @@
 pub mod Contents
 pub mod Calls
+pub mod Size
+pub mod Which
+pub mod Remnant
+pub mod Back
 pub mod Spelling
 pub mod Faultless
 pub mod Left

@@ -33,7 +33,8 @@ use Rattle.sound.proofs.Laws.{lentLength}
 use Rattle.sound.proofs.All.{allAt}
 use Rattle.contents.proofs.Tests.{allOf}
 use Rattle.equivocation.specs.Named.{any, twoPlans, spokeTwice, rising, named}
-use Rattle.equivocation.specs.Call.{handedIn, sum, isSound, unlike, mixed, unfit, misfit}
+use Rattle.contents.specs.Which.{isSound}
+use Rattle.equivocation.specs.Call.{handedIn, sum, unlike, mixed, unfit, misfit}
 use Rattle.equivocation.specs.inside.Records.{recordIn, readIn, sizeFits, fits, fitsAt, slotsDiffer, clashing, twiceIn}
 use Rattle.equivocation.proofs.Sound.{soundPass, sizeMost}
 use Rattle.equivocation.proofs.Lists.{anyIs, handedLength, namedOf}

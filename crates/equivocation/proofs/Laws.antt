@@ -22,7 +22,8 @@ use Rattle.contents.specs.Left.{wrote, gave}
 use Rattle.wire.specs.Placed.{placed}
 use Rattle.wire.proofs.Output.{placedNone, placedOne, placedMore, lengthPlaced}
 use Rattle.equivocation.specs.Named.{rising, named}
-use Rattle.equivocation.specs.Call.{handedIn, isSound, unlike, misfit, equivocatorsLeft}
+use Rattle.contents.specs.Which.{isSound}
+use Rattle.equivocation.specs.Call.{handedIn, unlike, misfit, equivocatorsLeft}
 use Rattle.equivocation.specs.inside.Records.{recordIn, fits, clashesBefore, whom, Put}
 use Rattle.equivocation.proofs.Lists.{risingMost}
 

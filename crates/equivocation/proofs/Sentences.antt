@@ -36,7 +36,8 @@ use Rattle.sound.specs.declared.Lent.the-variants.{Blank, Unsound, Sound}
 use Rattle.sound.specs.inside.Sound.{lentIs}
 use Rattle.contents.specs.Left.{Left, wrote, gave}
 use Rattle.equivocation.specs.Named.{any, differ, twoPlans, spokeTwice, rising, named}
-use Rattle.equivocation.specs.Call.{handedIn, sum, isSound, unlike, mixed, unfit, misfit, collectionRows, leftWith, equivocatorsLeft}
+use Rattle.contents.specs.Which.{isSound}
+use Rattle.equivocation.specs.Call.{handedIn, sum, unlike, mixed, unfit, misfit, collectionRows, leftWith, equivocatorsLeft}
 use Rattle.equivocation.specs.Sentences.{recordAt, Keeps, Twice, Accepted, NamedIff, NamedRise, QuorumsNamed, QuorumsCounted}
 use Rattle.equivocation.proofs.Sound.{soundPass, sizeMost, senderBelow}
 use Rattle.equivocation.proofs.Lists.{anyGet, anyFind, anyNone, risingIn, risingHas, risingLength, risingMost, risingRises}

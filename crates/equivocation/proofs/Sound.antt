@@ -21,7 +21,7 @@ use Rattle.record.specs.Kept.{frameHeld}
 use Rattle.sound.specs.declared.Lent.the-variants.{Blank, Unsound, Sound}
 use Rattle.sound.specs.inside.Sound.{noPlan, frameSound, emptyAt, placeSound, kindSound, rowsSound, votesSound, soundIn, sound, lentIs}
 use Rattle.sound.proofs.All.{allAt}
-use Rattle.equivocation.specs.Call.{isSound}
+use Rattle.contents.specs.Which.{isSound}
 
 -- The tests of a lent record, where it is sound.
 soundOf : (a b c : Bool) → isSound (cond a (cond b Blank (cond c Sound Unsound)) Unsound) ≡ true → c ≡ true

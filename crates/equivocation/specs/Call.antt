@@ -1,7 +1,7 @@
 -- The call that names them, on lent bytes: the answer, and every byte of the output afterwards (document 02, wish 5).
 -- Assumes nothing.
 use Prim.Native.Nat.{ℕ, zero, suc, _+_}
-use mathlib.Core.Bool.{Bool, true, false, not, _||_}
+use mathlib.Core.Bool.{Bool, not, _||_}
 use mathlib.Core.List.{List, [], _∷_, map}
 use lib.Dec.{ltb, eqb}
 use lib.ListN.{length, take, drop}
@@ -11,10 +11,9 @@ use Rattle.frame.specs.Refusal.{Row, row, first}
 use Rattle.settings.specs.declared.Settings.{Settings}
 use Rattle.record.specs.Slots.{Record}
 use Rattle.record.specs.Layout.{decodeRecord}
-use Rattle.sound.specs.declared.Lent.{Lent}
-use Rattle.sound.specs.declared.Lent.the-variants.{Blank, Unsound, Sound}
 use Rattle.sound.specs.inside.Sound.{lentIs}
 use Rattle.contents.specs.Left.{Left, wrote, gave}
+use Rattle.contents.specs.Which.{isSound}
 use Rattle.equivocation.specs.Named.{any, named}
 
 -- 'the desk collects 2 to 64 vault records': they lie end to end, and the length of each is told.
@@ -26,12 +25,6 @@ handedIn (k ∷ lengths) s = take k s ∷ handedIn lengths (drop k s)
 unfoldable pub sum : List ℕ → ℕ
 sum [] = 0
 sum (k ∷ lengths) = k + sum lengths
-
--- Not 'a blank or unsound record': `LentIsSaid` of crate contents says which bytes are which.
-abbrev pub isSound : Lent → Bool
-isSound Blank = false
-isSound Unsound = false
-isSound Sound = true
 
 -- 'records differing in n or f'.
 abbrev pub unlike : Settings → Settings → Bool

@@ -67,6 +67,10 @@ pub const REFUSED_PREVIOUS: u8 = 22;
 
 pub const REFUSED_RECORDS: u8 = 24;
 
+pub const REFUSED_REMNANT_LENGTH: u8 = 25;
+
+pub const REFUSED_REMNANT_UNSOUND: u8 = 26;
+
 // Recipients of an entry that are no vault's number: the host, and all vaults.
 pub const TO_HOST: u8 = 254;
 

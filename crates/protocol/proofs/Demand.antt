@@ -1,7 +1,8 @@
 -- Demand 3: in a run any two decisions are for the same plan, and where all vaults keep the rules it is a plan of a start.
--- By induction over the list every record is good for the past of the list (`invariant`). Only where a frame is kept is the
--- run's condition on frames used; loss, repetition and order never appear again. Then the votes written are a lawful history
--- (crate rules, Agree), and a decision has a quorum of vote-4.
+-- By induction over the list every record, and every one whose remnant is stored, is good for the past of the list (`invariant`): a cut and a
+-- restart leave the past as it was, and a record with its own row alone is good where it was good before (`aloneGood`). Only where a frame is
+-- kept is the run's condition on frames used; loss, repetition and order never appear again. Then the votes written are a lawful
+-- history (crate rules, Agree), and a decision has a quorum of vote-4.
 -- Assumes nothing.
 use Prim.Native.Nat.{ℕ, zero, suc, _*_, _<_}
 use mathlib.Core.Path.{_≡_, refl, sym, _∙_, ap, subst, fun-ext}
@@ -36,56 +37,18 @@ use Rattle.protocol.specs.Calls.{recordRows, timerRows, started, heard, 
 use Rattle.protocol.specs.Calls.{unless, answer}
 use Rattle.protocol.specs.Fed.{Readable}
 use Rattle.settings.specs.Settings.{settingRows}
-use Rattle.protocol.specs.inside.Runs.{ContentsSetting, ContentsItem, recordAfter, wroteBy, recordAt, written, ContentsSent, Fair, ContentsRun}
-use Rattle.protocol.specs.inside.Runs.{nothingYet, andThen, ContentsDecides}
+use Rattle.protocol.specs.Alone.{alone}
+use Rattle.protocol.specs.inside.Runs.{ContentsSetting, Event, made, ContentsItem, recordAt, storedAt, written}
+use Rattle.protocol.specs.inside.Runs.{ContentsSent, Fair, Comes, ContentsRun, nothingYet, andThen, ContentsDecides}
 use Rattle.protocol.specs.inside.Runs.{ContentsStarted, here, earlier}
 use Rattle.protocol.specs.inside.Claim.{Demand3ByContents}
-use Rattle.protocol.proofs.Tables.{putOther, putOwn}
+use Rattle.protocol.proofs.Tables.{putOther}
 use Rattle.protocol.proofs.Past.{Past, Voted, ExactNow, Fine, Ground}
 use Rattle.protocol.proofs.Past as Past′
-use Rattle.protocol.proofs.Good.{onto, Good, Seed, chosenSeed, waits, anySeed}
+use Rattle.protocol.proofs.Good.{onto, Good, Seed, chosenSeed, waits, aloneGood, anySeed}
+use Rattle.protocol.proofs.Items.{viewIn, past, item, recordAccepted, storedAccepted, pastAccepted, Still, Again, Happens, went, stays, happens, pastStill}
+use Rattle.protocol.proofs.Items.{putEach}
 use Rattle.protocol.proofs.Went.{noneGiven, unlessAccepted, thirdWeight, Went, startWent, heardWent, timedOutWent}
-
--- The view of a record, 0 where it is blank.
-abbrev pub viewIn : Option Record → ℕ
-viewIn none = 0
-viewIn (some r) = r .view
-
--- The past of a list of calls.
-abbrev pub past : List ContentsItem → Past
-past l = record { wrote = written l; at = λ i. viewIn (recordAt l i) }
-
--- A refused call leaves the past as it was, an accepted one adds what it answers.
-pub pastRefused : (l : List ContentsItem) (x : ContentsItem) (k : ℕ) → answer (recordAt l (x .at)) (x .call) ≡ refused k
-    → (recordAt (x ∷ l) ≡ recordAt l) × (written (x ∷ l) ≡ written l)
-unfolding recordAt written
-pastRefused l x k e = (
-  ap (λ (a : Answer). put (x .at) (recordAfter (recordAt l (x .at)) a) (recordAt l)) e ∙ putOwn (x .at) (recordAt l),
-  ap (λ (a : Answer). put (x .at) (written l (x .at) ++ wroteBy a) (written l)) e
-      ∙ ap (λ (es : List Entry). put (x .at) es (written l)) (append-nil (written l (x .at))) ∙ putOwn (x .at) (written l),
-)
-
--- After an accepted call its vault has the record that it left, and the others have theirs.
-pub recordAccepted : (l : List ContentsItem) (x : ContentsItem) (o : Out) → answer (recordAt l (x .at)) (x .call) ≡ accepted o
-    → recordAt (x ∷ l) ≡ put (x .at) (some (o .left)) (recordAt l)
-unfolding recordAt
-recordAccepted l x o e = ap (λ (a : Answer). put (x .at) (recordAfter (recordAt l (x .at)) a) (recordAt l)) e
-
--- The past after an accepted call is the one before it, with what the call answered.
-pub pastAccepted : (l : List ContentsItem) (x : ContentsItem) (o : Out) → answer (recordAt l (x .at)) (x .call) ≡ accepted o
-    → past (x ∷ l) ≡ onto (past l) (x .at) o
-unfolding written
-pastAccepted l x o e z = record { wrote = wrote z; at = at z }
-  where
-    wrote : written (x ∷ l) ≡ put (x .at) (written l (x .at) ++ o .wrote) (written l)
-    wrote = ap (λ (a : Answer). put (x .at) (written l (x .at) ++ wroteBy a) (written l)) e
-
-    view : (b : Bool) (j : ℕ) → viewIn (cond b (some (o .left)) (recordAt l j)) ≡ cond b (o .left .view) (viewIn (recordAt l j))
-    view true j = refl
-    view false j = refl
-
-    at : _≡_ {A = ℕ → ℕ} (λ j. viewIn (recordAt (x ∷ l) j)) (put (x .at) (o .left .view) (λ j. viewIn (recordAt l j)))
-    at = fun-ext (λ j. ap (λ (t : ℕ → Option Record). viewIn (t j)) (recordAccepted l x o e) ∙ view (eqb (x .at) j) j)
 
 -- Vaults that weigh something are some.
 someVault : (vs : Vaults) → 0 < total vs → 0 < vs .n
@@ -100,33 +63,39 @@ module _ (c : ContentsSetting) (Began : ℕ → Type 0) where
   abbrev Third : Type 0
   Third = 3 * c .vaults .f < total (c .vaults)
 
-  -- Every record is its vault's own and good; a blank vault has written nothing; and only rule-keepers are called.
+  -- The record is vault i's own, and good for the past of the list.
+  abbrev pub OwnGood : List ContentsItem → ℕ → Record → Type 0
+  OwnGood l i r = (r .set .id ≡ i) × Third × Good c Began (past l) r
+
+  -- Every record, and every one whose remnant is stored, is its vault's own and good; where nothing is stored nothing was written; and only
+  -- rule-keepers are called.
   pub record Inv (l : List ContentsItem) : Type 0 where
-    pub good : (i : ℕ) (r : Record) → recordAt l i ≡ some r → (r .set .id ≡ i) × Third × Good c Began (past l) r
-    pub blank : (i : ℕ) → recordAt l i ≡ none → written l i ≡ []
+    pub good : (i : ℕ) (r : Record) → recordAt l i ≡ some r → OwnGood l i r
+    pub stored : (i : ℕ) (r : Record) → storedAt l i ≡ some r → OwnGood l i r
+    pub blank : (i : ℕ) → storedAt l i ≡ none → written l i ≡ []
     pub kept : (i : ℕ) (e : Entry) → e ∈ written l i → c .keeps i ≡ true
 
   -- ---- what is written
 
   module _ {l : List ContentsItem} (v : Inv l) where
-    -- A vault that has written something has a record, and it is good.
-    author : (i : ℕ) (e : Entry) → e ∈ written l i → (r : Record) × (r .set .id ≡ i) × Third × Good c Began (past l) r
-    author i e at = go (recordAt l i) refl
+    -- A vault that has written something has a remnant stored, of a record that is good.
+    author : (i : ℕ) (e : Entry) → e ∈ written l i → (r : Record) × OwnGood l i r
+    author i e at = go (storedAt l i) refl
       where
-        go : (b : Option Record) → recordAt l i ≡ b → (r : Record) × (r .set .id ≡ i) × Third × Good c Began (past l) r
+        go : (b : Option Record) → storedAt l i ≡ b → (r : Record) × OwnGood l i r
         go none is = elim (subst (λ (es : List Entry). e ∈ es) (v .blank i is) at) [ ]
-        go (some r) is = let (id, third, g) = v .good i r is in (r, id, third, g)
+        go (some r) is = (r, v .stored i r is)
 
     -- Every entry of the run says what is so.
     toldAt : (i : ℕ) (e : Entry) → e ∈ written l i → Past′.Told c Began (past l) i e
     toldAt i e at =
-        let (r, id, third, g) = author i e at in
+        let (r, (id, third, g)) = author i e at in
         subst (λ (j : ℕ). e ∈ written l j → Past′.Told c Began (past l) j e) id (g .told e) at
 
     -- No vault sent one vote twice in a view, for two plans.
     pub onceAt : (i k w p q : ℕ) → Voted (past l) i k w p → Voted (past l) i k w q → p ≡ q
     onceAt i k w p q x y =
-        let (r, id, third, g) = author i _ x in
+        let (r, (id, third, g)) = author i _ x in
         subst (λ (j : ℕ). Voted (past l) j k w p → Voted (past l) j k w q → p ≡ q) id (g .once k w p q) x y
 
     -- A frame of a rule-keeper, as the run lets it come, was rightly sent.
@@ -162,12 +131,12 @@ module _ (c : ContentsSetting) (Began : ℕ → Type 0) where
       go (timer w) none e began fair is = never is
       go (frame (Refused k)) (some r) e began fair is = never is
       go (start s p) none e began fair is =
-          let (same-vaults, id) = fair o (ap (λ (b : Option Record). answer b (start s p)) e ∙ is) in
+          let (same-vaults, id, empty) = fair o (ap (λ (b : Option Record). answer b (start s p)) e ∙ is) in
           let tested : unless (first (settingRows s)) (started s p) ≡ accepted o = is in
           let (given, same) = unlessAccepted (first (settingRows s)) (started s p) tested in
           let third : Third = subst (λ (vs : Vaults). 3 * vs .f < total vs) same-vaults (thirdWeight s given) in
-          let blank : written l (s .id) ≡ [] = ap (written l) id ∙ v .blank i e in
-          let zeroView : viewIn (recordAt l (s .id)) ≡ 0 = ap (λ (j : ℕ). viewIn (recordAt l j)) id ∙ ap viewIn e in (
+          let blank : written l (s .id) ≡ [] = ap (written l) id ∙ v .blank i empty in
+          let zeroView : viewIn (storedAt l (s .id)) ≡ 0 = ap (λ (j : ℕ). viewIn (storedAt l j)) id ∙ ap viewIn empty in (
             third,
             subst (λ (u : Out). Went c Began (past l) i u) same
                 (subst (λ (j : ℕ). Went c Began (past l) j (started s p)) id
@@ -194,71 +163,91 @@ module _ (c : ContentsSetting) (Began : ℕ → Type 0) where
 
   -- The invariant holds before any call: all is blank.
   invNone : Inv []
-  unfolding recordAt written
-  invNone = record { good = λ i r e. absurd (none≢some e); blank = λ i e. refl; kept = λ i e at. elim at [ ] }
+  unfolding recordAt storedAt written
+  invNone = record { good = λ i r e. absurd (none≢some e); stored = λ i r e. absurd (none≢some e); blank = λ i e. refl; kept = λ i e at. elim at [ ] }
 
-  -- A refused call keeps the invariant, as it changes nothing.
-  invRefused : {l : List ContentsItem} (x : ContentsItem) (k : ℕ) → answer (recordAt l (x .at)) (x .call) ≡ refused k → Inv l → Inv (x ∷ l)
-  invRefused {l} x k is v =
-      let (records, entries) = pastRefused l x k is in
-      let same : past l ≡ past (x ∷ l) = λ z. record { wrote = sym entries z; at = λ i. viewIn (sym records z i) } in
-      record {
-        good =
-            λ i r e. subst (λ (h : Past). (r .set .id ≡ i) × Third × Good c Began h r) same
-            (v .good i r (ap (λ (t : ℕ → Option Record). t i) (sym records) ∙ e));
-        blank = λ i e. ap (λ (t : ℕ → List Entry). t i) entries ∙ v .blank i (ap (λ (t : ℕ → Option Record). t i) (sym records) ∙ e);
-        kept = λ i e at. v .kept i e (subst (λ (t : ℕ → List Entry). e ∈ t i) entries at);
-      }
+  -- What a table says at a place, where the table is another one.
+  there : {A : Type 0} {t u : ℕ → A} {x : A} → t ≡ u → (j : ℕ) → t j ≡ x → u j ≡ x
+  there same j e = ap (λ (f : ℕ → _). f j) (sym same) ∙ e
 
-  -- An accepted call keeps it: its vault's record is good, and the other vaults only see a later past.
-  invAccepted : {l : List ContentsItem} (x : ContentsItem) (o : Out) → c .keeps (x .at) ≡ true → answer (recordAt l (x .at)) (x .call) ≡ accepted o
-      → Third → Went c Began (past l) (x .at) o → Inv l → Inv (x ∷ l)
-  invAccepted {l} x o keeps is third w v = record {
-    good = λ i r e. goodAt i r (which (eqb (x .at) i)) (ap (λ (t : ℕ → Option Record). t i) (sym (recordAccepted l x o is)) ∙ e);
-    blank = λ i e. blankAt i (which (eqb (x .at) i)) (ap (λ (t : ℕ → Option Record). t i) (sym (recordAccepted l x o is)) ∙ e);
-    kept = λ i e at. keptAt i e (which (eqb (x .at) i)) (subst (λ (h : Past). e ∈ h .wrote i) (pastAccepted l x o is) at);
-  }
-    where
-      goodAt : (i : ℕ) (r : Record) → (eqb (x .at) i ≡ true) ⊎ (eqb (x .at) i ≡ false) → put (x .at) (some (o .left)) (recordAt l) i ≡ some r
-          → (r .set .id ≡ i) × Third × Good c Began (past (x ∷ l)) r
-      goodAt i r (inl same) e =
-          let its : o .left ≡ r = ownLeft (rw same at e) in (
-            ap (λ (z : Record). z .set .id) (sym its) ∙ w .id ∙ eqb-true (x .at) i same,
-            third,
-            subst (λ (h : Past). Good c Began h r) (sym (pastAccepted l x o is))
-                (subst (λ (z : Record). Good c Began (onto (past l) (x .at) o) z) its (w .good)),
-          )
-        where
-          ownLeft : some (o .left) ≡ some r → o .left ≡ r
-          ownLeft e = cc
-      goodAt i r (inr other) e =
-          let (id, third, g) = v .good i r (rw other at e) in
-          let apart : x .at ≡ r .set .id → ⊥ = λ (z : x .at ≡ r .set .id). eqb-false (x .at) i other (z ∙ id) in (
-            id,
-            third,
-            subst (λ (h : Past). Good c Began h r) (sym (pastAccepted l x o is))
-                (waits c Began (w .later) (putOther (x .at) _ (written l) (r .set .id) apart) (putOther (x .at) _ (past l .at) (r .set .id) apart) g),
-          )
+  module _ {l : List ContentsItem} (v : Inv l) (i : ℕ) where
+    -- A record that is there again is good: what the own row says was sent, and the rest is gone.
+    againGood : (r : Record) → Again l i r → OwnGood l i r
+    unfolding alone
+    againGood r (inl old) = v .good i r old
+    againGood r (inr (s, is, same)) = let (id, third, g) = v .stored i s is in subst (OwnGood l i) same (id, third, aloneGood c Began g)
 
-      blankAt : (i : ℕ) → (eqb (x .at) i ≡ true) ⊎ (eqb (x .at) i ≡ false) → put (x .at) (some (o .left)) (recordAt l) i ≡ none → written (x ∷ l) i ≡ []
-      blankAt i (inl same) e = absurd (none≢some (sym (rw same at e)))
-      blankAt i (inr other) e = ap (λ (h : Past). h .wrote i) (pastAccepted l x o is) ∙ rw other (v .blank i (rw other at e))
+    -- A refused call, a cut and a restart keep the invariant: the past stays, and the record is good or none.
+    invStill : {x : Event} (b : Option Record) → Still l i x b → ((r : Record) → b ≡ some r → Again l i r) → Inv (item l i x ∷ l)
+    invStill {x} b s again = record {
+      good = λ j r e. later j r (putEach (λ j b. (r : Record) → b ≡ some r → OwnGood l j r) i b (recordAt l) (λ r e. againGood r (again r e))
+          (λ j other. v .good j) j r (there (s .records) j e));
+      stored = λ j r e. later j r (v .stored j r (there (s .stores) j e));
+      blank = λ j e. ap (λ (t : ℕ → List Entry). t j) (s .entries) ∙ v .blank j (there (s .stores) j e);
+      kept = λ j e at. v .kept j e (subst (λ (t : ℕ → List Entry). e ∈ t j) (s .entries) at);
+    }
+      where
+        later : (j : ℕ) (r : Record) → OwnGood l j r → OwnGood (item l i x ∷ l) j r
+        later j r = subst (λ (h : Past). (r .set .id ≡ j) × Third × Good c Began h r) (sym (pastStill l i s))
 
-      keptAt : (i : ℕ) (e : Entry) → (eqb (x .at) i ≡ true) ⊎ (eqb (x .at) i ≡ false) → e ∈ (onto (past l) (x .at) o) .wrote i → c .keeps i ≡ true
-      keptAt i e (inl same) at = subst (λ (j : ℕ). c .keeps j ≡ true) (eqb-true (x .at) i same) keeps
-      keptAt i e (inr other) at = v .kept i e (rw other at at)
+    -- An accepted call keeps it: its vault's record is good, and the other vaults only see a later past.
+    invAccepted : (a : Call) (o : Out) → c .keeps i ≡ true → answer (recordAt l i) a ≡ accepted o → Third → Went c Began (past l) i o
+        → Inv (item l i (made a) ∷ l)
+    invAccepted a o keeps is third w = record {
+      good = λ j r e. goodAt (recordAt l) (v .good) j r (there (recordAccepted l i a o is) j e);
+      stored = λ j r e. goodAt (storedAt l) (v .stored) j r (there (storedAccepted l i a o is) j e);
+      blank = λ j e. blankAt j (there (storedAccepted l i a o is) j e);
+      kept = λ j e at. keptAt j e (subst (λ (h : Past). e ∈ h .wrote j) after at);
+    }
+      where
+        l′ : List ContentsItem
+        l′ = item l i (made a) ∷ l
+
+        after : past l′ ≡ onto (past l) i o
+        after = pastAccepted l i a o is
+
+        left : (r : Record) → some (o .left) ≡ some r → OwnGood l′ i r
+        left r e =
+            let its : o .left ≡ r = cc in (
+              ap (λ (z : Record). z .set .id) (sym its) ∙ w .id,
+              third,
+              subst (λ (h : Past). Good c Began h r) (sym after) (subst (λ (z : Record). Good c Began (onto (past l) i o) z) its (w .good)),
+            )
+
+        other : (j : ℕ) → eqb i j ≡ false → (r : Record) → OwnGood l j r → OwnGood l′ j r
+        other j apart r (id, third, g) =
+            let far : i ≡ r .set .id → ⊥ = λ (z : i ≡ r .set .id). eqb-false i j apart (z ∙ id) in (
+              id,
+              third,
+              subst (λ (h : Past). Good c Began h r) (sym after)
+                  (waits c Began (w .later) (putOther i _ (written l) (r .set .id) far) (putOther i _ (past l .at) (r .set .id) far) g),
+            )
+
+        goodAt : (t : ℕ → Option Record) → ((j : ℕ) (r : Record) → t j ≡ some r → OwnGood l j r) → (j : ℕ) (r : Record)
+            → put i (some (o .left)) t j ≡ some r → OwnGood l′ j r
+        goodAt t old = putEach (λ j b. (r : Record) → b ≡ some r → OwnGood l′ j r) i (some (o .left)) t left (λ j apart r e. other j apart r (old j r e))
+
+        blankAt : (j : ℕ) → put i (some (o .left)) (storedAt l) j ≡ none → written l′ j ≡ []
+        blankAt = putEach (λ j b. b ≡ none → written l′ j ≡ []) i (some (o .left)) (storedAt l) (λ e. absurd (none≢some (sym e)))
+            (λ j apart e. ap (λ (h : Past). h .wrote j) after ∙ rw apart (v .blank j e))
+
+        keptAt : (j : ℕ) (e : Entry) → e ∈ (onto (past l) i o) .wrote j → c .keeps j ≡ true
+        keptAt = putEach (λ j es. (e : Entry) → e ∈ es → c .keeps j ≡ true) i (written l i ++ o .wrote) (written l) (λ e at. keeps) (λ j apart. v .kept j)
 
   -- In every run all records are good for the past of the list.
   pub invariant : Seed c Began → {l : List ContentsItem} → ContentsRun c l → ((p : ℕ) → ContentsStarted p l → Began p) → Inv l
   invariant seed nothingYet began = invNone
-  invariant seed (andThen {l = l} {x = x} run keeps fair) began =
-      go (invariant seed run (λ p s. began p (earlier s))) (answer (recordAt l (x .at)) (x .call)) refl
+  invariant seed (andThen {l = l} {x = x} run keeps comes) began =
+      go (invariant seed run (λ p s. began p (earlier s))) (x .event) comes (happens l i c (x .event) comes) began
     where
-      go : Inv l → (a : Answer) → answer (recordAt l (x .at)) (x .call) ≡ a → Inv (x ∷ l)
-      go v (refused k) is = invRefused x k is v
-      go v (accepted o) is =
-          let (third, w) = callWent seed v (x .at) (x .call) (λ s p e. began p (here {s = s} e is)) fair o is in
-          invAccepted x o keeps is third w v
+      i : ℕ
+      i = x .at
+
+      go : Inv l → (y : Event) → Comes c l i y → Happens l i y → ((p : ℕ) → ContentsStarted p (item l i y ∷ l) → Began p) → Inv (item l i y ∷ l)
+      go v y comes (stays b s again) began = invStill v i b s again
+      go v y comes (went a o is) began =
+          let (third, w) = callWent seed v i a (λ s p e. began p (here {s = s} (ap made e) (ap (answer (recordAt l i)) (sym e) ∙ is))) comes o is in
+          invAccepted v i a o keeps is third w
 
   -- ---- the history is lawful
 
@@ -290,7 +279,7 @@ module _ (c : ContentsSetting) (Began : ℕ → Type 0) where
 
     -- A decision has a quorum of vote-4, as far as rule-keepers go; and f is below a third, as a start was accepted.
     decided : (i : ℕ) {p : ℕ} → ContentsDecides l i p → (w : ℕ) × Third × Locked (c .vaults) (c .keeps) (Voted (past l)) w p
-    decided i (w, at) = let (r, id, third, g) = author v i _ at in (w, third, toldAt v i _ at)
+    decided i (w, at) = let (r, (id, third, g)) = author v i _ at in (w, third, toldAt v i _ at)
 
     -- The run's rule-keepers are as the laws on quorums ask.
     mostly : Third → Mostly (c .vaults) (c .keeps)

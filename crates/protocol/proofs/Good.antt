@@ -34,8 +34,10 @@ use Rattle.settings.specs.declared.Settings.{Settings}
 use Rattle.settings.specs.Vaults.{vaultsOf}
 use Rattle.protocol.specs.Pass.{Act, ask, enter, cast, decide, shift, hasPrevious, timerEntry, entered, does, suggestEntry, writes, actC, Out, taken}
 use Rattle.protocol.specs.Calls.{keep}
+use Rattle.protocol.specs.Alone.{alone}
 use Rattle.protocol.specs.inside.Runs.{ContentsSetting}
 use Rattle.protocol.proofs.Tables.{putSame, putOther, keepSame, keepOtherKind, keepOtherSender, keepWas, eachSome, whenSome}
+use Rattle.protocol.proofs.OwnRow.{aloneWas, aloneVote}
 use Rattle.protocol.proofs.Past.{Past, Voted, Later, ExactNow, Fine, fineOn, Ground, groundOn, toldOn}
 use Rattle.protocol.proofs.Past as Past′
 use Rattle.protocol.proofs.Tops.{Tops, topsOn, newTops, shiftTops, claimBelow, lockBelow, exactReport}
@@ -568,6 +570,21 @@ module _ (c : ContentsSetting) (Began : ℕ → Type 0) where
     where
       ownsRow : (k : ℕ) → voteOf (keep x r) k (r .set .id) ≡ voteOf r k (r .set .id)
       ownsRow k = ap (λ (o : Option Frame). each o (λ y. voteBy (y .view) (y .body))) (keepOtherSender x (r .kept) (suc k) (r .set .id) other)
+
+  -- The vault comes back with its own row alone: what it sent is there, and of others nothing is left to be wrong.
+  pub aloneGood : {h : Past} {r : Record} → Good h r → Good h (alone r)
+  unfolding alone
+  aloneGood {h} {r} g = record {
+    vaults = g .vaults;
+    plan = g .plan;
+    now = g .now;
+    below = g .below;
+    once = g .once;
+    highest = λ k low. subst (Tops (Voted h (r .set .id) k)) (sym (aloneVote r k)) (g .highest k low);
+    previous = λ k has. subst (λ (o : Option Vote). Tops (Other (Voted h (r .set .id) k) o) (r .previous k)) (sym (aloneVote r k)) (g .previous k has);
+    kept = λ k j x e keeps. g .kept k j x (aloneWas r k j e) keeps;
+    told = g .told;
+  }
 
 -- Where all plans count as begun, every proposal is reasoned.
 pub anySeed : (c : ContentsSetting) → Seed c (λ p. Unit {0})

@@ -1,9 +1,11 @@
 pub mod Tables
 pub mod Asked
+pub mod OwnRow
 pub mod Past
 pub mod May
 pub mod Tops
 pub mod Good
+pub mod Items
 pub mod Went
 pub mod Demand
 pub mod Passes
@@ -15,6 +17,7 @@ pub mod Size
 pub mod Proper
 pub mod ReadsBack
 pub mod Settled
+pub mod Alone
 pub mod Lasting
 pub mod Sent
 pub mod Scripts

@@ -188,13 +188,13 @@ ownB r w top =
 -- ---- one step after the other
 
 -- The first n steps have nothing to do.
-record Done (n : ℕ) (r : Record) : Type 0 where
-  a : 1 ≤ n → actA r ≡ none
-  b : 2 ≤ n → actB r ≡ none
-  c : 3 ≤ n → actC r ≡ none
-  d : 4 ≤ n → actD r ≡ none
-  votes : (k : ℕ) → k < 3 → k + 5 ≤ n → actVote r (suc k) ≡ none
-  h : 8 ≤ n → actH r ≡ none
+pub record Done (n : ℕ) (r : Record) : Type 0 where
+  pub a : 1 ≤ n → actA r ≡ none
+  pub b : 2 ≤ n → actB r ≡ none
+  pub c : 3 ≤ n → actC r ≡ none
+  pub d : 4 ≤ n → actD r ≡ none
+  pub votes : (k : ℕ) → k < 3 → k + 5 ≤ n → actVote r (suc k) ≡ none
+  pub h : 8 ≤ n → actH r ≡ none
 
 -- Vote-k gives the steps before the one that sends it nothing to do.
 castDone : (n : ℕ) (r : Record) (k p : ℕ) → n ≤ k + 2 → k < 5 → Done n r → Done n (does r (cast k p))
@@ -416,7 +416,7 @@ quietStep : (s : Step) (rest : List Step) (r : Record) → s r ≡ record { left
 quietStep s rest r e f = passMore s rest r ∙ ap (λ (o : Out). onward (o .wrote) (pass rest (o .left))) e ∙ ap (onward []) f
 
 -- A pass over a record with nothing left to do changes nothing and writes nothing.
-quietPass : (r : Record) → Done 8 r → pass fromA r ≡ record { left = r; wrote = [] }
+pub quietPass : (r : Record) → Done 8 r → pass fromA r ≡ record { left = r; wrote = [] }
 unfolding stepA stepB stepC stepD stepVote stepH
 quietPass r q =
     quietStep stepA _ r (ap (taken r) (q .a (omega arith))) (quietStep stepB _ r (ap (taken r) (q .b (omega arith)))
@@ -427,7 +427,7 @@ quietPass r q =
     (quietStep stepH [] r (ap (taken r) (q .h (omega arith))) (passNone r))))))))
 
 -- After every accepted call no step has anything to do.
-callDone : (b : Option Record) (a : Call) (o : Out) → answer b a ≡ accepted o → Done 8 (o .left)
+pub callDone : (b : Option Record) (a : Call) (o : Out) → answer b a ≡ accepted o → Done 8 (o .left)
 unfolding started heard timedOut
 callDone =
     acceptedBy (λ b a o. Done 8 (o .left))
@@ -449,7 +449,7 @@ module _ (r : Record) (x : ℕ) (above : r .view < x) where
       go none top e = let off : (ltb (r .view) x && asked r isQuorum x) ≡ false = top x in rw (lt-ltb (r .view) x above) at off
 
   -- Where A has nothing to do, and a blocking set asks for a later view, the vault does.
-  asksToo : actA r ≡ none → asked r isBlocking x ≡ true → holds (leb x) (changeOf r (r .set .id)) ≡ true
+  pub asksToo : actA r ≡ none → asked r isBlocking x ≡ true → holds (leb x) (changeOf r (r .set .id)) ≡ true
   asksToo quiet h = go (highest (asked r isBlocking) (changeOf r) (r .set .n)) (askedHighest r .0) quiet
     where
       own : (w : ℕ) → x ≤ w → (ltb (r .view) w && not (holds (leb w) (changeOf r (r .set .id)))) ≡ false → holds (leb x) (changeOf r (r .set .id)) ≡ true

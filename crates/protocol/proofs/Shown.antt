@@ -25,8 +25,9 @@ use Rattle.settings.specs.Settings.{delayOf}
 use Rattle.protocol.specs.Record.{Record, highest}
 use Rattle.protocol.specs.Pass.{does, writes, agreed, pass, stepA, stepB, stepC, stepD, stepVote, stepH}
 use Rattle.protocol.specs.Calls.{answer, started, keep, heard, timedOut}
-use Rattle.protocol.specs.inside.Runs.{recordAt, written}
-use Rattle.protocol.proofs.Scripts.{Move, begin, hear, timeOut, lie, pick, calls, allFair}
+use Rattle.protocol.specs.Alone.{alone}
+use Rattle.protocol.specs.inside.Runs.{recordAt, storedAt, written}
+use Rattle.protocol.proofs.Scripts.{Move, begin, hear, timeOut, lie, cut, comeBack, hasBack, pick, calls, allFair}
 
 -- ---- moves
 
@@ -75,7 +76,7 @@ pub plainDecides : (wrote plain 0 6 ≡ some (Decision 0 7))
     × (wrote plain 2 5 ≡ some (Decision 0 7))
     × (wrote plain 3 5 ≡ some (Decision 0 7))
 unfolding delayOf answer started keep heard timedOut pass stepA stepB stepC stepD stepVote stepH does writes agreed highest safe free allowed claimed
-    twoSets backed choice smallest anyBelow weigh isQuorum isBlocking reach claims unlocked allows recordAt written calls
+    twoSets backed choice smallest anyBelow weigh isQuorum isBlocking reach claims unlocked allows recordAt storedAt written calls
 plainDecides = (refl, refl, refl, refl)
 
 -- ---- a vault that lies
@@ -100,14 +101,14 @@ liedFair = refl
 -- Vaults 0 and 2 keep different votes of vault 3.
 pub liedKept : (keptIn (recordAt (calls lied) 0) 2 3 ≡ some (voteOf3 7)) × (keptIn (recordAt (calls lied) 2) 2 3 ≡ some (voteOf3 9))
 unfolding delayOf answer started keep heard timedOut pass stepA stepB stepC stepD stepVote stepH does writes agreed highest safe free allowed claimed
-    twoSets backed choice smallest anyBelow weigh isQuorum isBlocking reach claims unlocked allows recordAt written calls within lengthOf encode
+    twoSets backed choice smallest anyBelow weigh isQuorum isBlocking reach claims unlocked allows recordAt storedAt written calls within lengthOf encode
     bodyAs decode badForm tooHigh badPrevious viewMissing misled refusal readFrame numberAt digits
 liedKept = (refl, refl)
 
 -- The three others decide 7 all the same.
 pub liedDecides : (wrote lied 0 6 ≡ some (Decision 0 7)) × (wrote lied 1 5 ≡ some (Decision 0 7)) × (wrote lied 2 5 ≡ some (Decision 0 7))
 unfolding delayOf answer started keep heard timedOut pass stepA stepB stepC stepD stepVote stepH does writes agreed highest safe free allowed claimed
-    twoSets backed choice smallest anyBelow weigh isQuorum isBlocking reach claims unlocked allows recordAt written calls within lengthOf encode
+    twoSets backed choice smallest anyBelow weigh isQuorum isBlocking reach claims unlocked allows recordAt storedAt written calls within lengthOf encode
     bodyAs decode badForm tooHigh badPrevious viewMissing misled refusal readFrame numberAt digits
 liedDecides = (refl, refl, refl)
 
@@ -131,5 +132,31 @@ pub laterDecides : (wrote later 0 13 ≡ some (Decision 1 7))
     × (wrote later 2 12 ≡ some (Decision 1 7))
     × (wrote later 3 12 ≡ some (Decision 1 7))
 unfolding delayOf answer started keep heard timedOut pass stepA stepB stepC stepD stepVote stepH does writes agreed highest safe free allowed claimed
-    twoSets backed choice smallest anyBelow weigh isQuorum isBlocking reach claims unlocked allows recordAt written calls
+    twoSets backed choice smallest anyBelow weigh isQuorum isBlocking reach claims unlocked allows recordAt storedAt written calls
 laterDecides = (refl, refl, refl, refl)
+
+-- ---- vaults that come back
+
+-- After each of the first three rounds of votes vault 0 is cut off and comes back, after the second one twice. Vault 3 is away from the second round
+-- to the third.
+abbrev pub returned : List Move
+returned = all 4 ++ (comeBack 0 ∷ cut 0 ∷ comeBack 3 ∷ all 3 ++ (comeBack 0 ∷ cut 0 ∷ comeBack 0 ∷ cut 0 ∷ all 2
+    ++ (cut 3 ∷ comeBack 0 ∷ cut 0 ∷ all 1 ++ begun)))
+
+-- The script is fair, so it is a run.
+pub returnedFair : allFair everyone returned ≡ true
+returnedFair = refl
+
+-- The other three decide 7 in view 0.
+pub returnedDecides : (wrote returned 0 6 ≡ some (Decision 0 7))
+    × (wrote returned 1 5 ≡ some (Decision 0 7))
+    × (wrote returned 2 5 ≡ some (Decision 0 7))
+unfolding delayOf answer started keep heard timedOut pass stepA stepB stepC stepD stepVote stepH does writes agreed highest safe free allowed claimed
+    twoSets backed choice smallest anyBelow weigh isQuorum isBlocking reach claims unlocked allows recordAt storedAt written calls alone
+returnedDecides = (refl, refl, refl)
+
+-- Vaults 0 and 3 come back.
+pub returnedBack : (hasBack 0 (calls returned) ≡ true) × (hasBack 3 (calls returned) ≡ true)
+unfolding delayOf answer started keep heard timedOut pass stepA stepB stepC stepD stepVote stepH does writes agreed highest safe free allowed claimed
+    twoSets backed choice smallest anyBelow weigh isQuorum isBlocking reach claims unlocked allows recordAt storedAt written calls alone
+returnedBack = (refl, refl)

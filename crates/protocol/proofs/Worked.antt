@@ -1,4 +1,4 @@
--- Worked calls, by computation: document 01's example, each step, the timer, the leader's choices, the twoSet vote.
+-- Worked calls, by computation: document 01's example, each step, the timer, the leader's choices, the twoSet vote, restarts.
 -- Assumes nothing.
 use Prim.Native.Nat.{ℕ, suc}
 use mathlib.Core.Path.{_≡_, refl}
@@ -16,8 +16,9 @@ use Rattle.frame.specs.declared.Reading.the-variants.{Accepted, Refused}
 use Rattle.entry.specs.declared.Entry.{Entry}
 use Rattle.entry.specs.declared.Entry.the-variants.{ForAll, ForOne, Timer, Decision}
 use Rattle.settings.specs.Settings.{delayOf}
-use Rattle.protocol.specs.Record.{Record, highest, spelt, kindOf}
+use Rattle.protocol.specs.Record.{Record, changed, each, highest, spelt, kindOf}
 use Rattle.protocol.specs.Pass.{does, writes, agreed, pass, stepA, stepB, stepC, stepD, stepVote, stepH}
+use Rattle.protocol.specs.Alone.{alone, restarted}
 use Rattle.protocol.specs.Calls.{Call, start, frame, timer, short, Answer, refused, accepted, started, keep, heard, timedOut, answer}
 
 -- ---- a script of calls at one vault, and what it replies
@@ -209,9 +210,68 @@ refusals = replies (
     ) none
     ≡ refusal 1 ∷ refusal 2 ∷ refusal 2 ∷ refusal 5 ∷ refusal 6 ∷ refusal 7 ∷ refusal 8 ∷ wrote (Timer 0 45000 ∷ []) ∷ refusal 4 ∷ refusal 9 ∷ refusal 1 ∷ []
 
+-- What the calls of a script leave.
+unfoldable leaves : List Call → Option Record → Option Record
+leaves [] b = b
+leaves (c ∷ cs) b = leaves cs (go (answer b c))
+  where
+    go : Answer → Option Record
+    go (refused k) = b
+    go (accepted o) = some (o .left)
+
+-- The record that a restart leaves, and what it writes.
+abbrev returned : Option Record → Option Record
+returned b = each b (λ r. some (restarted r .left))
+
+abbrev says : Option Record → Option (List Entry)
+says b = each b (λ r. some (restarted r .wrote))
+
+-- Document 02, wish 6: vault 0 took vote-1 for 7 from 1 and 2, and sent vote-2.
+abbrev voted : Option Record
+voted = leaves (starts 0 7 ∷ hears (vote 1 1 0 7) ∷ hears (vote 2 1 0 7) ∷ []) none
+
+-- The same frames again, two of vote-2, and the timer, once it is back.
+abbrev goesOn : List Call
+goesOn = hears (vote 1 1 0 7) ∷ hears (vote 2 1 0 7) ∷ hears (vote 1 2 0 7) ∷ hears (vote 2 2 0 7) ∷ timer 0 ∷ []
+
+-- 'A restart makes a record with that row and no others, and a timer entry; it sends no frame': it has its votes, and has to hear the others' again.
+abbrev comesBack : Type 0
+comesBack = (says voted ≡ some (timed 0 ∷ []))
+    × (replies goesOn (returned voted)
+    ≡ wrote [] ∷ wrote [] ∷ wrote [] ∷ wrote (ForAll (vote 0 3 0 7) ∷ []) ∷ wrote (ForAll (change 0 1) ∷ []) ∷ [])
+    × (replies (timer 0 ∷ starts 0 8 ∷ []) (returned (leaves goesOn (returned voted))) ≡ wrote (ForAll (change 0 1) ∷ []) ∷ refusal 4 ∷ [])
+
+-- The record in the last view of all.
+abbrev lastView : Option Record
+lastView = each voted (λ r. some (changed r 4294967295 (r .kept) (r .previous) (r .decision)))
+
+-- A restart is made there too, and the timer then gives 19.
+abbrev comesBackLast : Type 0
+comesBackLast = (says lastView ≡ some (timed 4294967295 ∷ [])) × (replies (timer 4294967295 ∷ []) (returned lastView) ≡ refusal 19 ∷ [])
+
 -- All of them hold by computation.
 worked : document × allVotes × lateVote × viewChanges × timerRepeats × timerBeyond × laterBacks × scattered × lowerEntered × ownPlan × lockedPlan
-    × lockedVote × twoSetVote × previousStays × decidesOnce × laterReplaces × refusals
-unfolding delayOf replies answer started keep heard timedOut pass stepA stepB stepC stepD stepVote stepH does writes agreed highest
+    × lockedVote × twoSetVote × previousStays × decidesOnce × laterReplaces × refusals × comesBack × comesBackLast
+unfolding delayOf replies leaves alone restarted answer started keep heard timedOut pass stepA stepB stepC stepD stepVote stepH does writes agreed highest
     safe free allowed claimed twoSets backed choice smallest anyBelow weigh isQuorum isBlocking reach claims unlocked allows
-worked = (refl, refl, refl, refl, refl, refl, refl, refl, refl, refl, refl, refl, refl, refl, refl, refl, refl)
+worked = (
+  refl,
+  refl,
+  refl,
+  refl,
+  refl,
+  refl,
+  refl,
+  refl,
+  refl,
+  refl,
+  refl,
+  refl,
+  refl,
+  refl,
+  refl,
+  refl,
+  refl,
+  (refl, refl, refl),
+  (refl, refl),
+)

@@ -3,6 +3,7 @@ pub mod Pass
 pub mod Asked
 pub mod OnePlan
 pub mod Calls
+pub mod Alone
 pub mod Settled
 pub mod Short
 pub mod ReadsBack

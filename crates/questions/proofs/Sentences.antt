@@ -45,21 +45,21 @@ beyond (x ∷ l) zero h = absurd (omega arith)
 beyond (x ∷ l) (suc number) h = beyond l number (omega arith)
 
 -- Nor has 0 one.
-pub noNumber : (number : ℕ) → (0 < number → 24 < number) → sentenceOf number ≡ []
+pub noNumber : (number : ℕ) → (0 < number → 26 < number) → sentenceOf number ≡ []
 unfolding sentenceOf textBytes
 noNumber zero h = refl
 noNumber (suc k) h = ap textBytes (beyond sentences (suc k) (h (omega arith)))
 
--- Beyond 22 only 24 has a sentence.
-pub beyondLast : (number : ℕ) → 22 < number → (number ≡ 24 → ⊥) → sentenceOf number ≡ []
+-- Beyond 22 only 24, 25 and 26 have a sentence. What came before in the match is kept apart, as A.
+pub beyondLast : (number : ℕ) {A : Type 0} → 22 < number → ((A × (number ≡ 24 → ⊥)) × (number ≡ 25 → ⊥)) × (number ≡ 26 → ⊥) → sentenceOf number ≡ []
 unfolding sentenceOf textBytes
-beyondLast number past other = go (decLt 24 number)
+beyondLast number past other = go (decLt 26 number) (other .0 .0 .1) (other .0 .1) (other .1)
   where
-    go : Dec (24 < number) → sentenceOf number ≡ []
-    go (yes beyond) = noNumber number (λ h. beyond)
-    go (no within) = let is : number ≡ 23 = omega arith in rw is refl
+    go : Dec (26 < number) → (number ≡ 24 → ⊥) → (number ≡ 25 → ⊥) → (number ≡ 26 → ⊥) → sentenceOf number ≡ []
+    go (yes beyond) records length content = noNumber number (λ h. beyond)
+    go (no within) records length content = let is : number ≡ 23 = omega arith in rw is refl
 
--- A number that is none of the next four is beyond them. What came before in the match is kept apart, as A.
+-- A number that is none of the next four is beyond them.
 pub beyondFour : (number k : ℕ) {A : Type 0} → k < number
     → (((A × (number ≡ k + 1 → ⊥)) × (number ≡ k + 2 → ⊥)) × (number ≡ k + 3 → ⊥)) × (number ≡ k + 4 → ⊥) → k + 4 < number
 beyondFour number k h r =

@@ -1,4 +1,4 @@
--- A sentence for each refusal of document 01's table and of document 02, wishes 1 and 5, in ASCII, and what asking for one leaves.
+-- A sentence for each refusal of document 01's table and of document 02, wishes 1, 5 and 6, in ASCII, and what asking for one leaves.
 -- Assumes nothing.
 use Prim.Native.Nat.{ℕ, _≤_}
 use Prim.Native.Char.{code}
@@ -15,7 +15,7 @@ use Rattle.wire.specs.Placed.{placed}
 abbrev pub sentences : List String
 sentences =
     text.[]
-    ∷ "the host lent less than 256 bytes for the output, or less than two numbers for an answer"
+    ∷ "the host lent less than 256 bytes for the output, 237 for a remnant, or two numbers for an answer"
     ∷ "this vault was not started yet"
     ∷ "the stored record is damaged, or of another program: restore it from the vault's own store, do not start anew"
     ∷ "this vault was started before, or its record is damaged"
@@ -39,6 +39,8 @@ sentences =
     ∷ "a previous vote without a highest one, not below it, or for the same plan"
     ∷ text.[]
     ∷ "there are not 2 to 64 records, one of them is blank or damaged, or they differ in n or f"
+    ∷ "the remnant is not 237 bytes long"
+    ∷ "the remnant is damaged: it makes no sound record"
     ∷ []
 
 -- The bytes of a text: a letter of ASCII is one byte.

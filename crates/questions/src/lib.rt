@@ -95,7 +95,7 @@ fn call_text(number: u32, out: &mut [u8]) -> usize
     match number {
         1 => put(
             out,
-            b"the host lent less than 256 bytes for the output, or less than two numbers for an answer",
+            b"the host lent less than 256 bytes for the output, 237 for a remnant, or two numbers for an answer",
         ),
         2 => put(out, b"this vault was not started yet"),
         3 => put(
@@ -148,7 +148,7 @@ fn frame_text(number: u32, out: &mut [u8]) -> usize
     }
 }
 
-// The sentences of a timer and of a line, those of a frame's reports, and that of records handed in.
+// The sentences of a timer and of a line, those of a frame's reports, that of records handed in, and those of a remnant.
 fn further_text(number: u32, out: &mut [u8]) -> usize
     requires { ⌜ 17 < number ⌝ }
     ensures { λ r. ⌜ Written (fitting (sentenceOf number) (length (now (out .entry)))) (now (out .entry)) (now (out .exit)) r ⌝ }
@@ -169,6 +169,8 @@ fn further_text(number: u32, out: &mut [u8]) -> usize
             out,
             b"there are not 2 to 64 records, one of them is blank or damaged, or they differ in n or f",
         ),
+        25 => put(out, b"the remnant is not 237 bytes long"),
+        26 => put(out, b"the remnant is damaged: it makes no sound record"),
         _ => 0,
     }
 }

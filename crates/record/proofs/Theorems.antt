@@ -89,7 +89,7 @@ encodeBytes r z = bytesAppend (sharedOf r) (blockOf r) shared block
 -- ---- written, then read
 
 -- slots spelt behind some bytes are read back
-readSlots : (slots : ℕ → Report) (from k j : ℕ) (p t : List ℕ) → ((i : ℕ) → Small (slots i)) → j < k
+pub readSlots : (slots : ℕ → Report) (from k j : ℕ) (p t : List ℕ) → ((i : ℕ) → Small (slots i)) → j < k
     → slotIn (p ++ (spelledSlots slots from k ++ t)) (length p + slotSize * j) ≡ slots (from + j)
 unfolding spelledSlots
 readSlots slots from zero j p t z h = absurd (not-suc-le-zero h)

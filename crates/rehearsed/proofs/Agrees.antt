@@ -21,17 +21,23 @@ use Rattle.frame.specs.Refusal.{first, leaderOf}
 use Rattle.entry.specs.declared.Entry.{Entry}
 use Rattle.entry.specs.declared.Entry.the-variants.{ForAll, ForOne, Timer, Decision}
 use Rattle.entry.specs.Valid.{AllValid}
+use Rattle.record.specs.Layout.{decodeRecord}
 use Rattle.record.specs.Size.{recordSize}
 use Rattle.protocol.specs.Pass.{Out}
 use Rattle.protocol.specs.Tables.{put, _∈_}
 use Rattle.protocol.specs.Calls.{accepted}
 use Rattle.protocol.proofs.Tables.{putSame, putOther}
 use Rattle.protocol.proofs.ReadsBack.{AllRight}
-use Rattle.contents.specs.Left.{wrote, gave}
-use Rattle.runs.specs.Runs.{ByteCall, frame, Item, recordIn, entriesIn, Setting, recordAt, written, Sent, Fair}
+use Rattle.contents.specs.Left.{Left, gave}
+use Rattle.contents.specs.Remnant.{remnantOf}
+use Rattle.runs.specs.Runs.{ByteCall, frame, made, Item, recordIn, entriesIn, entriesAfter, IsBlank, Setting, recordAt, written, Sent, Fair}
 use Rattle.runs.specs.Runs.{Run, nothingYet, andThen}
-use Rattle.runs.specs.Fixed.{leaves, Fixed}
+use Rattle.runs.specs.Fixed.{leaves}
+use Rattle.runs.specs.Five.{Fixed}
+use Rattle.runs.specs.Uncut.{Uncut}
 use Rattle.runs.proofs.Demand.{demand3Fixed}
+use Rattle.runs.proofs.Spelled.{soundStores}
+use Rattle.runs.proofs.Uncut.{startBlank, uncutBy}
 use Rattle.answers.specs.Lines.{zeroed, blankRecord}
 use Rattle.lines.specs.Lines.{after}
 use Rattle.stage.proofs.Apart.{liarRecord, liarWaiting}
@@ -72,18 +78,18 @@ setting liar = record {
 writtenMore : (l : List Item) (x : Item) (i : ℕ) (e : Entry) → e ∈ written l i → e ∈ written (x ∷ l) i
 unfolding written
 writtenMore l x i e at = ⊎-elim
-    (λ same. subst (λ (j : ℕ). e ∈ put (x .at) (written l (x .at) ++ entriesIn (x .left)) (written l) j) (eqb-true (x .at) i same)
-    (subst (λ (es : List Entry). e ∈ es) (sym (putSame (x .at) (written l (x .at) ++ entriesIn (x .left)) (written l)))
-    (Memᴰ·append-left (entriesIn (x .left)) (subst (λ (j : ℕ). e ∈ written l j) (sym (eqb-true (x .at) i same)) at))))
+    (λ same. subst (λ (j : ℕ). e ∈ put (x .at) (written l (x .at) ++ entriesAfter (x .event)) (written l) j) (eqb-true (x .at) i same)
+    (subst (λ (es : List Entry). e ∈ es) (sym (putSame (x .at) (written l (x .at) ++ entriesAfter (x .event)) (written l)))
+    (Memᴰ·append-left (entriesAfter (x .event)) (subst (λ (j : ℕ). e ∈ written l j) (sym (eqb-true (x .at) i same)) at))))
     (λ other. subst (λ (es : List Entry). e ∈ es)
-    (sym (putOther (x .at) (written l (x .at) ++ entriesIn (x .left)) (written l) i (eqb-false (x .at) i other))) at)
+    (sym (putOther (x .at) (written l (x .at) ++ entriesAfter (x .event)) (written l) i (eqb-false (x .at) i other))) at)
     (which (eqb (x .at) i))
 
 -- The newest item writes its entries.
-writtenNow : (l : List Item) (x : Item) (e : Entry) → e ∈ entriesIn (x .left) → e ∈ written (x ∷ l) (x .at)
+writtenNow : (l : List Item) (x : Item) (e : Entry) → e ∈ entriesAfter (x .event) → e ∈ written (x ∷ l) (x .at)
 unfolding written
 writtenNow l x e at =
-    subst (λ (es : List Entry). e ∈ es) (sym (putSame (x .at) (written l (x .at) ++ entriesIn (x .left)) (written l)))
+    subst (λ (es : List Entry). e ∈ es) (sym (putSame (x .at) (written l (x .at) ++ entriesAfter (x .event)) (written l)))
     (Memᴰ·append-right (written l (x .at)) at)
 
 module _ (liar : ℕ) where
@@ -133,6 +139,7 @@ module _ (liar : ℕ) where
   -- The run so far: it left the records of the vaults that keep the rules, and their frames that wait.
   record Tied (s : List ℕ) (l : List Item) : Type 0 where
     run : Run c Fixed l
+    uncut : Uncut l
     same : (v : ℕ) → v ≤ 3 → c .keeps v ≡ true → recordAt c l v ≡ recordOf s v
     told : Waits (Told l) s
 
@@ -151,7 +158,7 @@ module _ (liar : ℕ) where
       → ((i : ℕ) → c .keeps i ≡ true → wroteAt s m i ≡ []) → Next s l m
   idle s l m t records waits silent = record {
     items = l;
-    tied = record { run = t .run; same = λ v low keeps. t .same v low keeps ∙ sym (records v low keeps); told = waits (t .told) };
+    tied = record { run = t .run; uncut = t .uncut; same = λ v low keeps. t .same v low keeps ∙ sym (records v low keeps); told = waits (t .told) };
     old = λ i e at. at;
     new = λ i keeps e at. elim (subst (λ (es : List Entry). e ∈ es) (silent i keeps) at) [ ];
   }
@@ -187,16 +194,26 @@ module _ (liar : ℕ) where
 
   -- ---- an item
 
-  -- The item of a call at vault v.
+  -- What a call at vault v leaves.
+  abbrev leftBy : List ℕ → ℕ → ByteCall → Left
+  leftBy s v a = leaves (recordOf s v) a zeroed
+
+  -- The item of a call at vault v: made, and its remnant is stored.
   abbrev itemOf : List ℕ → ℕ → ByteCall → Item
-  itemOf s v a = record { at = v; call = a; out = zeroed; left = leaves (recordOf s v) a zeroed }
+  itemOf s v a = record { at = v; event = made a zeroed (leftBy s v a) (remnantOf (decodeRecord (recordIn (leftBy s v a)))) }
 
   -- An accepted call of a line is one that a run may have.
-  fair : (s : List ℕ) (l : List Item) → Tied s l → (v : ℕ) (a : ByteCall) → CallWell s v a → (o : Out) → Accepts v (recordOf s v) a o
+  fair : (s : List ℕ) (l : List Item) → Tied s l → (v : ℕ) → v ≤ 3 → c .keeps v ≡ true → (a : ByteCall) → CallWell s v a → (o : Out)
+      → Accepts v (recordOf s v) a o
       → Fair c l v a (leaves (recordOf s v) a zeroed)
   unfolding c setting
-  fair s l t v a (byStart class plan low) o acc = λ accepted. (refl, refl)
-  fair s l t v a (byFrame k w low is) o acc = λ keeps. sentBy (t .told k low w is keeps)
+  fair s l t v few rules a (byStart class plan low) o acc = λ went. (
+    refl,
+    refl,
+    uncutBy (λ rec a out left e. e) c l (t .run) (t .uncut) v
+        (subst IsBlank (sym (t .same v few rules)) (startBlank (recordOf s v) (record { n = 4; f = 1; id = v; class = class }) plan zeroed went)),
+  )
+  fair s l t v few rules a (byFrame k w low is) o acc = λ keeps. sentBy (t .told k low w is keeps)
     where
       sentBy : Wrote l (w .writer) (w .to) (w .bytes) → Sent l v (w .writer) (w .bytes)
       sentBy told = (
@@ -206,7 +223,7 @@ module _ (liar : ℕ) where
             inr (subst (λ (j : ℕ). ForOne j (told .frame) ∈ written l (w .writer))
             (sym led ∙ acc .led (w .writer) (told .frame) (ap (frame (w .writer)) (told .is)) (told .valid) seven) at)) (told .there),
       )
-  fair s l t v a (byTimer view) o acc = tt
+  fair s l t v few rules a (byTimer view) o acc = tt
 
   -- An accepted call at a vault that keeps the rules is the run's next item.
   itemNext : (s : List ℕ) (l : List Item) → Good s → Tied s l → (v : ℕ) → v ≤ 3 → (a : ByteCall) → CallWell s v a → (o : Out)
@@ -220,8 +237,13 @@ module _ (liar : ℕ) where
       record {
         items = x ∷ l;
         tied = record {
-          run = andThen {x = x} (t .run) keeps (callFits s (g .bytes) v a well (recordOf s v) .0)
-              (ap (λ (rec : List ℕ). leaves rec a zeroed) (sym (t .same v low keeps))) (fair s l t v a well o acc);
+          run = andThen {x = x} (t .run) keeps (
+            callFits s (g .bytes) v a well (recordOf s v) .0,
+            ap (λ (rec : List ℕ). leaves rec a zeroed) (sym (t .same v low keeps)),
+            fair s l t v low keeps a well o acc,
+            λ went. soundStores (recordIn (leftBy s v a)) (acc .held .spells .sound),
+          );
+          uncut = (tt, t .uncut);
           same = λ w few honest. ⊎-elim
               (λ is. subst (λ (i : ℕ). recordAt c (x ∷ l) i ≡ recordOf (done s (call v a) .stage) i) (eqb-true v w is)
               (putSame v (recordIn (leaves (recordOf s v) a zeroed)) (recordAt c l) ∙ sym (u .this)))
@@ -307,7 +329,7 @@ rehearsalAgrees texts i j p q notI notJ (v, a) (w, b) =
     keeps k other = let lies : isLiar (after rehearsal emptyStage texts) k ≡ false = other in ap not lies
 
     tied : Tied liar emptyStage []
-    tied = record { run = nothingYet; same = λ v low keeps. sym (blankAt v low); told = nothingWaits (Told liar []) }
+    tied = record { run = nothingYet; uncut = tt; same = λ v low keeps. sym (blankAt v low); told = nothingWaits (Told liar []) }
 
     f : Follows liar emptyStage [] texts
     f = follows liar texts emptyStage [] goodEmpty tied refl

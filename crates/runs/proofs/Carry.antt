@@ -108,10 +108,14 @@ fedSaid rec (some r) (timer view) h low = tt
 
 -- ---- what is left
 
--- The written bytes of an output read as the entries written.
-readBack : (out : List ℕ) (es : List Entry) → AllValid es → entriesOf (take (length (layout es)) (placed out 0 (layout es))) ≡ es
+-- Bytes put at the start of an output are its first ones.
+pub placedTake : (out bytes : List ℕ) → take (length bytes) (placed out 0 bytes) ≡ bytes
 unfolding placed
-readBack out es valid = ap entriesOf (take-at (layout es) (drop (0 + length (layout es)) out) (length (layout es)) refl) ∙ entriesReadBack es valid
+placedTake out bytes = take-at bytes (drop (0 + length bytes) out) (length bytes) refl
+
+-- The written bytes of an output read as the entries written.
+pub readBack : (out : List ℕ) (es : List Entry) → AllValid es → entriesOf (take (length (layout es)) (placed out 0 (layout es))) ≡ es
+readBack out es valid = ap entriesOf (placedTake out (layout es)) ∙ entriesReadBack es valid
 
 -- What an accepted call leaves: bytes that hold the new contents, and an output that says its entries.
 pub record LeftWell (rec out : List ℕ) (o : Out) : Type 0 where

@@ -7,21 +7,23 @@ use Prim.Native.Nat.{ℕ, _+_, _≤_}
 use mathlib.Core.Path.{_≡_, refl, sym, _∙_, ap, subst}
 use mathlib.Core.Logic.{_⊎_, inl, inr, ⊎-elim}
 use mathlib.Core.Bool.{Bool, true, false, cond}
-use mathlib.Core.List.{List}
+use mathlib.Core.List.{List, [], _∷_, append-nil}
 use mathlib.Core.Option.{Option, none, some}
 use native.Mathlib.Omega.{arith}
 use lib.Dec.{ltb}
-use lib.ListN.{length, take, drop}
-use lib.Seq.{take-at, drop-at}
+use lib.ListN.{length, getD, take, drop}
+use lib.Seq.{drop-at}
 use Rattle.wire.specs.Fields.{Bytes}
 use Rattle.wire.specs.Placed.{placed}
+use Rattle.wire.proofs.Laws.{numberBelow}
 use Rattle.wire.proofs.Output.{lengthPlaced}
 use Rattle.entry.specs.declared.Entry.{Entry}
-use Rattle.entry.specs.Layout.{layout}
+use Rattle.entry.specs.Layout.{entryBytes, layout}
 use Rattle.entry.specs.Valid.{AllValid}
 use Rattle.entry.specs.Reading.{entriesOf}
+use Rattle.entry.proofs.Theorems.{entrySpan}
 use Rattle.settings.specs.declared.Settings.{Settings}
-use Rattle.record.specs.Layout.{decodeRecord}
+use Rattle.record.specs.Layout.{encodeRecord, decodeRecord}
 use Rattle.sound.specs.declared.Lent.{Lent}
 use Rattle.sound.specs.declared.Lent.the-variants.{Blank, Unsound, Sound}
 use Rattle.sound.specs.inside.Sound.{lentIs}
@@ -31,23 +33,22 @@ use Rattle.protocol.specs.Calls as by
 use Rattle.protocol.specs.Calls.{accepted, answer}
 use Rattle.protocol.specs.Fed.{Fed}
 use Rattle.protocol.specs.ReadsBack.{ReadBy}
+use Rattle.protocol.proofs.Sound.{delayLow}
 use Rattle.protocol.proofs.ReadsBack as protocol
 use Rattle.contents.specs.Contents.{contents}
 use Rattle.contents.specs.Calls.{leftAfter, onLent, called, startLeft, frameLeft, timerLeft}
 use Rattle.contents.specs.Left.{gave}
 use Rattle.contents.specs.Spelling.{Spells}
+use Rattle.contents.specs.Remnant.{remnantOf, restored, timerBack}
 use Rattle.contents.proofs.Spelling.{Fine, spelledFine}
+use Rattle.contents.proofs.Own.{remnantLength}
+use Rattle.contents.proofs.Remnant.{writtenAny, restartedAny}
 use Rattle.runs.specs.Runs.{ByteCall, start, frame, timer, InWidth, recordIn, entriesIn}
 use Rattle.runs.specs.Fixed.{leaves}
-use Rattle.runs.specs.Left.{Kept, LeavesWell, AlwaysLeavesWell, ReadsBack, AlwaysReadsBack}
-use Rattle.runs.proofs.Carry.{said, carried, fedSaid, LeftWell, leftWell}
+use Rattle.runs.specs.Left.{Kept, LeavesWell, AlwaysLeavesWell, RestartLeavesWell, CopiesWell, WriteLeavesWell, ReadsBack, AlwaysReadsBack}
+use Rattle.runs.proofs.Carry.{said, carried, fedSaid, placedTake, readBack, LeftWell, leftWell}
 
--- Bytes put at the start of an output are its first ones, and what stands behind them is as it was.
-placedTake : (out es : List ℕ) → take (length es) (placed out 0 es) ≡ es
-unfolding placed
-placedTake out es = take-at es (drop (0 + length es) out) (length es) refl
-
--- And behind them the output is as it was.
+-- Behind bytes put at the start of an output it is as it was.
 placedDrop : (out es : List ℕ) → drop (length es) (placed out 0 es) ≡ drop (length es) out
 unfolding placed
 placedDrop out es =
@@ -153,3 +154,38 @@ callLeavesWell rec out a bytes low = ⊎-elim
 pub callReadsBack : AlwaysReadsBack
 callReadsBack rec out a bytes low =
     ⊎-elim (λ (k, is). subst ReadsBack (sym is) tt) (λ w. subst ReadsBack (sym (w .is)) (acceptedReadsBack w)) (goes rec out a bytes low)
+
+-- ---- the two calls on remnants
+
+-- A restart that is not refused leaves the sound record that it made, and its timer entry.
+pub restartLeavesWell : RestartLeavesWell
+unfolding restored
+restartLeavesWell rec remnant out bytes = ⊎-elim
+    (λ (k, is). subst (LeavesWell rec out) (sym is) (refl, refl))
+    (λ (room, sound, is). subst (LeavesWell rec out) (sym is) (keptBy out es (encodeRecord (restored remnant)) room few valid (readBack out es valid) sound))
+    (restartedAny rec remnant out)
+  where
+    es : List Entry
+    es = timerBack (restored remnant) ∷ []
+
+    valid : AllValid es
+    valid = ((numberBelow 4 remnant 4 bytes, omega (arith, delayLow (getD remnant 3 0))), tt)
+
+    few : length (layout es) ≤ 256
+    few = let whole = append-nil (entryBytes (timerBack (restored remnant))) in rw whole (omega (arith, entrySpan (timerBack (restored remnant)) .1))
+
+-- Writing a remnant leaves the record.
+pub writeLeavesWell : WriteLeavesWell
+writeLeavesWell rec out = ⊎-elim
+    (λ (k, is). subst (CopiesWell rec out) (sym is) (refl, refl))
+    (λ (room, sound, is). subst (CopiesWell rec out) (sym is) (record {
+      sound = sound;
+      same = refl;
+      whole = refl;
+      size = lengthPlaced out 0 bytes (omega (arith, remnantLength (decodeRecord rec)));
+      beyond = subst (λ (n : ℕ). drop n (placed out 0 bytes) ≡ drop n out) (remnantLength (decodeRecord rec)) (placedDrop out bytes);
+    }))
+    (writtenAny rec out)
+  where
+    bytes : List ℕ
+    bytes = remnantOf (decodeRecord rec)

@@ -4,3 +4,4 @@ pub mod Votes
 pub mod Left
 pub mod Spelled
 pub mod Shown
+pub mod Uncut

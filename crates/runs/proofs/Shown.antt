@@ -1,4 +1,4 @@
--- Nothing is vacuous: three runs over bytes in which vaults decide (document 01, 'Runs, as demand 3 means them'). Each is a script of
+-- Nothing is vacuous: four runs over bytes in which vaults decide (document 01, 'Runs, as demand 3 means them'). Each is a script of
 -- crate protocol, whose calls are a run by contents and compute; and every run by contents is one over bytes in which each vault
 -- writes the same and keeps the same (`runSpelled`).
 -- Assumes nothing.
@@ -16,12 +16,12 @@ use Rattle.entry.specs.declared.Entry.the-variants.{Decision}
 use Rattle.protocol.specs.Record.{Record}
 use Rattle.protocol.specs.inside.Runs as model
 use Rattle.protocol.specs.Tables.{_∈_}
-use Rattle.protocol.proofs.Scripts.{Move, pickIn, calls, allFair, ofFour, scriptRuns}
+use Rattle.protocol.proofs.Scripts.{Move, hasBack, pickIn, calls, allFair, ofFour, scriptRuns}
 use Rattle.protocol.proofs.Shown.{everyone, wrote, keptIn, plain, plainFair, plainDecides, butOne, lied, liedFair, liedKept, liedDecides, later}
-use Rattle.protocol.proofs.Shown.{laterFair, laterDecides}
+use Rattle.protocol.proofs.Shown.{laterFair, laterDecides, returned, returnedFair, returnedDecides, returnedBack}
 use Rattle.contents.specs.Spelling.{Spells}
 use Rattle.runs.specs.Runs.{recordAt}
-use Rattle.runs.specs.Shown.{Shown, DecidesIn, KeepsFrame, voteOf3, AllDecide, OneLies, LaterDecide}
+use Rattle.runs.specs.Shown.{Shown, DecidesIn, KeepsFrame, voteOf3, AllDecide, OneLies, LaterDecide, Restarts, ReturnedDecide}
 use Rattle.runs.proofs.Spelled.{spelled, Spelled, runSpelled}
 
 -- ---- a script over bytes
@@ -49,6 +49,11 @@ module _ (keeps : Set) (most : total (equals 4 1) - 1 ≤ size (equals 4 1) keep
       go none spells e = absurd (none≢some e)
       go (some r) spells e = ap (λ (r : Record). r .kept (x .kind) (x .sender)) (spells .holds) ∙ e
 
+  -- A restart by contents is one over bytes.
+  restarts : (i : ℕ) → hasBack i (calls ms) ≡ true → Restarts i (shown .calls)
+  unfolding shown
+  restarts = over .backs
+
 -- What holds of 0 to 3 holds of every number below 4.
 below4 : (P : ℕ → Type 0) → P 0 → P 1 → P 2 → P 3 → (i : ℕ) → i < 4 → P i
 below4 P p0 p1 p2 p3 zero low = p0
@@ -64,7 +69,7 @@ below3 P p0 p1 p2 (suc zero) low = p1
 below3 P p0 p1 p2 (suc (suc zero)) low = p2
 below3 P p0 p1 p2 (suc (suc (suc i))) low = absurd (omega arith)
 
--- ---- the three
+-- ---- the four
 
 -- All four are n - f or more.
 allMost : total (equals 4 1) - 1 ≤ size (equals 4 1) everyone
@@ -108,3 +113,19 @@ laterDecide = (
   where
     at : (i k : ℕ) → wrote later i k ≡ some (Decision 1 7) → DecidesIn (shown everyone allMost later laterFair) 1 i 7
     at i k = decides everyone allMost later laterFair 1 i 7 k
+
+-- One in which vaults 0 and 3 are cut off and come back, and the others and vault 0 decide 7.
+pub returnedDecide : ReturnedDecide
+returnedDecide = (
+  shown everyone allMost returned returnedFair,
+  (
+    restarts everyone allMost returned returnedFair 0 (returnedBack .0),
+    (
+      restarts everyone allMost returned returnedFair 3 (returnedBack .1),
+      below3 _ (at 0 6 (returnedDecides .0)) (at 1 5 (returnedDecides .1)) (at 2 5 (returnedDecides .2)),
+    ),
+  ),
+)
+  where
+    at : (i k : ℕ) → wrote returned i k ≡ some (Decision 0 7) → DecidesIn (shown everyone allMost returned returnedFair) 0 i 7
+    at i k = decides everyone allMost returned returnedFair 0 i 7 k

@@ -26,8 +26,8 @@ use Rattle.protocol.proofs.Good.{anySeed}
 use Rattle.protocol.proofs.Demand.{Inv, invariant, onceAt}
 use Rattle.contents.specs.Contents.{keptOf, contents}
 use Rattle.contents.specs.Spelling.{Spells, HoldsContents}
-use Rattle.runs.specs.Runs.{Rules, Item, entriesIn, Setting, recordAt, written, Run, andThen}
-use Rattle.runs.specs.Fixed.{Fixed}
+use Rattle.runs.specs.Runs.{Rules, Item, entriesAfter, Setting, recordAt, written, Run, andThen}
+use Rattle.runs.specs.Five.{Fixed}
 use Rattle.runs.specs.Votes.{Had, KeepsPlan, OnePlanKept}
 use Rattle.runs.proofs.Demand.{Follows, plain, Carried, carry}
 
@@ -36,7 +36,7 @@ use Rattle.runs.proofs.Demand.{Follows, plain, Carried, carry}
 -- A run up to some moment is a run.
 runBefore : (c : Setting) (keepsRules : Rules) (later earlier : List Item) → Run c keepsRules (later ++ earlier) → Run c keepsRules earlier
 runBefore c keepsRules [] earlier run = run
-runBefore c keepsRules (x ∷ later) earlier (andThen run keeps low ruled fair) = runBefore c keepsRules later earlier run
+runBefore c keepsRules (x ∷ later) earlier (andThen run keeps ruled) = runBefore c keepsRules later earlier run
 
 -- What was written stays written.
 writtenStays : (later earlier : List Item) (s : ℕ) (e : Entry) → e ∈ written earlier s → e ∈ written (later ++ earlier) s
@@ -47,8 +47,8 @@ writtenStays (x ∷ later) earlier s e at = go (eqb (x .at) s) refl (writtenStay
     l : List Item
     l = later ++ earlier
 
-    go : (b : Bool) → eqb (x .at) s ≡ b → e ∈ written l s → e ∈ cond b (written l (x .at) ++ entriesIn (x .left)) (written l s)
-    go true is was = Memᴰ·append-left (entriesIn (x .left)) (subst (λ (j : ℕ). e ∈ written l j) (sym (eqb-true (x .at) s is)) was)
+    go : (b : Bool) → eqb (x .at) s ≡ b → e ∈ written l s → e ∈ cond b (written l (x .at) ++ entriesAfter (x .event)) (written l s)
+    go true is was = Memᴰ·append-left (entriesAfter (x .event)) (subst (λ (j : ℕ). e ∈ written l j) (sym (eqb-true (x .at) s is)) was)
     go false is was = was
 
 -- ---- what is kept

@@ -13,6 +13,8 @@ use Rattle.sound.specs.declared.Lent.the-variants.{Sound}
 use Rattle.sound.specs.inside.Sound.{lentIs}
 use Rattle.protocol.specs.ReadsBack.{ReadBy}
 use Rattle.contents.specs.Left.{Left, wrote, gave}
+use Rattle.contents.specs.Size.{remnantSize}
+use Rattle.contents.specs.Remnant.{remnantLeft, restartLeft}
 use Rattle.runs.specs.Runs.{ByteCall, InWidth}
 use Rattle.runs.specs.Fixed.{leaves}
 
@@ -34,6 +36,26 @@ LeavesWell rec out (gave number rec′ out′) = (rec′ ≡ rec) × (out′ ≡
 -- Proved as `callLeavesWell` in proofs/Left.
 abbrev pub AlwaysLeavesWell : Type 0
 AlwaysLeavesWell = (rec out : List ℕ) (a : ByteCall) → Bytes rec → InWidth a → LeavesWell rec out (leaves rec a out)
+
+-- The same of a restart (document 02, wish 6), whatever record and bytes it is lent. Proved as `restartLeavesWell` in proofs/Left.
+abbrev pub RestartLeavesWell : Type 0
+RestartLeavesWell = (rec remnant out : List ℕ) → Bytes remnant → LeavesWell rec out (restartLeft rec remnant out)
+
+-- After a remnant is written: the record as it was, and sound; a remnant's length of bytes written; and the rest of the output as it was.
+pub record Copied (rec out : List ℕ) (count : ℕ) (rec′ out′ : List ℕ) : Type 0 where
+  pub sound : lentIs rec ≡ Sound
+  pub same : rec′ ≡ rec
+  pub whole : count ≡ remnantSize
+  pub size : length out′ ≡ length out
+  pub beyond : drop count out′ ≡ drop count out
+
+abbrev pub CopiesWell : List ℕ → List ℕ → Left → Type 0
+CopiesWell rec out (wrote count rec′ out′) = Copied rec out count rec′ out′
+CopiesWell rec out (gave number rec′ out′) = (rec′ ≡ rec) × (out′ ≡ out)
+
+-- Proved as `writeLeavesWell` in proofs/Left.
+abbrev pub WriteLeavesWell : Type 0
+WriteLeavesWell = (rec out : List ℕ) → CopiesWell rec out (remnantLeft rec out)
 
 -- 'wrote in an entry for all or for this vault': each other vault that a written frame is for reads it as that frame. n and the own number, which is
 -- the link, are those of the record left.

@@ -30,29 +30,46 @@ use borrow.Fn.World.{World, Pr}
 use Rattle.vault.proofs.start.Kinds as startKinds
 use Rattle.vault.proofs.frame.Kinds as frameKinds
 use Rattle.vault.proofs.timer.Kinds as timerKinds
+use Rattle.remnant.proofs.write_remnant.Kinds as writeKinds
+use Rattle.remnant.proofs.restart.Kinds as restartKinds
 use Rattle.vault.proofs.start.Symbol as start
 use Rattle.vault.proofs.frame.Symbol as frame
 use Rattle.vault.proofs.timer.Symbol as timer
+use Rattle.remnant.proofs.write_remnant.Symbol as write
+use Rattle.remnant.proofs.restart.Symbol as restart
 use Rattle.vault.proofs.start.Reads as readStart
 use Rattle.vault.proofs.frame.Reads as readFrame
 use Rattle.vault.proofs.timer.Reads as readTimer
+use Rattle.remnant.proofs.write_remnant.Reads as readWrite
+use Rattle.remnant.proofs.restart.Reads as readRestart
 use Rattle.vault.proofs.start.Met as metStart
 use Rattle.vault.proofs.frame.Met as metFrame
 use Rattle.vault.proofs.timer.Met as metTimer
+use Rattle.remnant.proofs.write_remnant.Met as metWrite
+use Rattle.remnant.proofs.restart.Met as metRestart
 use Rattle.vault_c.proofs.vault_start.Kinds as exportStartKinds
 use Rattle.vault_c.proofs.vault_frame.Kinds as exportFrameKinds
 use Rattle.vault_c.proofs.vault_timer.Kinds as exportTimerKinds
+use Rattle.vault_c.proofs.vault_write_remnant.Kinds as exportWriteKinds
+use Rattle.vault_c.proofs.vault_restart.Kinds as exportRestartKinds
 use Rattle.vault_c.proofs.vault_start.Symbol as exportStart
 use Rattle.vault_c.proofs.vault_frame.Symbol as exportFrame
 use Rattle.vault_c.proofs.vault_timer.Symbol as exportTimer
+use Rattle.vault_c.proofs.vault_write_remnant.Symbol as exportWrite
+use Rattle.vault_c.proofs.vault_restart.Symbol as exportRestart
 use Rattle.vault_c.proofs.vault_start.Reads as readExportStart
 use Rattle.vault_c.proofs.vault_frame.Reads as readExportFrame
 use Rattle.vault_c.proofs.vault_timer.Reads as readExportTimer
+use Rattle.vault_c.proofs.vault_write_remnant.Reads as readExportWrite
+use Rattle.vault_c.proofs.vault_restart.Reads as readExportRestart
 use Rattle.vault_c.proofs.vault_start.Met as metExportStart
 use Rattle.vault_c.proofs.vault_frame.Met as metExportFrame
 use Rattle.vault_c.proofs.vault_timer.Met as metExportTimer
+use Rattle.vault_c.proofs.vault_write_remnant.Met as metExportWrite
+use Rattle.vault_c.proofs.vault_restart.Met as metExportRestart
 use Rattle.shipped.specs.Tells.{Arguments, Answer, Last, Owned, lent, given, Ran, Tells}
-use Rattle.shipped.specs.Tells.{StartTells, FrameTells, TimerTells, ExportStartTells, ExportFrameTells, ExportTimerTells}
+use Rattle.shipped.specs.Tells.{StartTells, FrameTells, TimerTells, WriteTells, RestartTells}
+use Rattle.shipped.specs.Tells.{ExportStartTells, ExportFrameTells, ExportTimerTells, ExportWriteTells, ExportRestartTells}
 
 module _ (n : ℕ) (ps : List (PK n)) (r : RK n) (ρ : Routine) (Says : Out n ps r) where
   module _ (w : World) (x : Arguments n ps r w) (σ : Memory) (F : Pr w) where
@@ -152,6 +169,20 @@ timerTells =
     tells 2 timerKinds.ps timerKinds.r timer.routine _
     (λ w. readTimer.known w (λ _. timer.routine) anyName timer.routine refl (metTimer.met (w .𝓤) (w .H) (w .𝓜) (w .𝓖) (w .𝓡)))
 
+-- ---- the calls of crate remnant
+
+-- `write_remnant` ends, and leaves what `remnantLeft` says.
+pub writeTells : WriteTells
+writeTells =
+    tells 2 writeKinds.ps writeKinds.r write.routine _
+    (λ w. readWrite.known w (λ _. write.routine) anyName write.routine refl (metWrite.met (w .𝓤) (w .H) (w .𝓜) (w .𝓖) (w .𝓡)))
+
+-- `restart` ends, and leaves what `restartLeft` says.
+pub restartTells : RestartTells
+restartTells =
+    tells 3 restartKinds.ps restartKinds.r restart.routine _
+    (λ w. readRestart.known w (λ _. restart.routine) anyName restart.routine refl (metRestart.met (w .𝓤) (w .H) (w .𝓜) (w .𝓖) (w .𝓡)))
+
 -- ---- the exports of crate vault_c
 
 -- `vault_start` ends, and its number and bytes are those of what `startLeft` says.
@@ -171,3 +202,16 @@ pub exportTimerTells : ExportTimerTells
 exportTimerTells =
     tells 2 exportTimerKinds.ps exportTimerKinds.r exportTimer.routine _
     (λ w. readExportTimer.known w (λ _. exportTimer.routine) anyName exportTimer.routine refl (metExportTimer.met (w .𝓤) (w .H) (w .𝓜) (w .𝓖) (w .𝓡)))
+
+-- `vault_write_remnant` ends, and its number and bytes are those of what `remnantLeft` says.
+pub exportWriteTells : ExportWriteTells
+exportWriteTells =
+    tells 2 exportWriteKinds.ps exportWriteKinds.r exportWrite.routine _
+    (λ w. readExportWrite.known w (λ _. exportWrite.routine) anyName exportWrite.routine refl (metExportWrite.met (w .𝓤) (w .H) (w .𝓜) (w .𝓖) (w .𝓡)))
+
+-- `vault_restart` ends, and its number and bytes are those of what `restartLeft` says.
+pub exportRestartTells : ExportRestartTells
+exportRestartTells =
+    tells 3 exportRestartKinds.ps exportRestartKinds.r exportRestart.routine _
+    (λ w. readExportRestart.known w (λ _. exportRestart.routine) anyName exportRestart.routine refl
+    (metExportRestart.met (w .𝓤) (w .H) (w .𝓜) (w .𝓖) (w .𝓡)))

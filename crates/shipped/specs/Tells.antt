@@ -23,17 +23,26 @@ use Rattle.vault.specs.Answers.{leftBy}
 use Rattle.vault.proofs.start.Kinds as startKinds
 use Rattle.vault.proofs.frame.Kinds as frameKinds
 use Rattle.vault.proofs.timer.Kinds as timerKinds
+use Rattle.remnant.proofs.write_remnant.Kinds as writeKinds
+use Rattle.remnant.proofs.restart.Kinds as restartKinds
 use Rattle.vault.proofs.start.Symbol as start
 use Rattle.vault.proofs.frame.Symbol as frame
 use Rattle.vault.proofs.timer.Symbol as timer
+use Rattle.remnant.proofs.write_remnant.Symbol as write
+use Rattle.remnant.proofs.restart.Symbol as restart
 use Rattle.vault_c.specs.Numbers.{seen, numbered}
 use Rattle.vault_c.proofs.vault_start.Kinds as exportStartKinds
 use Rattle.vault_c.proofs.vault_frame.Kinds as exportFrameKinds
 use Rattle.vault_c.proofs.vault_timer.Kinds as exportTimerKinds
+use Rattle.vault_c.proofs.vault_write_remnant.Kinds as exportWriteKinds
+use Rattle.vault_c.proofs.vault_restart.Kinds as exportRestartKinds
 use Rattle.vault_c.proofs.vault_start.Symbol as exportStart
 use Rattle.vault_c.proofs.vault_frame.Symbol as exportFrame
 use Rattle.vault_c.proofs.vault_timer.Symbol as exportTimer
+use Rattle.vault_c.proofs.vault_write_remnant.Symbol as exportWrite
+use Rattle.vault_c.proofs.vault_restart.Symbol as exportRestart
 use Rattle.contents.specs.Calls.{startLeft, frameLeft, timerLeft}
+use Rattle.contents.specs.Remnant.{remnantLeft, restartLeft}
 
 module _ (n : ℕ) (ps : List (PK n)) (r : RK n) (w : World) where
   -- A call's arguments, as the logic has them: lifetimes .0 with shares .1, values .3, and machine values .4.
@@ -89,6 +98,15 @@ abbrev pub TimerTells : Type 2
 TimerTells = Tells 2 timerKinds.ps timerKinds.r timer.routine
     (λ κs (rec, (view, (out, _))) a (rec′, (_, (out′, _))). leftBy a (now rec′) (now out′) ≡ timerLeft (now rec) view (now out))
 
+-- `write_remnant` and `restart` of crate remnant.
+abbrev pub WriteTells : Type 2
+WriteTells = Tells 2 writeKinds.ps writeKinds.r write.routine
+    (λ κs (rec, (out, _)) a (_, (out′, _)). leftBy a (now rec) (now out′) ≡ remnantLeft (now rec) (now out))
+
+abbrev pub RestartTells : Type 2
+RestartTells = Tells 3 restartKinds.ps restartKinds.r restart.routine
+    (λ κs (rec, (remnant, (out, _))) a (rec′, (_, (out′, _))). leftBy a (now rec′) (now out′) ≡ restartLeft (now rec) (now remnant) (now out))
+
 -- The exports of crate vault_c.
 abbrev pub ExportStartTells : Type 2
 ExportStartTells = Tells 2 exportStartKinds.ps exportStartKinds.r exportStart.routine
@@ -103,3 +121,12 @@ ExportFrameTells = Tells 3 exportFrameKinds.ps exportFrameKinds.r exportFrame.ro
 abbrev pub ExportTimerTells : Type 2
 ExportTimerTells = Tells 2 exportTimerKinds.ps exportTimerKinds.r exportTimer.routine
     (λ κs (rec, (view, (out, _))) number (rec′, (_, (out′, _))). seen number (now rec′) (now out′) ≡ numbered (timerLeft (now rec) view (now out)))
+
+abbrev pub ExportWriteTells : Type 2
+ExportWriteTells = Tells 2 exportWriteKinds.ps exportWriteKinds.r exportWrite.routine
+    (λ κs (rec, (out, _)) number (_, (out′, _)). seen number (now rec) (now out′) ≡ numbered (remnantLeft (now rec) (now out)))
+
+abbrev pub ExportRestartTells : Type 2
+ExportRestartTells = Tells 3 exportRestartKinds.ps exportRestartKinds.r exportRestart.routine
+    (λ κs (rec, (remnant, (out, _))) number (rec′, (_, (out′, _))).
+    seen number (now rec′) (now out′) ≡ numbered (restartLeft (now rec) (now remnant) (now out)))

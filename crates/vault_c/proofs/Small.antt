@@ -1,10 +1,12 @@
--- No call counts more than 205 bytes, so a host's number is below 512; and a refusal's number is 1 to 19, 21 or 22, so the number tells which it is. An
--- accepted call's entries are that short by contents (`outputShort`), and what a call leaves on lent bytes is a refusal or such an answer.
+-- No call counts more than 256 bytes, so a host's number is at most 512; and a refusal's number is below 256, so the number tells which it is. Of start,
+-- frame and timer an accepted call's entries are 205 bytes at most by contents (`outputShort`), and what such a call leaves on lent bytes is a refusal or
+-- such an answer. A remnant has one length, and a restart writes one entry.
 -- Assumes nothing.
 use Prim.Native.Nat.{ℕ, _≤_}
 use mathlib.Core.Path.{_≡_, refl, sym, ap, subst, _∙_}
+use mathlib.Core.Logic.{⊎-elim}
 use mathlib.Core.Bool.{Bool, true, false, cond}
-use mathlib.Core.List.{List}
+use mathlib.Core.List.{List, [], _∷_, append-nil}
 use mathlib.Core.Option.{Option, none, some}
 use native.Mathlib.Omega.{arith}
 use lib.Dec.{ltb}
@@ -14,6 +16,8 @@ use Rattle.record.specs.Layout.{decodeRecord}
 use Rattle.sound.specs.declared.Lent.{Lent}
 use Rattle.sound.specs.declared.Lent.the-variants.{Blank, Unsound, Sound}
 use Rattle.sound.specs.inside.Sound.{lentIs}
+use Rattle.entry.specs.Layout.{entryBytes, layout}
+use Rattle.entry.proofs.Theorems.{entrySpan}
 use Rattle.frame.specs.Format.{within}
 use Rattle.frame.specs.Refusal.{readFrame}
 use Rattle.protocol.specs.Record.{Record}
@@ -30,6 +34,8 @@ use Rattle.vault_c.proofs.Refusals.{Refusal, Named, Brings, readNamed, 
 use Rattle.contents.specs.Contents.{contents}
 use Rattle.contents.specs.Calls.{leftAfter, onLent, called, startLeft, frameLeft, timerLeft}
 use Rattle.contents.specs.Left.{Left, wrote, gave}
+use Rattle.contents.specs.Remnant.{restored, remnantLeft, timerBack, restartLeft}
+use Rattle.contents.proofs.Remnant.{writtenAny, restartedAny}
 
 -- What a call leaves is small: at most 205 bytes written, or a refusal's number.
 abbrev pub Small : Left → Type 0
@@ -78,12 +84,35 @@ pub smallTimer : (rec : List ℕ) (view : ℕ) (out : List ℕ) → Small (timer
 unfolding timerLeft within
 smallTimer rec view out = smallCalled rec out (timer view) tt 3 refl
 
--- the answer of a call that leaves little is short
+-- What a call leaves counts no more than the output that every call asks for.
+abbrev pub Fits : Left → Type 0
+Fits (wrote count rec out) = count ≤ 256
+Fits (gave number rec out) = Unit {0}
+
+-- The answer of such a call is short.
+pub shortFits : (a : Given) (rec out : List ℕ) (l : Left) → leftBy a rec out ≡ l → Fits l → Short a
+shortFits (Written count) rec out l e h = subst Fits (sym e) h
+shortFits (Refused number) rec out l e h = tt
+
+-- So is that of a call that leaves little.
 pub shortBy : (a : Given) (rec out : List ℕ) (l : Left) → leftBy a rec out ≡ l → Small l → Short a
-shortBy (Written count) rec out l e h =
-    let few : count ≤ 205 = subst Small (sym e) h in
-    omega arith
-shortBy (Refused number) rec out l e h = tt
+shortBy a rec out l e h = shortFits a rec out l e (fits l h)
+  where
+    fits : (l : Left) → Small l → Fits l
+    fits (wrote count rec out) few = omega arith
+    fits (gave number rec out) named = tt
+
+-- A remnant's length fits.
+pub fitsWritten : (rec out : List ℕ) → Fits (remnantLeft rec out)
+fitsWritten rec out = ⊎-elim (λ (k, is). subst Fits (sym is) tt) (λ (room, sound, is). subst Fits (sym is) (omega arith)) (writtenAny rec out)
+
+-- And a restart writes one entry.
+pub fitsRestart : (rec remnant out : List ℕ) → Fits (restartLeft rec remnant out)
+fitsRestart rec remnant out =
+    ⊎-elim (λ (k, is). subst Fits (sym is) tt) (λ (room, sound, is). subst Fits (sym is) few) (restartedAny rec remnant out)
+  where
+    few : length (layout (timerBack (restored remnant) ∷ [])) ≤ 256
+    few = let whole = append-nil (entryBytes (timerBack (restored remnant))) in rw whole (omega (arith, entrySpan (timerBack (restored remnant)) .1))
 
 -- The answer of the call that names vaults is short: it names n at most.
 pub shortNamed : (a : Given) (records lengths out left : List ℕ) → leftBy a records left ≡ equivocatorsLeft records lengths out → Short a

@@ -7,12 +7,15 @@ use mathlib.Core.List.{List}
 use contract.Lifetimes.{Lfts}
 use denote.Ref.{RefT, now, at-last}
 use Rattle.contents.specs.Calls.{startLeft, frameLeft, timerLeft}
+use Rattle.contents.specs.Remnant.{remnantLeft, restartLeft}
 use Rattle.equivocation.specs.Call.{equivocatorsLeft}
 use Rattle.vault_c.specs.Numbers.{seen, numbered}
 use Rattle.vault_c.proofs.vault_start.Reads as ofStart
 use Rattle.vault_c.proofs.vault_frame.Reads as ofFrame
 use Rattle.vault_c.proofs.vault_timer.Reads as ofTimer
 use Rattle.vault_c.proofs.vault_equivocators.Reads as ofEquivocators
+use Rattle.vault_c.proofs.vault_write_remnant.Reads as ofWrite
+use Rattle.vault_c.proofs.vault_restart.Reads as ofRestart
 
 -- Start asks for nothing of what it is lent.
 startTakes : (κs : Lfts 2) (r o : RefT (List ℕ)) (n f id class plan : ℕ) → ofStart.Asked κs (r, (n, (f, (id, (class, (plan, (o, tt)))))))
@@ -53,3 +56,22 @@ equivocatorsSaid : (κs : Lfts 3) (r l o : RefT (List ℕ)) (number : ℕ) (out 
     → ofEquivocators.Learnt κs (r, (l, (o, tt))) number (r, (l, (at-last o out, tt)))
     → seen number (now r) out ≡ numbered (equivocatorsLeft (now r) (now l) (now o))
 equivocatorsSaid κs r l o number out learnt = learnt
+
+-- So does the call that writes a remnant.
+writeTakes : (κs : Lfts 2) (r o : RefT (List ℕ)) → ofWrite.Asked κs (r, (o, tt))
+writeTakes κs r o = tt
+
+-- What the caller of its export learns.
+writeSaid : (κs : Lfts 2) (r o : RefT (List ℕ)) (number : ℕ) (out : List ℕ)
+    → ofWrite.Learnt κs (r, (o, tt)) number (r, (at-last o out, tt)) → seen number (now r) out ≡ numbered (remnantLeft (now r) (now o))
+writeSaid κs r o number out learnt = learnt
+
+-- And a restart.
+restartTakes : (κs : Lfts 3) (r s o : RefT (List ℕ)) → ofRestart.Asked κs (r, (s, (o, tt)))
+restartTakes κs r s o = tt
+
+-- What the caller of its export learns.
+restartSaid : (κs : Lfts 3) (r s o : RefT (List ℕ)) (number : ℕ) (rec out : List ℕ)
+    → ofRestart.Learnt κs (r, (s, (o, tt))) number (at-last r rec, (s, (at-last o out, tt)))
+    → seen number rec out ≡ numbered (restartLeft (now r) (now s) (now o))
+restartSaid κs r s o number rec out learnt = learnt

@@ -12,7 +12,7 @@ use Rattle.questions.specs.declared.Decision.the-variants as decision
 
 -- The version of the library, major * 10000 + minor * 100 + patch: VAULT_VERSION of include/vault.h.
 abbrev pub version : ℕ
-version = 10200
+version = 10300
 
 pub data Told : Type 0 where
   told : ℕ → List ℕ → Told

@@ -1,9 +1,11 @@
-// The vault for Rust and C hosts: start, frame and timer over lent bytes, with one number as the answer; questions on a stored record, and on
-// many; and help with entries and refusals (include/vault.h).
+// The vault for Rust and C hosts: start, frame and timer over lent bytes, with one number as the answer; what is stored and comes back after a
+// power cut; questions on a stored record, and on many; and help with entries and refusals (include/vault.h).
 ghost use mathlib.Core.Path.{_≡_};
 ghost use lib.ListN.{length, drop};
 ghost use Rattle.record.specs.Size.{recordSize};
 ghost use Rattle.contents.specs.Calls.{startLeft, frameLeft, timerLeft};
+ghost use Rattle.contents.specs.Size.{remnantSize};
+ghost use Rattle.contents.specs.Remnant.{remnantLeft, restartLeft};
 ghost use Rattle.questions.specs.Stored.{currentOf, decisionOf};
 ghost use Rattle.equivocation.specs.Call.{equivocatorsLeft};
 ghost use Rattle.entry.specs.Walk.{sizeIn};
@@ -26,7 +28,7 @@ const DECIDED: u32 = 257;
 const SHORT: u32 = frame::numbers::REFUSED_OUTPUT as u32;
 
 // Major * 10000 + minor * 100 + patch.
-const VERSION: u32 = 10200;
+const VERSION: u32 = 10300;
 
 // The number that stands for an answer.
 fn number(a: Answer) -> u32
@@ -53,6 +55,14 @@ pub extern "C" fn vault_record_size() -> u32
     ensures { λ r. ⌜ r ≡ recordSize ⌝ }
 {
     record::SIZE as u32
+}
+
+// How many bytes a remnant has.
+#[no_mangle]
+pub extern "C" fn vault_remnant_size() -> u32
+    ensures { λ r. ⌜ r ≡ remnantSize ⌝ }
+{
+    remnant::SIZE as u32
 }
 
 // Starts the vault of a blank record.
@@ -87,6 +97,24 @@ pub extern "C" fn vault_timer(rec: &mut [u8], view: u32, out: &mut [u8]) -> u32
     ensures { λ r. ⌜ seen r (now (rec .exit)) (now (out .exit)) ≡ numbered (timerLeft (now (rec .entry)) view (now (out .entry))) ⌝ }
 {
     let a = vault::timer(rec, view, out);
+    number(a)
+}
+
+// Writes the remnant of a record, for the host to store before any entry leaves.
+#[no_mangle]
+pub extern "C" fn vault_write_remnant(rec: &[u8], out: &mut [u8]) -> u32
+    ensures { λ r. ⌜ seen r (now (rec .entry)) (now (out .exit)) ≡ numbered (remnantLeft (now (rec .entry)) (now (out .entry))) ⌝ }
+{
+    let a = remnant::write_remnant(rec, out);
+    number(a)
+}
+
+// Makes a blank record that of the vault whose remnant was stored.
+#[no_mangle]
+pub extern "C" fn vault_restart(rec: &mut [u8], bytes: &[u8], out: &mut [u8]) -> u32
+    ensures { λ r. ⌜ seen r (now (rec .exit)) (now (out .exit)) ≡ numbered (restartLeft (now (rec .entry)) (now (bytes .entry)) (now (out .entry))) ⌝ }
+{
+    let a = remnant::restart(rec, bytes, out);
     number(a)
 }
 

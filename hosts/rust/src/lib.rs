@@ -1,22 +1,22 @@
 //! A TetraBFT vault for Rust hosts: a safe wrapper over the proved library `libvault_c.a`.
 //!
 //! A [`Vault`] holds one vault's [`Record`] and the entries that its calls wrote: frames to send, timers to set, and the decision. They are
-//! handed out by [`Vault::store`] and by nothing else, since the record must be on stable storage before anything is sent: a vault that comes
-//! back with an older record could vote twice.
+//! handed out by [`Vault::store_remnant`], since the vault's [`Remnant`] must be on stable storage before anything is sent: a vault that comes
+//! back ([`Vault::restart`]) with an older one could vote twice. [`Vault::store`] is for a host that stores the whole record in its place.
 //!
 //! ```
 //! use std::time::Duration;
-//! use vault::{Entry, Kind, Record, Refusal, Settings, Vault};
+//! use vault::{Entry, Kind, Record, Refusal, Remnant, Settings, Vault};
 //!
-//! # fn on_disk(_: &Record) -> std::io::Result<()> { Ok(()) }
+//! # fn on_disk(_: &Remnant) -> std::io::Result<()> { Ok(()) }
 //! # fn main() -> Result<(), Box<dyn std::error::Error>> {
 //! // Vault 0 of 4, of which one may lie; link class 2 is for a delay of 100 ms. It would have plan 700.
 //! let mut vault = Vault::new(Record::blank());
 //! vault.start(Settings { n: 4, f: 1, id: 0, class: 2 }, 700)?;
 //!
-//! // `on_disk` writes the bytes of the record, and returns once they are safe.
+//! // `on_disk` writes the bytes of the remnant, and returns once they are safe: `Vault::restart` has one.
 //! let mut frames = Vec::new();
-//! for entry in vault.store(on_disk)? {
+//! for entry in vault.store_remnant(on_disk)? {
 //!     match entry {
 //!         Entry::Timer { view, after } => assert_eq!((view, after), (0, Duration::from_millis(900))),
 //!         Entry::All(frame) => frames.push(frame),
@@ -34,15 +34,19 @@
 //!
 //! # A host's duty
 //!
+//! - **Store**, then send. A power cut must leave the old remnant or the new one: write a new file, sync it, and rename it over the old one.
+//!   Frames that others sent need not be stored.
 //! - **Send** each frame as it is. Tell [`Vault::frame`] the sender that the link stands for, and not a byte of the frame.
 //! - **Repeat**: the vault writes each frame once. Over a link that may lose frames, keep the latest frame of each kind with its recipient, and
 //!   send it again once a delay until its view ([`Frame::view`]) is below the current one. By itself only a view-change is repeated, by
-//!   [`Vault::timer`]. A frame that comes again is refused ([`Refusal::Over`], [`Refusal::Kept`]) and does no harm.
+//!   [`Vault::timer`]. A frame that comes again is refused ([`Refusal::Over`], [`Refusal::Kept`]) and does no harm. After a power cut the frames
+//!   to repeat are gone, and those that others sent: they repeat theirs, the timer goes on, and the next view brings new ones.
 //! - **Timer**: an [`Entry::Timer`] replaces the timer of any earlier view. When it runs out call [`Vault::timer`] with its view, and again after
 //!   the same time for as long as the view lasts, also after the decision.
-//! - **Restart** with the stored record: set the timer of its view ([`Record::current`]), and act on its decision ([`Record::decision`]), which may
-//!   have been stored just before the crash. [`Record::blank`] is for a vault that was never started: never take it in place of a file that is
-//!   missing or empty.
+//! - **Restart** with the stored remnant ([`Vault::restart`]): set its timer, and act on its decision ([`Record::decision`]), which may have been
+//!   stored just before the power failed. [`Record::blank`] is for a vault of which nothing was ever stored: never take it in place of a file that
+//!   is missing or empty. A host that stores the whole record takes that again ([`Vault::new`]), and sets the timer of its view
+//!   ([`Record::current`]).
 //!
 //! # What is needed
 //!
@@ -54,6 +58,7 @@ mod entry;
 mod refusal;
 mod sys;
 
+use std::convert::Infallible;
 use std::time::Duration;
 
 pub use entry::{Entries, Entry, Frame, Kind};
@@ -61,6 +66,8 @@ pub use refusal::Refusal;
 
 /// The bytes of a record.
 pub const RECORD_SIZE: usize = 11_703;
+/// The bytes of a remnant.
+pub const REMNANT_SIZE: usize = 237;
 /// No frame is longer.
 pub const LONGEST_FRAME: usize = 45;
 /// The bytes of output that a call is lent.
@@ -99,7 +106,7 @@ pub struct Decision {
     pub plan: u64,
 }
 
-/// All that a vault keeps: what a host stores.
+/// All that a vault keeps. Its [`Remnant`] is what must be stored.
 #[derive(Clone, PartialEq, Eq)]
 pub struct Record(Box<[u8; RECORD_SIZE]>);
 
@@ -109,12 +116,23 @@ impl Record {
         Record(Box::new([0; RECORD_SIZE]))
     }
 
-    /// What is to be stored.
+    /// Its bytes, for a desk that asks for them, or to be stored whole.
     pub fn as_bytes(&self) -> &[u8; RECORD_SIZE] {
         &self.0
     }
 
-    /// For a host that comes back: the current view, whose timer is to be set again. Refusals: `Blank` and `Unsound`.
+    /// What must be stored of it. Refusals: `Blank` and `Unsound`.
+    pub fn remnant(&self) -> Result<Remnant, Refusal> {
+        let mut bytes = [0; REMNANT_SIZE];
+        let answer = sys::write_remnant(&self.0[..], &mut bytes);
+        if answer >= ACCEPTED {
+            Ok(Remnant(bytes))
+        } else {
+            Err(refusal(answer))
+        }
+    }
+
+    /// The current view, and its timer: what a host that comes back with a whole record sets again. Refusals: `Blank` and `Unsound`.
     pub fn current(&self) -> Result<Current, Refusal> {
         let mut out = [0; 2];
         match sys::current(&self.0[..], &mut out) {
@@ -161,6 +179,37 @@ impl std::fmt::Debug for Record {
     }
 }
 
+/// What a vault must not lose: its settings, starting plan and current view, what it said itself, and its decision. A host stores it, and
+/// comes back with it ([`Vault::restart`]).
+#[derive(Clone, PartialEq, Eq)]
+pub struct Remnant([u8; REMNANT_SIZE]);
+
+impl Remnant {
+    /// What is to be stored.
+    pub fn as_bytes(&self) -> &[u8; REMNANT_SIZE] {
+        &self.0
+    }
+}
+
+impl AsRef<[u8]> for Remnant {
+    fn as_ref(&self) -> &[u8] {
+        &self.0
+    }
+}
+
+/// Stored bytes. Whether they make a sound record is told by [`Vault::restart`].
+impl From<[u8; REMNANT_SIZE]> for Remnant {
+    fn from(bytes: [u8; REMNANT_SIZE]) -> Remnant {
+        Remnant(bytes)
+    }
+}
+
+impl std::fmt::Debug for Remnant {
+    fn fmt(&self, f: &mut std::fmt::Formatter<'_>) -> std::fmt::Result {
+        f.debug_struct("Remnant").finish_non_exhaustive()
+    }
+}
+
 /// For the desk: the vaults that spoke twice, by rising number. Each of them has, in its row of two of the records, votes of one kind and one
 /// view for different plans, and nobody who has is missed. The records are those of one agreement, 2 to 64 of them, of any of its vaults and of any
 /// moments, in any order; bytes of any length may be given. Refusal: `Records`.
@@ -203,7 +252,7 @@ pub struct Settings {
     pub class: u8,
 }
 
-/// A vault: its record, and the entries of its accepted calls that wait until the record is stored.
+/// A vault: its record, and the entries of its accepted calls that wait until it is stored.
 #[derive(Debug, Clone)]
 pub struct Vault {
     record: Record,
@@ -212,18 +261,80 @@ pub struct Vault {
 }
 
 impl Vault {
-    /// A vault with the record that was stored last, or with a blank one before its first start.
+    /// A vault with a blank record before its first start, or with the whole record that was stored last.
     ///
     /// # Panics
     /// Where the archive is of another major version than this crate.
     pub fn new(record: Record) -> Vault {
-        assert_eq!((version() / 10_000, sys::record_size()), (MAJOR, RECORD_SIZE), "libvault_c.a is of another version than this crate");
+        let library = (version() / 10_000, sys::record_size(), sys::remnant_size());
+        assert_eq!(library, (MAJOR, RECORD_SIZE, REMNANT_SIZE), "libvault_c.a is of another version than this crate");
         Vault { record, waiting: Vec::new(), changed: false }
+    }
+
+    /// A vault that comes back after a power cut, at any moment and any number of times, and the timer to set. `remnant` is what was stored last: an
+    /// older one, or another vault's, cannot be told by the library, and the vault would count as a liar.
+    ///
+    /// The vault goes on with its own votes and without the others' frames, and has nothing to store or send. A decision that was stored is not
+    /// handed out again: [`Record::decision`] tells it.
+    ///
+    /// Refusals: `RemnantLength` and `RemnantUnsound`. The vault must not be started anew then: restore what it stored.
+    ///
+    /// ```
+    /// use std::fs::{self, File};
+    /// use std::io::{self, Write};
+    /// use std::path::Path;
+    /// use std::time::Duration;
+    /// use vault::{Entry, Record, Remnant, Settings, Vault};
+    ///
+    /// /// Either the old remnant or the new one is in the file, whenever the power fails; once this returns, the new one.
+    /// fn on_disk(folder: &Path, remnant: &Remnant) -> io::Result<()> {
+    ///     let (new, file) = (folder.join("remnant.new"), folder.join("remnant"));
+    ///     let mut written = File::create(&new)?;
+    ///     written.write_all(remnant.as_bytes())?;
+    ///     written.sync_all()?;
+    ///     fs::rename(new, file)?;
+    ///     File::open(folder)?.sync_all()
+    /// }
+    ///
+    /// # fn main() -> Result<(), Box<dyn std::error::Error>> {
+    /// # let folder = &std::env::temp_dir().join(format!("vault-restart-{}", std::process::id()));
+    /// # fs::create_dir_all(folder)?;
+    /// // The vault leads view 0. It stores, then sends its proposal and its first vote.
+    /// let mut vault = Vault::new(Record::blank());
+    /// vault.start(Settings { n: 4, f: 1, id: 0, class: 2 }, 700)?;
+    /// let sent = vault.store_remnant(|remnant| on_disk(folder, remnant))?;
+    /// assert_eq!(sent.filter(|entry| matches!(entry, Entry::All(_))).count(), 2);
+    ///
+    /// // The power fails, and comes back.
+    /// drop(vault);
+    /// let (mut vault, mut entries) = Vault::restart(&fs::read(folder.join("remnant"))?)?;
+    /// assert_eq!(entries.next(), Some(Entry::Timer { view: 0, after: Duration::from_millis(900) }));
+    /// assert_eq!(vault.record().decision()?, None);
+    ///
+    /// // What it has said it does not say again, and it goes on from there.
+    /// vault.timer(0)?;
+    /// let sent = vault.store_remnant(|remnant| on_disk(folder, remnant))?;
+    /// assert_eq!(sent.count(), 1);
+    /// # fs::remove_dir_all(folder)?;
+    /// # Ok(())
+    /// # }
+    /// ```
+    pub fn restart(remnant: &[u8]) -> Result<(Vault, Entries), Refusal> {
+        let mut vault = Vault::new(Record::blank());
+        vault.call(|record, output| sys::restart(record, remnant, output))?;
+        // The vault's remnant is still the one that was stored.
+        let Ok(entries) = vault.store(|_| Ok::<(), Infallible>(()));
+        Ok((vault, entries))
     }
 
     /// The record as the last call left it. Entries that belong to it may still wait.
     pub fn record(&self) -> &Record {
         &self.record
+    }
+
+    /// The remnant as the last call left it. Entries that belong to it may still wait. Refusals: `Blank` and `Unsound`.
+    pub fn remnant(&self) -> Result<Remnant, Refusal> {
+        self.record.remnant()
     }
 
     /// Starts the vault of a blank record with a plan of its own. Refusals: `Started`, and `N` to `Class`.
@@ -241,8 +352,13 @@ impl Vault {
         self.call(|record, output| sys::timer(record, view, output))
     }
 
-    /// Stores the record, and hands out the entries of all accepted calls since it was stored last. `write` returns once the record is on
-    /// stable storage; it is not called where the record has not changed. Where it fails the entries go on waiting.
+    /// Stores the remnant, and hands out the entries of all accepted calls since it was stored last. `write` returns once the remnant is on
+    /// stable storage; it is not called where no call was accepted. Where it fails the entries go on waiting.
+    pub fn store_remnant<E>(&mut self, write: impl FnOnce(&Remnant) -> Result<(), E>) -> Result<Entries, E> {
+        self.store(|record| write(&record.remnant().expect("an accepted call leaves a sound record")))
+    }
+
+    /// The same with the whole record in the remnant's place. A host does one or the other: a vault must come back with what was stored last.
     pub fn store<E>(&mut self, write: impl FnOnce(&Record) -> Result<(), E>) -> Result<Entries, E> {
         if self.changed {
             write(&self.record)?;

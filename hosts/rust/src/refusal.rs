@@ -10,13 +10,13 @@ const LONGEST_TEXT: usize = 120;
 #[derive(Debug, Clone, Copy, PartialEq, Eq, PartialOrd, Ord, Hash)]
 #[repr(u8)]
 pub enum Refusal {
-    /// 1: the output has fewer than 256 bytes. This crate always lends enough.
+    /// 1: the output has fewer than 256 bytes, 237 for a remnant. This crate always lends enough.
     Output = 1,
-    /// 2: frame or timer on a blank record: the vault has not been started.
+    /// 2: not start or restart: a blank record, the vault has not been started.
     Blank = 2,
-    /// 3: frame or timer on bytes that are no sound record. Restore it from the vault's own store; do not start anew.
+    /// 3: not start or restart: bytes that are no sound record. Restore it from the vault's own store; do not start anew.
     Unsound = 3,
-    /// 4: start on a record that is not blank.
+    /// 4: start or restart on a record that is not blank. This crate restarts on a blank one only.
     Started = 4,
     /// 5: start: n is below 4 or above 64.
     N = 5,
@@ -54,19 +54,45 @@ pub enum Refusal {
     Previous = 22,
     /// 24: equivocators: not 2 to 64 records, one is blank or no sound record, or they differ in n or f.
     Records = 24,
+    /// 25: restart: the remnant has not 237 bytes. Do not start anew.
+    RemnantLength = 25,
+    /// 26: restart: what the remnant says makes no sound record. Do not start anew.
+    RemnantUnsound = 26,
 }
 
 impl Refusal {
     /// Each refusal, in the order of the numbers.
-    pub const ALL: [Refusal; 22] = {
+    pub const ALL: [Refusal; 24] = {
         use Refusal::*;
         [
-            Output, Blank, Unsound, Started, N, F, Id, Class, Kind, Length, Link, Sender, View0, Report, Leader, Over, Kept, Timer, LastView,
-            ReportView, Previous, Records,
+            Output,
+            Blank,
+            Unsound,
+            Started,
+            N,
+            F,
+            Id,
+            Class,
+            Kind,
+            Length,
+            Link,
+            Sender,
+            View0,
+            Report,
+            Leader,
+            Over,
+            Kept,
+            Timer,
+            LastView,
+            ReportView,
+            Previous,
+            Records,
+            RemnantLength,
+            RemnantUnsound,
         ]
     };
 
-    /// The refusal of a number: 1 to 19, 21, 22 or 24.
+    /// The refusal of a number: 1 to 19, 21, 22, or 24 to 26.
     pub fn from_number(number: u32) -> Option<Refusal> {
         Refusal::ALL.into_iter().find(|refusal| u32::from(refusal.number()) == number)
     }

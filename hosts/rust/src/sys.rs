@@ -6,6 +6,7 @@ mod raw {
     extern "C" {
         pub fn vault_version() -> u32;
         pub fn vault_record_size() -> u32;
+        pub fn vault_remnant_size() -> u32;
         pub fn vault_start(
             record: *mut u8,
             record_length: usize,
@@ -27,6 +28,15 @@ mod raw {
             output_length: usize,
         ) -> u32;
         pub fn vault_timer(record: *mut u8, record_length: usize, view: u32, output: *mut u8, output_length: usize) -> u32;
+        pub fn vault_write_remnant(record: *const u8, record_length: usize, output: *mut u8, output_length: usize) -> u32;
+        pub fn vault_restart(
+            record: *mut u8,
+            record_length: usize,
+            remnant: *const u8,
+            remnant_length: usize,
+            output: *mut u8,
+            output_length: usize,
+        ) -> u32;
         pub fn vault_current(record: *const u8, record_length: usize, out: *mut u32, out_count: usize) -> u32;
         pub fn vault_decision(record: *const u8, record_length: usize, out: *mut u64, out_count: usize) -> u32;
         pub fn vault_equivocators(
@@ -52,8 +62,13 @@ pub fn record_size() -> usize {
     unsafe { raw::vault_record_size() as usize }
 }
 
+pub fn remnant_size() -> usize {
+    // SAFETY: it takes nothing.
+    unsafe { raw::vault_remnant_size() as usize }
+}
+
 // SAFETY of the calls below: any bytes may be lent, each pointer comes with the true length of its slice, and Rust's borrows keep record,
-// output and frame apart.
+// output, frame and remnant apart.
 
 pub fn start(record: &mut [u8], s: Settings, plan: u64, output: &mut [u8]) -> u32 {
     unsafe { raw::vault_start(record.as_mut_ptr(), record.len(), s.n, s.f, s.id, s.class, plan, output.as_mut_ptr(), output.len()) }
@@ -65,6 +80,14 @@ pub fn frame(record: &mut [u8], sender: u8, frame: &[u8], output: &mut [u8]) -> 
 
 pub fn timer(record: &mut [u8], view: u32, output: &mut [u8]) -> u32 {
     unsafe { raw::vault_timer(record.as_mut_ptr(), record.len(), view, output.as_mut_ptr(), output.len()) }
+}
+
+pub fn write_remnant(record: &[u8], output: &mut [u8]) -> u32 {
+    unsafe { raw::vault_write_remnant(record.as_ptr(), record.len(), output.as_mut_ptr(), output.len()) }
+}
+
+pub fn restart(record: &mut [u8], remnant: &[u8], output: &mut [u8]) -> u32 {
+    unsafe { raw::vault_restart(record.as_mut_ptr(), record.len(), remnant.as_ptr(), remnant.len(), output.as_mut_ptr(), output.len()) }
 }
 
 pub fn current(record: &[u8], out: &mut [u32]) -> u32 {

@@ -1,5 +1,5 @@
 //! The names and numbers of this crate are those of include/vault.h.
-use vault::{Kind, Refusal, LONGEST_FRAME, RECORD_SIZE};
+use vault::{Kind, Refusal, LONGEST_FRAME, RECORD_SIZE, REMNANT_SIZE};
 
 const HEADER: &str = include_str!("../../../include/vault.h");
 const README: &str = include_str!("../../../README.md");
@@ -20,7 +20,7 @@ fn refusals() {
     let ours: Vec<_> = Refusal::ALL.map(|refusal| (plain(&format!("{refusal:?}")), u32::from(refusal.number()))).into();
     assert_eq!(header, ours);
     assert!(Refusal::ALL.iter().all(|&refusal| Refusal::from_number(u32::from(refusal.number())) == Some(refusal)));
-    assert!([0, 20, 23, 25].iter().all(|&number| Refusal::from_number(number).is_none()));
+    assert!([0, 20, 23, 27, 28].iter().all(|&number| Refusal::from_number(number).is_none()));
 }
 
 /// The support desk reads what the library says.
@@ -47,7 +47,9 @@ fn kinds() {
 #[test]
 fn sizes() {
     let header = names("VAULT_");
-    for (name, value) in [("RECORD_SIZE", RECORD_SIZE), ("LONGEST_FRAME", LONGEST_FRAME), ("ACCEPTED", 256), ("OUTPUT_SIZE", 256)] {
+    let ours =
+        [("RECORD_SIZE", RECORD_SIZE), ("REMNANT_SIZE", REMNANT_SIZE), ("LONGEST_FRAME", LONGEST_FRAME), ("ACCEPTED", 256), ("OUTPUT_SIZE", 256)];
+    for (name, value) in ours {
         assert!(header.contains(&(name.to_owned(), value as u32)), "{name}");
     }
     let version =

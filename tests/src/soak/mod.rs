@@ -1,7 +1,8 @@
-//! The library against the reference and the in-place vault for as long as wanted. A round is made from one seed: random calls, scripts
-//! of the line program or of the rehearsal, lists of records, or a whole network under an adversary. Each runs in a process of its own, so that
-//! a fault of any kind is found as a difference is; then a script that shows it is made as short as the time allows.
+//! The library against the reference and the in-place vault for as long as wanted. A round is made from one seed: random calls, scripts of the line
+//! program or of the rehearsal, lists of records, or whole networks under an adversary, with or without power cuts. Each runs in a process of its
+//! own, so that a fault of any kind is found as a difference is; then a script that shows it is made as short as the time allows.
 mod calls;
+mod cuts;
 mod lines;
 mod lists;
 mod networks;
@@ -29,17 +30,20 @@ pub enum Sabotage {
     None,
     /// One vault that keeps the rules is lent an older record.
     OlderRecord,
+    /// One vault that keeps the rules comes back from older remnants.
+    OlderRemnant,
     /// f + 1 vaults lie.
     MoreLiars,
-    /// The library writes another plan into a decision, or names another vault.
+    /// The library writes another plan into a decision, names another vault, or has another timer after a restart.
     OtherByte,
-    /// The library reads a byte beyond the record, or beyond a list of them.
+    /// The library reads a byte beyond the record, a list of them, or a remnant.
     Overrun,
 }
 
 impl Sabotage {
-    pub const ALL: [(&'static str, Sabotage); 4] = [
+    pub const ALL: [(&'static str, Sabotage); 5] = [
         ("older-record", Sabotage::OlderRecord),
+        ("older-remnant", Sabotage::OlderRemnant),
         ("more-liars", Sabotage::MoreLiars),
         ("other-byte", Sabotage::OtherByte),
         ("overrun", Sabotage::Overrun),
@@ -87,6 +91,7 @@ fn round(seed: u64, sabotage: Sabotage) {
     let mut rng = Rng(seed);
     match (sabotage, rng.below(10)) {
         (Sabotage::OlderRecord | Sabotage::MoreLiars, _) => networks::round(rng, sabotage),
+        (Sabotage::OlderRemnant, _) | (_, 5) => cuts::round(rng, sabotage),
         (_, 0 | 1) => calls::round(rng, sabotage),
         (_, 2) => lines::round(rng, sabotage),
         (_, 3) => rehearsals::round(rng, sabotage),
@@ -103,6 +108,7 @@ fn again(script: &[Vec<u8>], sabotage: Sabotage) {
         "lines" => lines::again(&script[1..], sabotage),
         "rehearsal" => rehearsals::again(&script[1..], sabotage),
         "list" => lists::again(&words[1..], sabotage),
+        "cuts" => cuts::again(&words[1..], sabotage),
         "network" => networks::again(&words[1..], &script[1..], sabotage),
         other => panic!("no such script: {other}"),
     }

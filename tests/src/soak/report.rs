@@ -14,6 +14,9 @@ pub fn counts(when: &str) {
     println!("    calls {}, accepted {}; scripts {}, lines {}", seen.calls, seen.accepted, counts.scripts, counts.lines);
     println!("    rehearsals {}, lines {}, decisions by vaults not declared {}", counts.rehearsals, counts.rehearsed, counts.rehearsed_decisions);
     println!("    lists {}, records in them {}, refused {}, vaults named {}", counts.lists, counts.listed, counts.lists_refused, counts.names);
+    let [runs_cut, restarts, refused] = [counts.cut_runs, counts.restarts, counts.restarts_refused];
+    let (items, cuts, decided) = (counts.cut_items, counts.cuts, counts.cut_decisions);
+    println!("    runs with power cuts {runs_cut}, items {items}, cuts {cuts}, restarts {restarts} and {refused} refused, decisions {decided}");
     println!("    runs {runs}, decisions {decisions}; a proposal was safe by view 0, no lock, one set, two sets: {:?}", counts.clauses);
     for sizes in SIZES {
         let [runs, some, all] = [&counts.runs, &counts.some_decided, &counts.all_decided].map(|by_n| by_n[sizes.clone()].iter().sum::<u64>());

@@ -16,7 +16,8 @@ use Rattle.record.specs.Layout.{decodeRecord}
 use Rattle.record.specs.Size.{recordSize}
 use Rattle.wire.specs.Placed.{placed}
 use Rattle.sound.specs.inside.Sound.{lentIs}
-use Rattle.equivocation.specs.Call.{isSound, unlike}
+use Rattle.contents.specs.Which.{isSound}
+use Rattle.equivocation.specs.Call.{unlike}
 
 -- ---- the records
 

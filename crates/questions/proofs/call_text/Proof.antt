@@ -117,7 +117,7 @@ returns-9 c =
     let number = c .before .before .args .number in
     let to-8 = c .match .rest in
     let to-4 = to-8 .0 .0 .0 .0 in
-    let high : 0 < number → 24 < number = λ (h : 0 < number).
+    let high : 0 < number → 26 < number = λ (h : 0 < number).
     let past : 8 < number = beyondFour number 4 (beyondFour number 0 h to-4) to-8 in
     absurd (noneBetween number 8 past (c .before .before .pre)) in
     noneSaid number _ (noNumber number high)

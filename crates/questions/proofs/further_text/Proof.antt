@@ -1,4 +1,4 @@
--- `questions::further_text` meets its contract: each arm copies the sentence of its number. 23 has none, and beyond 24 there is none.
+-- `questions::further_text` meets its contract: each arm copies the sentence of its number. 23 has none, and beyond 26 there is none.
 -- Assumes nothing.
 use Prim.Native.Nat.{_<_}
 use mathlib.Core.Path.{refl}
@@ -44,6 +44,18 @@ slice-aggregate-put-6 c = search needs
 put-requires-6 : tie.Need-put-requires-6
 put-requires-6 c κs = search needs
 
+slice-aggregate-put-7 : tie.Need-slice-aggregate-put-7
+slice-aggregate-put-7 c = search needs
+
+put-requires-7 : tie.Need-put-requires-7
+put-requires-7 c κs = search needs
+
+slice-aggregate-put-8 : tie.Need-slice-aggregate-put-8
+slice-aggregate-put-8 c = search needs
+
+put-requires-8 : tie.Need-put-requires-8
+put-requires-8 c κs = search needs
+
 same-length : tie.Need-same-length
 same-length c = search needs
 
@@ -86,13 +98,27 @@ returns-6 : tie.Need-returns-6
 unfolding sentenceOf textBytes
 returns-6 c = said _ 24 _ _ _ _ (c .before .before .put6 .ensures) (c .before .before .before .before .before .match .keys6) refl
 
+same-length-7 : tie.Need-same-length-7
+same-length-7 c = search needs
+
 returns-7 : tie.Need-returns-7
-returns-7 c =
+unfolding sentenceOf textBytes
+returns-7 c = said _ 25 _ _ _ _ (c .before .before .put7 .ensures) (c .before .before .before .before .before .match .keys7) refl
+
+same-length-8 : tie.Need-same-length-8
+same-length-8 c = search needs
+
+returns-8 : tie.Need-returns-8
+unfolding sentenceOf textBytes
+returns-8 c = said _ 26 _ _ _ _ (c .before .before .put8 .ensures) (c .before .before .before .before .before .match .keys8) refl
+
+returns-9 : tie.Need-returns-9
+returns-9 c =
     let number = c .before .before .args .number in
-    let to-24 = c .match .rest in
-    let to-22 = to-24 .0 in
+    let to-26 = c .match .rest in
+    let to-22 = to-26 .0 .0 .0 in
     let past : 22 < number = beyondOne number 21 (beyondFour number 17 (c .before .before .pre) (to-22 .0)) to-22 in
-    noneSaid number _ (beyondLast number past (to-24 .1))
+    noneSaid number _ (beyondLast number past to-26)
 
 pub further-text-spec : {M : Type 1} → statement M
 further-text-spec =
@@ -110,6 +136,10 @@ further-text-spec =
     put-requires-5
     slice-aggregate-put-6
     put-requires-6
+    slice-aggregate-put-7
+    put-requires-7
+    slice-aggregate-put-8
+    put-requires-8
     same-length
     returns
     same-length-2
@@ -122,4 +152,8 @@ further-text-spec =
     returns-5
     same-length-6
     returns-6
-    returns-7)
+    same-length-7
+    returns-7
+    same-length-8
+    returns-8
+    returns-9)
