@@ -30,7 +30,7 @@ use Rattle.protocol.specs.Pass.{hasQuorum, agreed, actVote, actH, Out, S
 use Rattle.protocol.specs.Alone.{alone}
 use Rattle.protocol.specs.Settled.{RestartSettles}
 use Rattle.protocol.proofs.OwnRow.{aloneOwn, aloneWas}
-use Rattle.protocol.proofs.Tables.{eachSome, eachNone, eachWas, whenSome, whenNone, whenFalse, highestHas, highestMost}
+use Rattle.protocol.proofs.Tables.{eachSome, eachNone, eachWas, whenNone, whenFalse, highestHas, highestMost}
 use Rattle.protocol.proofs.Passes.{passMore}
 use Rattle.protocol.proofs.Settled.{Done, quietPass, asksToo}
 

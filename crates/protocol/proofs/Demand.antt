@@ -5,18 +5,17 @@
 -- history (crate rules, Agree), and a decision has a quorum of vote-4.
 -- Assumes nothing.
 use Prim.Native.Nat.{ℕ, zero, suc, _*_, _<_}
-use mathlib.Core.Path.{_≡_, refl, sym, _∙_, ap, subst, fun-ext}
-use mathlib.Core.Logic.{_≢_, _⊎_, inl, inr}
-use mathlib.Core.Bool.{Bool, true, false, cond}
-use mathlib.Core.List.{List, [], _∷_, _++_, append-nil}
+use mathlib.Core.Path.{_≡_, refl, sym, _∙_, ap, subst}
+use mathlib.Core.Logic.{_≢_, inl, inr}
+use mathlib.Core.Bool.{true, false}
+use mathlib.Core.List.{List, [], _∷_, _++_}
 use mathlib.Core.Option.{Option, none, some}
 use native.Mathlib.Omega.{arith}
 use native.Mathlib.Nat.{mod-lt}
 use lib.Dec.{leb, eqb}
-use borrow.Author.Tests.{eqb-true, eqb-false}
+use borrow.Author.Tests.{eqb-false}
 use Rattle.rules.specs.Sets.{Vaults, weigh, total}
 use Rattle.rules.specs.inside.Mostly.{Mostly}
-use Rattle.rules.proofs.Bools.{which}
 use Rattle.rules.proofs.Quorums.{weighNone, weighRest}
 use Rattle.rules.specs.Rules.{rule1}
 use Rattle.rules.specs.inside.Law.{Exact, Reason, own, found, Lawful, Led, Locked}
@@ -33,7 +32,7 @@ use Rattle.protocol.specs.Record.{Record}
 use Rattle.protocol.specs.Tables.{put, _∈_}
 use Rattle.settings.specs.declared.Settings.{Settings}
 use Rattle.protocol.specs.Pass.{Out}
-use Rattle.protocol.specs.Calls.{recordRows, timerRows, started, heard, timedOut, Call, start, frame, timer, short, Answer, refused, accepted}
+use Rattle.protocol.specs.Calls.{recordRows, timerRows, started, heard, timedOut, Call, start, frame, timer, short, refused, accepted}
 use Rattle.protocol.specs.Calls.{unless, answer}
 use Rattle.protocol.specs.Fed.{Readable}
 use Rattle.settings.specs.Settings.{settingRows}
@@ -46,8 +45,8 @@ use Rattle.protocol.proofs.Tables.{putOther}
 use Rattle.protocol.proofs.Past.{Past, Voted, ExactNow, Fine, Ground}
 use Rattle.protocol.proofs.Past as Past′
 use Rattle.protocol.proofs.Good.{onto, Good, Seed, chosenSeed, waits, aloneGood, anySeed}
-use Rattle.protocol.proofs.Items.{viewIn, past, item, recordAccepted, storedAccepted, pastAccepted, Still, Again, Happens, went, stays, happens, pastStill}
-use Rattle.protocol.proofs.Items.{putEach}
+use Rattle.protocol.proofs.Items.{viewIn, past, item, recordAccepted, storedAccepted, pastAccepted, Still, Again, Happens, went, stays, happens}
+use Rattle.protocol.proofs.Items.{pastStill, putEach}
 use Rattle.protocol.proofs.Went.{noneGiven, unlessAccepted, thirdWeight, Went, startWent, heardWent, timedOutWent}
 
 -- Vaults that weigh something are some.

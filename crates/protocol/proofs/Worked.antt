@@ -254,24 +254,4 @@ worked : document × allVotes × lateVote × viewChanges × timerRepeats × time
     × lockedVote × twoSetVote × previousStays × decidesOnce × laterReplaces × refusals × comesBack × comesBackLast
 unfolding delayOf replies leaves alone restarted answer started keep heard timedOut pass stepA stepB stepC stepD stepVote stepH does writes agreed highest
     safe free allowed claimed twoSets backed choice smallest anyBelow weigh isQuorum isBlocking reach claims unlocked allows
-worked = (
-  refl,
-  refl,
-  refl,
-  refl,
-  refl,
-  refl,
-  refl,
-  refl,
-  refl,
-  refl,
-  refl,
-  refl,
-  refl,
-  refl,
-  refl,
-  refl,
-  refl,
-  (refl, refl, refl),
-  (refl, refl),
-)
+worked = (refl, refl, refl, refl, refl, refl, refl, refl, refl, refl, refl, refl, refl, refl, refl, refl, refl, (refl, refl, refl), (refl, refl))

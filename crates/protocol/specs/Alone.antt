@@ -1,6 +1,5 @@
 -- What comes back after a power cut, by contents (document 02, wish 6).
 -- Assumes nothing.
-use Prim.Native.Nat.{ℕ}
 use mathlib.Core.List.{[], _∷_}
 use lib.Dec.{eqb}
 use Rattle.protocol.specs.Record.{Record, changed, when}

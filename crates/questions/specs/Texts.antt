@@ -39,8 +39,8 @@ sentences =
     ∷ "a previous vote without a highest one, not below it, or for the same plan"
     ∷ text.[]
     ∷ "there are not 2 to 64 records, one of them is blank or damaged, or they differ in n or f"
-    ∷ "the remnant is not 237 bytes long"
-    ∷ "the remnant is damaged: it makes no sound record"
+    ∷ "the stored remnant is not 237 bytes long: restore it from the vault's own store, do not start anew"
+    ∷ "the stored remnant is damaged, or of another program: restore it, do not start anew"
     ∷ []
 
 -- The bytes of a text: a letter of ASCII is one byte.

@@ -169,8 +169,14 @@ fn further_text(number: u32, out: &mut [u8]) -> usize
             out,
             b"there are not 2 to 64 records, one of them is blank or damaged, or they differ in n or f",
         ),
-        25 => put(out, b"the remnant is not 237 bytes long"),
-        26 => put(out, b"the remnant is damaged: it makes no sound record"),
+        25 => put(
+            out,
+            b"the stored remnant is not 237 bytes long: restore it from the vault's own store, do not start anew",
+        ),
+        26 => put(
+            out,
+            b"the stored remnant is damaged, or of another program: restore it, do not start anew",
+        ),
         _ => 0,
     }
 }

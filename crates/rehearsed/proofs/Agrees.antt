@@ -25,7 +25,6 @@ use Rattle.record.specs.Layout.{decodeRecord}
 use Rattle.record.specs.Size.{recordSize}
 use Rattle.protocol.specs.Pass.{Out}
 use Rattle.protocol.specs.Tables.{put, _∈_}
-use Rattle.protocol.specs.Calls.{accepted}
 use Rattle.protocol.proofs.Tables.{putSame, putOther}
 use Rattle.protocol.proofs.ReadsBack.{AllRight}
 use Rattle.contents.specs.Left.{Left, gave}

@@ -156,6 +156,7 @@ pub restoredRefused : (s : List ℕ) → (first (settingRows (restored s .set)) 
 restoredRefused s bad =
     refusedUnsound (encodeRecord (restored s)) (subst (λ (set : Settings). first (settingRows set) ≡ 0 → ⊥) (sym (writtenSet (restored s))) bad)
 
+-- Where it is sound its vault has a row.
 pub restoredRow : (s : List ℕ) → isSound (lentIs (encodeRecord (restored s))) ≡ true → restored s .set .id < rows
 restoredRow s is = subst (λ (set : Settings). set .id < rows) (writtenSet (restored s)) (soundRow (encodeRecord (restored s)) is)
 
@@ -208,6 +209,7 @@ module _ (rec : List ℕ) where
   unfolding writeRefusal
   writeShort room short = rw (lt-ltb room remnantSize short) refl
 
+  -- Where there is room, by what the record is.
   pub writeLent : (room : ℕ) → remnantSize ≤ room → (lent : Lent) → lentIs rec ≡ lent
       → first (row 2 (isBlank lent) ∷ row 3 (not (isSound lent)) ∷ []) ≡ writeRefusal rec room
   unfolding writeRefusal

@@ -321,7 +321,8 @@ module _ (c : Setting) where
     carryBack : (out : List ℕ) (left : Left) (r : Record) → c .keeps i ≡ true → b ≡ none → t ≡ some r
         → left ≡ leftAfter (recordAt c l i) out (accepted (restarted r)) → Carried (record { at = i; event = returned out left } ∷ l)
     unfolding restarted alone
-    carryBack out left r keeps gone is e = carryOn (returned out left) (model.back r) keeps (gone, is) (λ p s o is e. let z : _≡_ {A = ℕ} 0 1 = cc in omega arith)
+    carryBack out left r keeps gone is e =
+        carryOn (returned out left) (model.back r) keeps (gone, is) (λ p s o is e. let z : _≡_ {A = ℕ} 0 1 = cc in omega arith)
         (record {
           held = λ keeps. subst (λ (u : Left). Spells (recordIn u) (some (alone r))) (sym e) (fineSpells (alone r) fine);
           own = λ q same. subst (Own i) (theSame same) (record { vaults = its .vaults; id = its .id; fine = fine });

@@ -11,7 +11,6 @@ use mathlib.Core.Bool.{true, cond}
 use mathlib.Core.List.{List, [], _∷_, _++_}
 use mathlib.Core.Option.{Option, none, some}
 use native.Mathlib.Omega.{arith}
-use lib.Dec.{eqb}
 use lib.ListN.{length, take, replicate, length-replicate}
 use borrow.Author.Tests.{eqb-true}
 use Rattle.rules.proofs.Bools.{either}
@@ -208,8 +207,8 @@ module _ (c : model.ContentsSetting) where
     spelledNext x y keeps ruled new back = record {
       items = record { at = i; event = x } ∷ v .items;
       run = andThen (v .run) keeps ruled;
-      same = putSix (λ j. Same) i (recordAt spelled (v .items)) (model.recordAt l) (storedAt (v .items)) (model.storedAt l) (written (v .items)) (model.written l)
-          new (v .same);
+      same = putSix (λ j. Same) i (recordAt spelled (v .items)) (model.recordAt l) (storedAt (v .items)) (model.storedAt l) (written (v .items))
+          (model.written l) new (v .same);
       backs = λ j e. ⊎-elim (back j) (λ old. before (v .backs j old)) (either (isBack j (record { at = i; event = y })) (hasBack j l) e);
     }
 

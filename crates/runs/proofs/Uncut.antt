@@ -25,10 +25,9 @@ use Rattle.contents.specs.Remnant.{remnantLeft}
 use Rattle.contents.proofs.Lent.{blankIsLent}
 use Rattle.contents.proofs.Remnant.{writtenAny}
 use Rattle.runs.specs.Runs.{ByteCall, start, frame, timer, call, write, Rules, Event, made, cutIn, cut, returned, Item, recordIn, isAccepted, recordAfter}
-use Rattle.runs.specs.Runs.{storedAfter, storedAt, IsBlank, Setting, Stores, recordAt, Ruled, Run, nothingYet, andThen}
+use Rattle.runs.specs.Runs.{storedAfter, storedAt, IsBlank, Setting, Stores, recordAt, Ruled, nothingYet, andThen}
 use Rattle.runs.specs.Fixed.{leaves}
-use Rattle.runs.specs.Five.{Fixed}
-use Rattle.runs.specs.Uncut.{IsMade, Uncut, BlankStoresNone}
+use Rattle.runs.specs.Uncut.{IsMade, BlankStoresNone}
 use Rattle.runs.proofs.Demand.{Follows}
 
 -- A refused call leaves the record.

@@ -2,7 +2,6 @@
 -- Assumes nothing.
 use Prim.Native.Nat.{ℕ}
 use mathlib.Core.Path.{_≡_}
-use mathlib.Core.Bool.{true}
 use mathlib.Core.List.{List, [], _∷_}
 use mathlib.Core.Option.{none}
 use Rattle.runs.specs.Runs.{Rules, Event, made, cutIn, cut, returned, Item, storedAt, IsBlank, Setting, recordAt, Run}

@@ -10,7 +10,8 @@ restart-requires c κs = search needs
 
 number-requires : tie.Need-number-requires
 number-requires c κs =
-    shortFits (c .before .before .before .before .restart .result) _ _ _ (c .before .before .before .before .restart .ensures) (fitsRestart _ _ _)
+    let call = c .before .before .before .before .restart in
+    shortFits (call .result) _ _ _ (call .ensures) (fitsRestart _ _ _)
 
 same-length : tie.Need-same-length
 same-length c = search needs
@@ -20,7 +21,8 @@ same-length-2 c = search needs
 
 returns : tie.Need-returns
 returns c =
-    seenBy _ (c .before .before .before .before .before .restart .result) _ _ _ (c .number .ensures) (c .before .before .before .before .before .restart .ensures)
+    let call = c .before .before .before .before .before .restart in
+    seenBy _ (call .result) _ _ _ (c .number .ensures) (call .ensures)
 
 pub vault-restart-spec : {M : Type 1} → statement M
 vault-restart-spec =
