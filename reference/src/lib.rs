@@ -1,6 +1,6 @@
 //! An independent reference vault. Every function renders a sentence of document 01, or of those
-//! wishes of document 02 that were made (so far wishes 1 to 3, 5 and 6; wish 4 changes no answers);
-//! where they are silent the reading taken is in READINGS.md.
+//! wishes of document 02 that were made (so far wishes 1 to 3 and 5 to 7; wish 4 changes no
+//! answers); where they are silent the reading taken is in READINGS.md.
 
 pub mod calls;
 pub mod collection_cover;
@@ -12,6 +12,9 @@ pub mod equivocation;
 pub mod frame;
 pub mod lines;
 pub mod literal;
+pub mod reach;
+pub mod reach_cover;
+pub mod reaches;
 pub mod record;
 pub mod rehearsal;
 pub mod rehearsal_cover;

@@ -140,7 +140,7 @@ fn locks_allow(sizes: Sizes, reports: &[Option<Reports>], plan: u64, at: u32) ->
 
 /// "A reporter claims p at v' if v' is 0, or its highest vote is for p at v' or later, or its
 /// previous vote is at v' or later."
-fn claims(reporter: &Reports, plan: u64, at: u32) -> bool {
+pub fn claims(reporter: &Reports, plan: u64, at: u32) -> bool {
     at == 0
         || highest(reporter).is_some_and(|vote| vote.plan == plan && vote.view >= at)
         || previous(reporter).is_some_and(|vote| vote.view >= at)
