@@ -71,7 +71,7 @@ extern "C" {
 #endif
 
 #define VAULT_VERSION_MAJOR 1
-#define VAULT_VERSION_MINOR 3
+#define VAULT_VERSION_MINOR 4
 #define VAULT_VERSION_PATCH 0
 #define VAULT_VERSION (VAULT_VERSION_MAJOR * 10000 + VAULT_VERSION_MINOR * 100 + VAULT_VERSION_PATCH)
 
@@ -82,6 +82,7 @@ extern "C" {
 #define VAULT_LONGEST_OUTPUT 205  /* no call writes more bytes */
 #define VAULT_LONGEST_ENTRY 46    /* with the recipient byte */
 #define VAULT_LONGEST_FRAME 45
+#define VAULT_REPORTS_SIZE 39     /* bytes of the three reports of a suggest or proof: those behind its first 6 */
 #define VAULT_LONGEST_TEXT 120    /* no text of vault_refusal_text is longer */
 #define VAULT_STACK_SIZE 49152    /* no call needs more stack */
 #define VAULT_FEWEST 4            /* n is at least this */
@@ -100,18 +101,18 @@ enum vault_refusal {
     VAULT_REFUSED_ID = 7,         /* start: id is n or more */
     VAULT_REFUSED_CLASS = 8,      /* start: the link class is above 7 */
     VAULT_REFUSED_KIND = 9,       /* frame: no bytes, or the kind is not 1 to 8 */
-    VAULT_REFUSED_LENGTH = 10,    /* frame: the length is wrong for the kind */
+    VAULT_REFUSED_LENGTH = 10,    /* frame: the length is wrong for the kind; claim_reach: not VAULT_REPORTS_SIZE bytes */
     VAULT_REFUSED_LINK = 11,      /* frame: the link's sender is n or more, or this vault itself */
     VAULT_REFUSED_SENDER = 12,    /* frame: the sender byte is not the link's sender */
     VAULT_REFUSED_VIEW_0 = 13,    /* frame: view 0 in a view-change, suggest or proof */
-    VAULT_REFUSED_REPORT = 14,    /* frame: a report's mark is not 0 or 1, or it is absent (mark 0) and another byte of it is not 0 */
+    VAULT_REFUSED_REPORT = 14,    /* frame, claim_reach: a report's mark is not 0 or 1, or it is absent (mark 0) and another byte of it is not 0 */
     VAULT_REFUSED_LEADER = 15,    /* frame: a proposal not from its view's leader, or a suggest for a view that this vault does not lead */
     VAULT_REFUSED_OVER = 16,      /* frame: its view is over */
     VAULT_REFUSED_KEPT = 17,      /* frame: one of the same sender and kind is kept, at this view or a higher one */
     VAULT_REFUSED_TIMER = 18,     /* timer: the view is not the current one */
     VAULT_REFUSED_LAST_VIEW = 19, /* timer: the current view is the last one, 4294967295 */
     VAULT_REFUSED_REPORT_VIEW = 21, /* frame: a report that is present, the lock too, is for the frame's view or a higher one */
-    VAULT_REFUSED_PREVIOUS = 22,  /* frame: previous is present and highest is not, or previous is not below it or for the same plan */
+    VAULT_REFUSED_PREVIOUS = 22,  /* frame, claim_reach: previous is present and highest is not, or previous is not below it or for the same plan */
     VAULT_REFUSED_RECORDS = 24,   /* equivocators: not 2 to 64 records, one is blank or no sound record, or they differ in n or f */
     VAULT_REFUSED_REMNANT_LENGTH = 25,  /* restart: the remnant has not VAULT_REMNANT_SIZE bytes */
     VAULT_REFUSED_REMNANT_UNSOUND = 26  /* restart: what the remnant says makes no sound record */
@@ -192,6 +193,12 @@ uint32_t vault_decision(const uint8_t *record, size_t record_length, uint64_t *o
  * output unchanged: 1, then 24, which is also given where the lengths do not add up to records_length. */
 uint32_t vault_equivocators(const uint8_t *records, size_t records_length, const uint32_t *lengths, size_t lengths_count,
                             uint8_t *output, size_t output_length);
+
+/* For the desk: how high a claim reaches, the highest view at which a reporter claims a plan. `reports` are the VAULT_REPORTS_SIZE bytes of a suggest
+ * or proof behind its kind, sender and view, bytes 6 to 44 of the frame: highest, previous, lock. The answer is VAULT_ACCEPTED + view: the highest
+ * vote's view if that vote is for the plan, else the previous vote's view, whatever its plan, else 0. The reporter claims the plan at every view up to
+ * that one, and at no later one. As there is no frame's view, 21 is not asked. Refusals: 10, then 14, then 22. */
+uint64_t vault_claim_reach(const uint8_t *reports, size_t reports_length, uint64_t plan);
 
 /* Walks the entries of an output of which output_length bytes were written (the answer less VAULT_ACCEPTED): the length of the entry
  * that begins at `at`, its recipient byte included. 0 at the end, and where no entry begins. */

@@ -7,6 +7,7 @@ mod counts;
 mod equivocation;
 mod folder;
 mod lines;
+mod reaches;
 mod records;
 mod remnants;
 mod runs;
@@ -71,5 +72,6 @@ fn main() {
     counts::print();
     equivocation::print(&clock, &mut summary, &SIZES);
     remnants::print(&clock, &mut summary, &[SIZES[0], SIZES[2]]);
+    reaches::print(&clock, &mut summary);
     summary.print();
 }

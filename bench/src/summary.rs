@@ -18,12 +18,14 @@ pub enum Aim {
     Twice,
     /// Remnants and restarts: no step acts, so they count as quiet calls.
     Remnant,
+    /// How high claims reach: nothing is written, so it counts as a quiet call.
+    Reach,
     /// The reference's time over the library's.
     Lines,
 }
 
 impl Aim {
-    const ALL: [Aim; 9] = [
+    const ALL: [Aim; 10] = [
         Aim::Quiet,
         Aim::Vain,
         Aim::Refused,
@@ -32,6 +34,7 @@ impl Aim {
         Aim::Search,
         Aim::Twice,
         Aim::Remnant,
+        Aim::Reach,
         Aim::Lines,
     ];
 
@@ -54,6 +57,7 @@ impl Aim {
             Aim::Search => "slowest search at n = 64",
             Aim::Twice => "who spoke twice, in 2 to 64 records",
             Aim::Remnant => "remnant written, restart from one",
+            Aim::Reach => "how high claims reach",
             Aim::Lines => "lines a second, over the reference's",
         }
     }
@@ -61,7 +65,7 @@ impl Aim {
     /// The most of a ratio to the in-place vault; for lines the least of one to the reference.
     fn bound(self) -> f64 {
         match self {
-            Aim::Quiet | Aim::Vain | Aim::Refused | Aim::Twice | Aim::Remnant => 2.5,
+            Aim::Quiet | Aim::Vain | Aim::Refused | Aim::Twice | Aim::Remnant | Aim::Reach => 2.5,
             Aim::Acting | Aim::Search => 5.0,
             Aim::Run => 4.0,
             Aim::Lines => 3.0,

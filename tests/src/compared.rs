@@ -14,9 +14,10 @@ const MOST: usize = 2 * LEN;
 #[derive(Clone, Copy, PartialEq, Eq, Debug)]
 pub enum Harm {
     None,
-    /// The last byte of a decision's entry is another, or the last name, or the last byte of a restart's timer.
+    /// The last byte of a decision's entry is another, or the last name, the last byte of a restart's timer, or the view that a claim reaches.
     OtherByte,
-    /// A byte beyond the record is read where a call decides, beyond the records where it names, or beyond the remnant at a restart.
+    /// A byte beyond the record is read where a call decides, beyond the records where it names, beyond the remnant at a restart, or beyond the
+    /// reports where their claim reaches a view.
     Overrun,
 }
 

@@ -17,6 +17,7 @@ pub mod pages;
 pub mod program;
 pub mod random;
 pub mod random_remnants;
+pub mod reaches;
 pub mod records;
 pub mod remnants;
 pub mod rows;

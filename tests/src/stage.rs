@@ -6,6 +6,7 @@ use reference::cuts::Item;
 use crate::compared::{add_each, Seen};
 use crate::lists::Named;
 use crate::pages::{self, Edge};
+use crate::reaches::Reached;
 use crate::sides::Call;
 use crate::text::words_of;
 
@@ -29,6 +30,10 @@ pub struct Counts {
     pub listed: u64,
     pub lists_refused: u64,
     pub names: u64,
+    /// Questions of how high a claim reaches, those answered with a view above 0, and those refused.
+    pub reaches: u64,
+    pub reaches_above: u64,
+    pub reaches_refused: u64,
     /// Networks with power cuts, the items in them, the cuts, the restarts accepted and refused, and decisions.
     pub cut_runs: u64,
     pub cut_items: u64,
@@ -68,6 +73,12 @@ impl Counts {
             Ok(names) => self.names += names.len() as u64,
             Err(_) => self.lists_refused += 1,
         }
+    }
+
+    pub fn add_reach(&mut self, answer: Reached) {
+        self.reaches += 1;
+        self.reaches_above += u64::from(answer.is_ok_and(|view| view > 0));
+        self.reaches_refused += u64::from(answer.is_err());
     }
 
     pub fn add_item(&mut self, item: &Item, accepted: bool) {

@@ -6,6 +6,7 @@ mod sys {
         pub fn vault_frame(rec: *mut u8, rec_len: usize, link: u8, bytes: *const u8, len: usize, out: *mut u8, out_len: usize) -> u32;
         pub fn vault_timer(rec: *mut u8, rec_len: usize, view: u32, out: *mut u8, out_len: usize) -> u32;
         pub fn vault_equivocators(recs: *const u8, recs_len: usize, lens: *const u32, count: usize, out: *mut u8, out_len: usize) -> u32;
+        pub fn vault_claim_reach(reports: *const u8, len: usize, plan: u64) -> u64;
         pub fn vault_remnant_size() -> u32;
         pub fn vault_write_remnant(rec: *const u8, rec_len: usize, out: *mut u8, out_len: usize) -> u32;
         pub fn vault_restart(rec: *mut u8, rec_len: usize, remnant: *const u8, len: usize, out: *mut u8, out_len: usize) -> u32;
@@ -43,6 +44,16 @@ pub fn equivocators(records: &[u8], lengths: &[u32], out: &mut [u8]) -> Result<u
     match unsafe { sys::vault_equivocators(recs, records.len(), lens, lengths.len(), out, space) } {
         code @ (1 | 24) => Err(code as u8),
         code @ 256..=320 => Ok(code as usize - 256),
+        code => panic!("no such answer: {code}"),
+    }
+}
+
+/// Every view may be the answer, so the number is a wide one.
+pub fn claim_reach(reports: &[u8], plan: u64) -> Result<u32, u8> {
+    const LAST: u64 = 256 + u32::MAX as u64;
+    match unsafe { sys::vault_claim_reach(reports.as_ptr(), reports.len(), plan) } {
+        code @ (10 | 14 | 22) => Err(code as u8),
+        code @ 256..=LAST => Ok((code - 256) as u32),
         code => panic!("no such answer: {code}"),
     }
 }

@@ -7,6 +7,8 @@ use comparison::records::{frame_slot, fresh, put, LEN};
 use comparison::remnants::REMNANT_SIZE;
 use comparison::sides::Rattle;
 use comparison::{cases, vaults};
+use reference::frame::Report;
+use reference::reaches::spelled;
 use reference::vault::Step;
 
 /// The most that a call copies in which no step acts, in bytes.
@@ -126,5 +128,16 @@ fn a_remnant_and_a_restart_copy_no_record() {
     for ((copied, filled), most_filled, name) in [(written, 0, "a remnant"), (restarted, MOST_RESTARTED, "a restart")] {
         println!("{copied:>7} bytes copied, {filled} filled: {name}");
         assert!(copied <= MOST_WRITTEN && filled <= most_filled, "{name}");
+    }
+}
+
+/// Reports are read where they lie.
+#[test]
+fn a_claims_reach_copies_nothing() {
+    let [highest, previous] = [(4, 5), (2, 6)].map(|(view, plan)| Some(Report { view, plan }));
+    for (reports, wanted) in [([highest, previous, None], Ok(2)), ([previous, highest, None], Err(22))] {
+        let reports = spelled(&reports);
+        let counted = counted_in(|| assert_eq!(vaults::claim_reach(&reports, 6), wanted));
+        assert_eq!(counted, (0, 0), "{wanted:?}");
     }
 }

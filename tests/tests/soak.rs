@@ -79,6 +79,12 @@ fn another_byte_in_a_list_is_found() {
 }
 
 #[test]
+fn another_view_that_a_claim_reaches_is_found() {
+    let script = finds("17", "other-byte", "difference: ");
+    assert!(script[0].starts_with("reach ") && script.len() == 1, "{script:?}");
+}
+
+#[test]
 fn another_byte_after_a_restart_is_found() {
     let script = finds("13", "other-byte", "difference: ");
     assert!(script[0].starts_with("cuts ") && script.len() == 1, "{script:?}");
@@ -92,4 +98,6 @@ fn a_byte_read_too_far_is_found() {
     assert!(script[0].starts_with("list "), "{script:?}");
     let script = finds("13", "overrun", "fault: memory beyond what was lent");
     assert!(script[0].starts_with("cuts "), "{script:?}");
+    let script = finds("17", "overrun", "fault: memory beyond what was lent");
+    assert!(script[0].starts_with("reach "), "{script:?}");
 }

@@ -3,13 +3,16 @@
 #![cfg(target_arch = "x86_64")]
 use std::arch::asm;
 use std::ffi::c_void;
+use std::fmt::Debug;
 
 use comparison::case::{Case, Class, SPACE};
 use comparison::lists::List;
 use comparison::records::{frame_slot, fresh, put, LEN, PREVIOUS};
 use comparison::remnants::REMNANT_SIZE;
-use comparison::sides::{Answer, Rattle};
+use comparison::sides::Rattle;
 use comparison::{cases, vaults};
+use reference::frame::Report;
+use reference::reaches::spelled;
 
 const MOST: usize = 48 * 1024;
 /// Far more than a call takes.
@@ -94,11 +97,11 @@ fn no_list_takes_more_than_48_kilobytes() {
     }
 }
 
-/// The most stack that a call takes; each paint has a record of its own.
-fn deepest(rec: &[u8], mut call: impl FnMut(&mut [u8]) -> Answer, wanted: Answer) -> usize {
+/// The most stack that a call takes; each paint has a copy of what is lent.
+fn deepest<T: Copy + PartialEq + Debug>(lent: &[u8], mut call: impl FnMut(&mut [u8]) -> Result<T, u8>, wanted: Result<T, u8>) -> usize {
     let once = |paint| {
-        let (mut rec, mut answer) = (rec.to_vec(), Err(0));
-        let bytes = depth(paint, &mut || answer = call(&mut rec));
+        let (mut lent, mut answer) = (lent.to_vec(), Err(0));
+        let bytes = depth(paint, &mut || answer = call(&mut lent));
         assert_eq!(answer, wanted);
         bytes
     };
@@ -127,6 +130,17 @@ fn no_remnant_takes_more_than_48_kilobytes() {
             // The previous vote-2 is at its highest's view.
             remnant[16 + 13 * 15] = 1;
         }
+    }
+}
+
+/// Accepted, and refused as late as it gets.
+#[test]
+fn no_claims_reach_takes_more_than_48_kilobytes() {
+    let [highest, previous] = [(4, 5), (2, 6)].map(|(view, plan)| Some(Report { view, plan }));
+    for (reports, wanted) in [([highest, previous, None], Ok(2)), ([previous, highest, None], Err(22))] {
+        let bytes = deepest(&spelled(&reports), |reports| vaults::claim_reach(reports, 6), wanted);
+        println!("{bytes:>7} bytes of stack, a claim's reach: {wanted:?}");
+        assert!(bytes <= MOST);
     }
 }
 

@@ -6,6 +6,7 @@
 mod asked;
 mod equivocation;
 mod layout;
+mod reach;
 mod remnant;
 mod safe;
 mod scan;
@@ -18,6 +19,7 @@ use sound::Present;
 use vault::Vault;
 
 pub use layout::SIZE;
+pub use reach::claim_reach;
 pub use remnant::SIZE as REMNANT_SIZE;
 
 /// The byte count written, or a refusal's number.

@@ -16,23 +16,47 @@ use Rattle.rules.specs.Sets.{Set, weigh}
 use Rattle.rules.specs.Options.{holds}
 use Rattle.rules.specs.Rules.{Report, Reports, reach, claims}
 use Rattle.rules.proofs.Bools.{which}
+use Rattle.rules.proofs.Reports.{none≢some}
 use Rattle.rules.proofs.Quorums.{weighNone, weighSame, weighRest, weighMost, shareMost, totalEquals}
 use Rattle.claims.specs.Carried.{claimers, comingIn}
-use Rattle.claims.specs.Table.{column, reporter, reportsInTable}
+use Rattle.claims.specs.Table.{column, voteIn, reporter, reportsInTable}
 use Rattle.claims.specs.declared.Coming.{Coming}
 use Rattle.claims.specs.inside.Rows.{countOf}
 use Rattle.claims.specs.inside.Spans.{standsAt, AreSpans}
-use Rattle.claims.specs.inside.Walk.{reachIn, claimEnd, level, votedIn, otherPlan, ownLevel, otherLevel, standing}
+use Rattle.claims.specs.inside.Walk.{reachIn, TableReach, claimEnd, level, votedIn, otherPlan, ownLevel, otherLevel, standing}
 use Rattle.claims.specs.inside.Walk.{InOrder, othersOf, comingFor, downFrom, LaidOut, Told}
 use Rattle.claims.proofs.Carried.{weighJoin}
 use Rattle.claims.proofs.Rows.{viewIn, viewForIn, countNone, countMore}
 
+-- 0 either way.
+pub nothing : (b : Bool) → _≡_ {A = ℕ} 0 (cond b 0 0)
+nothing true = refl
+nothing false = refl
+
 -- ---- the levels of one vault
+
+-- The report that the table tells of a vault that has reported.
+abbrev told : List ℕ → ℕ → Report
+told t i = record { highest = voteIn t 1 i; previous = voteIn t 3 i; lock = voteIn t 5 i }
+
+-- What is read off the table is its reach.
+toldReach : (t : List ℕ) (i p : ℕ) → reach (told t i) p ≡ reachIn t i p
+unfolding reach reachIn
+toldReach t i p = rw (viewForIn p (getD t (column * 1 + i) 0) (getD t (column * 2 + i) 0), viewIn (getD t (column * 3 + i) 0) (getD t (column * 4 + i) 0))
+
+-- So it is of any report that the table tells.
+pub tableReach : TableReach
+unfolding reportsInTable
+tableReach t i p r is = go (reporter t i) is
+  where
+    go : (b : Bool) → cond b (some (told t i)) none ≡ some r → reachIn t i p ≡ reach r p
+    go true e = let same : told t i ≡ r = cc in sym (toldReach t i p) ∙ ap (λ (x : Report). reach x p) same
+    go false e = absurd (none≢some e)
 
 -- Where the vault has reported, its claims of p end behind the view that the table tells.
 pub endIn : (t : List ℕ) (i end p : ℕ) → reporter t i ≡ true → claimEnd end p (reportsInTable t i) ≡ min (reachIn t i p + 1) end
-unfolding reportsInTable reach reachIn
-endIn t i end p h = rw (h, viewForIn p (getD t (column * 1 + i) 0) (getD t (column * 2 + i) 0), viewIn (getD t (column * 3 + i) 0) (getD t (column * 4 + i) 0))
+unfolding reportsInTable
+endIn t i end p h = rw (h, toldReach t i p)
 
 -- Where it has not, there are none.
 pub endSilent : (t : List ℕ) (i end p : ℕ) → reporter t i ≡ false → claimEnd end p (reportsInTable t i) ≡ 0
@@ -92,10 +116,6 @@ module _ (t : List ℕ) (u end i : ℕ) where
   levelIs : (p : ℕ) → level u end p (reportsInTable t i) ≡ cond (eqb (votedIn t i) p) (ownLevel t u end i) (otherLevel t u end i)
   levelIs p = go (which (reporter t i))
     where
-      nothing : (b : Bool) → _≡_ {A = ℕ} 0 (cond b 0 0)
-      nothing true = refl
-      nothing false = refl
-
       go : (reporter t i ≡ true) ⊎ (reporter t i ≡ false)
           → level u end p (reportsInTable t i) ≡ cond (eqb (votedIn t i) p) (ownLevel t u end i) (otherLevel t u end i)
       go (inl h) =

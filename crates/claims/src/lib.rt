@@ -8,7 +8,7 @@ ghost use lib.ListN.{length, set};
 ghost use Rattle.rules.specs.Sets.{weigh};
 ghost use Rattle.claims.specs.inside.Rows.{rowsSize, forPlan, FitsRow, added, SameBelow};
 ghost use Rattle.claims.specs.inside.Spans.{standsAt, coveredViews, highestTo, Within, AreSpans};
-ghost use Rattle.claims.specs.inside.Walk.{reachIn, claimEnd, otherPlan, standing, Listed, InOrder, othersOf};
+ghost use Rattle.claims.specs.inside.Walk.{reachBy, reachIn, claimEnd, otherPlan, standing, Listed, InOrder, othersOf};
 ghost use Rattle.claims.specs.inside.Walk.{FitsComing, endAt, endOf, comingAt, claimedIn, servingView, Told};
 ghost use Rattle.claims.specs.Table.{column, tableSize, reporter, reportsInTable};
 
@@ -17,12 +17,14 @@ pub const COLUMN: usize = 64;
 
 pub const TABLE: usize = 7 * COLUMN;
 
-// Where the columns begin of the highest vote's view + 1 and plan, of the previous vote's view + 1, and of the lock's view + 1 and plan.
+// Where the columns begin of the view + 1 and of the plan: of the highest vote, of the previous vote, and of the lock.
 pub const HIGHEST: usize = COLUMN;
 
 const VOTED: usize = 2 * COLUMN;
 
 pub const PREVIOUS: usize = 3 * COLUMN;
+
+const PREVIOUS_PLAN: usize = 4 * COLUMN;
 
 pub const LOCK: usize = 5 * COLUMN;
 
@@ -113,17 +115,43 @@ fn higher(a: u64, b: u64) -> u64
     if a < b { b } else { a }
 }
 
-// Rules 2 and 4: the highest view at which the report of vault r claims plan p, that of its highest vote, if that is for p, or of its
-// previous vote. Every claim asks this.
+// A vote that a report tells: its view, 0 where there is none, and its plan.
+pub struct Vote {
+    pub view: u64,
+    pub plan: u64,
+}
+
+// A vote's view where the vote counts, else 0.
+fn view_if(view: u64, counts: bool) -> u64
+    ensures { λ x. ⌜ x ≡ cond counts view 0 ⌝ }
+{
+    if counts { view } else { 0 }
+}
+
+// Rules 2 and 4: the highest view at which a report with these two votes claims plan p, that of its highest vote, if that is for p, or of
+// its previous vote, which counts for every plan. Whoever asks about claims asks this (document 02, wish 7).
+pub fn reach(highest: Vote, previous: Vote, p: u64) -> u64
+    ensures { λ x. ⌜ x ≡ reachBy highest previous p ⌝ }
+{
+    let every = view_if(previous.view, true);
+    let own = view_if(highest.view, highest.plan == p);
+    higher(own, every)
+}
+
+// How far the report of vault r reaches for plan p.
 fn reach_of<'a>(table: &'a [u64], r: usize, p: u64) -> u64
     requires { ⌜ (length (now table) ≡ tableSize) × (r < column) ⌝ }
     ensures { λ x. ⌜ x ≡ reachIn (now (table .entry)) r p ⌝ }
 {
-    let previous = view_of(table[PREVIOUS + r]);
-    if table[VOTED + r] == p {
-        return higher(view_of(table[HIGHEST + r]), previous);
-    }
-    previous
+    let highest = Vote {
+        view: view_of(table[HIGHEST + r]),
+        plan: table[VOTED + r],
+    };
+    let previous = Vote {
+        view: view_of(table[PREVIOUS + r]),
+        plan: table[PREVIOUS_PLAN + r],
+    };
+    reach(highest, previous, p)
 }
 
 // In how many views below end, from 0 on, vault r claims plan p: in none where it has not reported.

@@ -41,7 +41,7 @@ module _ (id : ℕ) (row : id < rows) where
   -- The remnant's first eight slots are those of the own frames.
   ownHead : (t : ℕ) → t < kinds → ownSlot id t ≡ frameSlot (suc t) id
   unfolding ownSlot
-  ownHead t low = rw (lt-ltb t kinds low)
+  ownHead t low = rw (lt-ltb t kinds low) refl
 
   -- Six more are those of the own reports.
   ownTold : (t : ℕ) → kinds ≤ t → t < 14 → ownSlot id t ≡ t * rows + id

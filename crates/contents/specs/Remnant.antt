@@ -96,5 +96,6 @@ timerBack r = Timer (r .view) (9 * delayOf (r .set .class))
 abbrev pub madeBack : Record → List ℕ → Left
 madeBack r out = wrote (length (layout (timerBack r ∷ []))) (encodeRecord r) (placed out 0 (layout (timerBack r ∷ [])))
 
+-- What a restart leaves: nothing is changed where it 'meets 1 and 4, then 25 wrong length and 26 unsound content'.
 unfoldable pub restartLeft : List ℕ → List ℕ → List ℕ → Left
 restartLeft rec remnant out = unlessGiven (first (restartRows rec remnant out)) rec out (madeBack (restored remnant) out)

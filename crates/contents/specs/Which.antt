@@ -4,7 +4,7 @@ use mathlib.Core.Bool.{Bool, true, false}
 use Rattle.sound.specs.declared.Lent.{Lent}
 use Rattle.sound.specs.declared.Lent.the-variants.{Blank, Unsound, Sound}
 
--- 'a record not blank', or blank.
+-- Not 'a record not blank', which a start and a restart refuse with 4.
 abbrev pub isBlank : Lent → Bool
 isBlank Blank = true
 isBlank Unsound = false

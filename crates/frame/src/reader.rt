@@ -23,7 +23,8 @@ fn report_at(s: &[u8], at: usize) -> Report
     }
 }
 
-fn reports_at(s: &[u8], at: usize) -> Reports
+// The three reports that stand at a place, highest, previous and lock, 13 bytes each.
+pub fn reports_at(s: &[u8], at: usize) -> Reports
     requires { ⌜ at + 39 ≤ length (now s) ⌝ }
     ensures { λ r. ⌜ r ≡ reportsAt (now (s .entry)) at ⌝ }
 {

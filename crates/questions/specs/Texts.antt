@@ -24,7 +24,7 @@ sentences =
     ∷ "the vault's number must be below n"
     ∷ "the link class is 0 to 7"
     ∷ "the frame is empty, or of no known kind"
-    ∷ "the length does not fit the kind"
+    ∷ "the length does not fit the kind, or reports are not 39 bytes long"
     ∷ "the sender is no vault of this practice, or this vault itself"
     ∷ "the frame names another sender than the link it came by"
     ∷ "a view-change, suggest or proof for view 0"

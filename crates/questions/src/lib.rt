@@ -121,7 +121,10 @@ fn frame_text(number: u32, out: &mut [u8]) -> usize
 {
     match number {
         9 => put(out, b"the frame is empty, or of no known kind"),
-        10 => put(out, b"the length does not fit the kind"),
+        10 => put(
+            out,
+            b"the length does not fit the kind, or reports are not 39 bytes long",
+        ),
         11 => put(
             out,
             b"the sender is no vault of this practice, or this vault itself",

@@ -9,13 +9,16 @@ use denote.Ref.{RefT, now, at-last}
 use Rattle.contents.specs.Calls.{startLeft, frameLeft, timerLeft}
 use Rattle.contents.specs.Remnant.{remnantLeft, restartLeft}
 use Rattle.equivocation.specs.Call.{equivocatorsLeft}
+use Rattle.reach.specs.Call.{claimReach}
 use Rattle.vault_c.specs.Numbers.{seen, numbered}
+use Rattle.vault_c.specs.Asked.{reachNumber}
 use Rattle.vault_c.proofs.vault_start.Reads as ofStart
 use Rattle.vault_c.proofs.vault_frame.Reads as ofFrame
 use Rattle.vault_c.proofs.vault_timer.Reads as ofTimer
 use Rattle.vault_c.proofs.vault_equivocators.Reads as ofEquivocators
 use Rattle.vault_c.proofs.vault_write_remnant.Reads as ofWrite
 use Rattle.vault_c.proofs.vault_restart.Reads as ofRestart
+use Rattle.vault_c.proofs.vault_claim_reach.Reads as ofReach
 
 -- Start asks for nothing of what it is lent.
 startTakes : (κs : Lfts 2) (r o : RefT (List ℕ)) (n f id class plan : ℕ) → ofStart.Asked κs (r, (n, (f, (id, (class, (plan, (o, tt)))))))
@@ -75,3 +78,11 @@ restartSaid : (κs : Lfts 3) (r s o : RefT (List ℕ)) (number : ℕ) (rec out :
     → ofRestart.Learnt κs (r, (s, (o, tt))) number (at-last r rec, (s, (at-last o out, tt)))
     → seen number rec out ≡ numbered (restartLeft (now r) (now s) (now o))
 restartSaid κs r s o number rec out learnt = learnt
+
+-- And the call that says how high a claim reaches.
+reachTakes : (κs : Lfts 1) (s : RefT (List ℕ)) (p : ℕ) → ofReach.Asked κs (s, (p, tt))
+reachTakes κs s p = tt
+
+-- What the caller of its export learns: the number.
+reachSaid : (κs : Lfts 1) (s : RefT (List ℕ)) (p number : ℕ) → ofReach.Learnt κs (s, (p, tt)) number (s, (p, tt)) → number ≡ reachNumber (claimReach (now s) p)
+reachSaid κs s p number learnt = learnt

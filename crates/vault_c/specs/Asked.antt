@@ -1,6 +1,6 @@
--- What a host sees of a question on a stored record: the number of the answer, and the numbers that it lent for it.
+-- What a host sees of a question: the number of the answer, and of a question on a stored record the numbers that it lent for it.
 -- Assumes nothing.
-use Prim.Native.Nat.{ℕ}
+use Prim.Native.Nat.{ℕ, _+_}
 use mathlib.Core.Bool.{cond}
 use mathlib.Core.List.{List, _∷_}
 use lib.Dec.{ltb}
@@ -9,10 +9,12 @@ use Rattle.questions.specs.declared.Current.{Current}
 use Rattle.questions.specs.declared.Current.the-variants as current
 use Rattle.questions.specs.declared.Decision.{Decision}
 use Rattle.questions.specs.declared.Decision.the-variants as decision
+use Rattle.reach.specs.declared.Reach.{Reach}
+use Rattle.reach.specs.declared.Reach.the-variants as reach
 
 -- The version of the library, major * 10000 + minor * 100 + patch: VAULT_VERSION of include/vault.h.
 abbrev pub version : ℕ
-version = 10300
+version = 10400
 
 pub data Told : Type 0 where
   told : ℕ → List ℕ → Told
@@ -35,3 +37,8 @@ tellDecision (decision.Refused number) out = told number out
 -- On the way in, refusal 1: there is no room for two numbers.
 unfoldable pub withRoom : List ℕ → Told → Told
 withRoom out t = cond (ltb (length out) 2) (told 1 out) t
+
+-- Of a claim's reach: 'Each gives its number', and a view stands above 256.
+abbrev pub reachNumber : Reach → ℕ
+reachNumber (reach.View view) = 256 + view
+reachNumber (reach.Refused number) = number

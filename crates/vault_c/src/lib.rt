@@ -1,5 +1,5 @@
 // The vault for Rust and C hosts: start, frame and timer over lent bytes, with one number as the answer; what is stored and comes back after a
-// power cut; questions on a stored record, and on many; and help with entries and refusals (include/vault.h).
+// power cut; questions on a stored record, and on many; how high a claim reaches; and help with entries and refusals (include/vault.h).
 ghost use mathlib.Core.Path.{_≡_};
 ghost use lib.ListN.{length, drop};
 ghost use Rattle.record.specs.Size.{recordSize};
@@ -8,13 +8,15 @@ ghost use Rattle.contents.specs.Size.{remnantSize};
 ghost use Rattle.contents.specs.Remnant.{remnantLeft, restartLeft};
 ghost use Rattle.questions.specs.Stored.{currentOf, decisionOf};
 ghost use Rattle.equivocation.specs.Call.{equivocatorsLeft};
+ghost use Rattle.reach.specs.Call.{claimReach};
 ghost use Rattle.entry.specs.Walk.{sizeIn};
 ghost use Rattle.questions.specs.Texts.{sentenceOf, fitting, Written};
 ghost use Rattle.vault_c.specs.inside.Numbers.{code, Short};
 ghost use Rattle.vault_c.specs.Numbers.{seen, numbered};
-ghost use Rattle.vault_c.specs.Asked.{version, told, tellCurrent, tellDecision, withRoom};
+ghost use Rattle.vault_c.specs.Asked.{version, told, tellCurrent, tellDecision, withRoom, reachNumber};
 use questions::Current;
 use questions::Decision;
+use reach::Reach;
 use settings::Settings;
 use vault::Answer;
 
@@ -28,7 +30,7 @@ const DECIDED: u32 = 257;
 const SHORT: u32 = frame::numbers::REFUSED_OUTPUT as u32;
 
 // Major * 10000 + minor * 100 + patch.
-const VERSION: u32 = 10300;
+const VERSION: u32 = 10400;
 
 // The number that stands for an answer.
 fn number(a: Answer) -> u32
@@ -164,6 +166,18 @@ pub extern "C" fn vault_equivocators(records: &[u8], lengths: &[u32], out: &mut 
 {
     let a = equivocation::equivocators(records, lengths, out);
     number(a)
+}
+
+// Says how high the claim of a suggest's or proof's reports reaches for a plan.
+#[no_mangle]
+pub extern "C" fn vault_claim_reach(reports: &[u8], plan: u64) -> u64
+    ensures { λ r. ⌜ r ≡ reachNumber (claimReach (now (reports .entry)) plan) ⌝ }
+{
+    let reach = reach::claim_reach(reports, plan);
+    match reach {
+        Reach::View(view) => ACCEPTED as u64 + view as u64,
+        Reach::Refused(number) => number as u64,
+    }
 }
 
 // How many bytes the entry at a place of an output takes; 0 at the end, and where no whole entry stands there.

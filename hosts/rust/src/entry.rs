@@ -74,6 +74,11 @@ impl Frame {
     pub fn view(&self) -> u32 {
         number(&self.bytes[2..6]) as u32
     }
+
+    /// The three reports of a suggest or proof, all bytes behind its view: what [`claim_reach`](crate::claim_reach) is asked about.
+    pub fn reports(&self) -> Option<&[u8]> {
+        matches!(self.kind, Kind::Suggest | Kind::Proof).then(|| &self.as_bytes()[6..])
+    }
 }
 
 impl Deref for Frame {
@@ -168,8 +173,10 @@ mod tests {
         assert_eq!(entries.next(), Some(Entry::Decision(Decision { view: 1, plan: 700 })));
         let Some(Entry::All(frame)) = entries.next() else { panic!("a view-change") };
         assert_eq!((frame.kind(), frame.sender(), frame.view(), &frame[..]), (Kind::ViewChange, 0, 2, &change[1..]));
+        assert_eq!(frame.reports(), None);
         let Some(Entry::To(3, frame)) = entries.next() else { panic!("a suggest") };
         assert_eq!((frame.kind(), frame.view(), frame.as_bytes()), (Kind::Suggest, 1, &suggest[1..]));
+        assert_eq!(frame.reports(), Some(&[0; 39][..]));
         assert_eq!((entries.next(), entries.next()), (None, None));
     }
 

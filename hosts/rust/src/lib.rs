@@ -68,6 +68,8 @@ pub use refusal::Refusal;
 pub const RECORD_SIZE: usize = 11_703;
 /// The bytes of a remnant.
 pub const REMNANT_SIZE: usize = 237;
+/// The bytes of the three reports of a suggest or proof.
+pub const REPORTS_SIZE: usize = 39;
 /// No frame is longer.
 pub const LONGEST_FRAME: usize = 45;
 /// The bytes of output that a call is lent.
@@ -236,6 +238,26 @@ pub fn equivocators(records: &[impl AsRef<[u8]>]) -> Result<Vec<u8>, Refusal> {
     match answer.checked_sub(ACCEPTED) {
         Some(count) => Ok(output[..count as usize].to_vec()),
         None => Err(refusal(answer)),
+    }
+}
+
+/// For the desk: how high a claim reaches, the highest view at which the sender of a suggest or proof claims a plan. The reports are the frame's
+/// bytes from 6 on, [`Frame::reports`]: highest, previous, lock. It is the highest vote's view if that vote is for the plan, else the previous
+/// vote's view, else 0; the plan is claimed at every view up to that one, and at no later one. Refusals: `Length`, then `Report`, then `Previous`.
+///
+/// ```
+/// // Highest vote in view 4 for plan 5, previous in view 2 for plan 6, and no lock.
+/// let vote = |view, plan| [1, 0, 0, 0, view, 0, 0, 0, 0, 0, 0, 0, plan];
+/// let reports = [vote(4, 5), vote(2, 6), [0; 13]].concat();
+/// assert_eq!(vault::claim_reach(&reports, 5), Ok(4));
+/// assert_eq!(vault::claim_reach(&reports, 8), Ok(2));
+/// assert_eq!(vault::claim_reach(&reports[1..], 5), Err(vault::Refusal::Length));
+/// ```
+pub fn claim_reach(reports: &[u8], plan: u64) -> Result<u32, Refusal> {
+    let answer = sys::claim_reach(reports, plan);
+    match answer.checked_sub(u64::from(ACCEPTED)) {
+        Some(view) => Ok(u32::try_from(view).expect("a view has 32 bits")),
+        None => Err(refusal(answer as u32)),
     }
 }
 

@@ -28,7 +28,7 @@ pub enum Refusal {
     Class = 8,
     /// 9: frame: no bytes, or the kind is not 1 to 8.
     Kind = 9,
-    /// 10: frame: the length is wrong for the kind.
+    /// 10: frame: the length is wrong for the kind; claim_reach: not 39 bytes.
     Length = 10,
     /// 11: frame: the link's sender is n or more, or this vault itself.
     Link = 11,
@@ -36,7 +36,7 @@ pub enum Refusal {
     Sender = 12,
     /// 13: frame: view 0 in a view-change, suggest or proof.
     View0 = 13,
-    /// 14: frame: a report's mark is not 0 or 1, or it is absent and not all of it is 0.
+    /// 14: frame, claim_reach: a report's mark is not 0 or 1, or it is absent and not all of it is 0.
     Report = 14,
     /// 15: frame: a proposal not from its view's leader, or a suggest for a view that this vault does not lead.
     Leader = 15,
@@ -50,7 +50,7 @@ pub enum Refusal {
     LastView = 19,
     /// 21: frame: a report that is present, the lock too, is for the frame's view or a higher one.
     ReportView = 21,
-    /// 22: frame: a previous vote without a highest one, not below it, or for the same plan.
+    /// 22: frame, claim_reach: a previous vote without a highest one, not below it, or for the same plan.
     Previous = 22,
     /// 24: equivocators: not 2 to 64 records, one is blank or no sound record, or they differ in n or f.
     Records = 24,

@@ -47,6 +47,7 @@ mod raw {
             output: *mut u8,
             output_length: usize,
         ) -> u32;
+        pub fn vault_claim_reach(reports: *const u8, reports_length: usize, plan: u64) -> u64;
         pub fn vault_entry(output: *const u8, output_length: usize, at: usize) -> u32;
         pub fn vault_refusal_text(number: u32, output: *mut u8, output_length: usize) -> u32;
     }
@@ -101,6 +102,10 @@ pub fn decision(record: &[u8], out: &mut [u64]) -> u32 {
 pub fn equivocators(records: &[u8], lengths: &[u32], output: &mut [u8]) -> u32 {
     let (bytes, count) = (records.as_ptr(), lengths.len());
     unsafe { raw::vault_equivocators(bytes, records.len(), lengths.as_ptr(), count, output.as_mut_ptr(), output.len()) }
+}
+
+pub fn claim_reach(reports: &[u8], plan: u64) -> u64 {
+    unsafe { raw::vault_claim_reach(reports.as_ptr(), reports.len(), plan) }
 }
 
 pub fn entry(output: &[u8], at: usize) -> usize {

@@ -1,5 +1,5 @@
 //! The names and numbers of this crate are those of include/vault.h.
-use vault::{Kind, Refusal, LONGEST_FRAME, RECORD_SIZE, REMNANT_SIZE};
+use vault::{Kind, Refusal, LONGEST_FRAME, RECORD_SIZE, REMNANT_SIZE, REPORTS_SIZE};
 
 const HEADER: &str = include_str!("../../../include/vault.h");
 const README: &str = include_str!("../../../README.md");
@@ -47,8 +47,14 @@ fn kinds() {
 #[test]
 fn sizes() {
     let header = names("VAULT_");
-    let ours =
-        [("RECORD_SIZE", RECORD_SIZE), ("REMNANT_SIZE", REMNANT_SIZE), ("LONGEST_FRAME", LONGEST_FRAME), ("ACCEPTED", 256), ("OUTPUT_SIZE", 256)];
+    let ours = [
+        ("RECORD_SIZE", RECORD_SIZE),
+        ("REMNANT_SIZE", REMNANT_SIZE),
+        ("REPORTS_SIZE", REPORTS_SIZE),
+        ("LONGEST_FRAME", LONGEST_FRAME),
+        ("ACCEPTED", 256),
+        ("OUTPUT_SIZE", 256),
+    ];
     for (name, value) in ours {
         assert!(header.contains(&(name.to_owned(), value as u32)), "{name}");
     }

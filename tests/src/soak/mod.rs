@@ -1,11 +1,13 @@
 //! The library against the reference and the in-place vault for as long as wanted. A round is made from one seed: random calls, scripts of the line
-//! program or of the rehearsal, lists of records, or whole networks under an adversary, with or without power cuts. Each runs in a process of its
-//! own, so that a fault of any kind is found as a difference is; then a script that shows it is made as short as the time allows.
+//! program or of the rehearsal, lists of records, questions of how high claims reach, or whole networks under an adversary, with or without power
+//! cuts. Each runs in a process of its own, so that a fault of any kind is found as a difference is; then a script that shows it is made as short as
+//! the time allows.
 mod calls;
 mod cuts;
 mod lines;
 mod lists;
 mod networks;
+mod reaches;
 mod rehearsals;
 mod report;
 mod shortest;
@@ -34,9 +36,9 @@ pub enum Sabotage {
     OlderRemnant,
     /// f + 1 vaults lie.
     MoreLiars,
-    /// The library writes another plan into a decision, names another vault, or has another timer after a restart.
+    /// The library writes another plan into a decision, names another vault, has another timer after a restart, or another view that a claim reaches.
     OtherByte,
-    /// The library reads a byte beyond the record, a list of them, or a remnant.
+    /// The library reads a byte beyond the record, a list of them, a remnant, or reports.
     Overrun,
 }
 
@@ -89,13 +91,14 @@ pub fn soak(minutes: u64, first: u64, sabotage: Sabotage) -> ExitCode {
 
 fn round(seed: u64, sabotage: Sabotage) {
     let mut rng = Rng(seed);
-    match (sabotage, rng.below(10)) {
+    match (sabotage, rng.below(20)) {
         (Sabotage::OlderRecord | Sabotage::MoreLiars, _) => networks::round(rng, sabotage),
-        (Sabotage::OlderRemnant, _) | (_, 5) => cuts::round(rng, sabotage),
-        (_, 0 | 1) => calls::round(rng, sabotage),
-        (_, 2) => lines::round(rng, sabotage),
-        (_, 3) => rehearsals::round(rng, sabotage),
-        (_, 4) => lists::round(rng, sabotage),
+        (Sabotage::OlderRemnant, _) | (_, 5 | 15) => cuts::round(rng, sabotage),
+        (_, 0 | 1 | 10 | 11) => calls::round(rng, sabotage),
+        (_, 2 | 12) => lines::round(rng, sabotage),
+        (_, 3 | 13) => rehearsals::round(rng, sabotage),
+        (_, 4 | 14) => lists::round(rng, sabotage),
+        (_, 19) => reaches::round(rng, sabotage),
         _ => networks::round(rng, sabotage),
     }
 }
@@ -108,6 +111,7 @@ fn again(script: &[Vec<u8>], sabotage: Sabotage) {
         "lines" => lines::again(&script[1..], sabotage),
         "rehearsal" => rehearsals::again(&script[1..], sabotage),
         "list" => lists::again(&words[1..], sabotage),
+        "reach" => reaches::again(&words[1..], sabotage),
         "cuts" => cuts::again(&words[1..], sabotage),
         "network" => networks::again(&words[1..], &script[1..], sabotage),
         other => panic!("no such script: {other}"),

@@ -14,6 +14,7 @@ pub fn counts(when: &str) {
     println!("    calls {}, accepted {}; scripts {}, lines {}", seen.calls, seen.accepted, counts.scripts, counts.lines);
     println!("    rehearsals {}, lines {}, decisions by vaults not declared {}", counts.rehearsals, counts.rehearsed, counts.rehearsed_decisions);
     println!("    lists {}, records in them {}, refused {}, vaults named {}", counts.lists, counts.listed, counts.lists_refused, counts.names);
+    println!("    claims {}, reaching above view 0 {}, refused {}", counts.reaches, counts.reaches_above, counts.reaches_refused);
     let [runs_cut, restarts, refused] = [counts.cut_runs, counts.restarts, counts.restarts_refused];
     let (items, cuts, decided) = (counts.cut_items, counts.cuts, counts.cut_decisions);
     println!("    runs with power cuts {runs_cut}, items {items}, cuts {cuts}, restarts {restarts} and {refused} refused, decisions {decided}");

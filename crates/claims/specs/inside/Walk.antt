@@ -11,6 +11,7 @@ use Rattle.rules.specs.Sets.{weigh}
 use Rattle.rules.specs.Rules.{Report, Reports, reach}
 use Rattle.claims.specs.declared.Coming.{Coming}
 use Rattle.claims.specs.declared.Search.{Search}
+use Rattle.claims.specs.declared.Vote.{Vote}
 use Rattle.claims.specs.inside.Rows.{countOf}
 use Rattle.claims.specs.inside.Spans.{standsAt}
 use Rattle.claims.specs.Carried.{claimers, comingIn, carried}
@@ -18,9 +19,21 @@ use Rattle.claims.specs.Table.{column, reportsInTable}
 
 -- ---- how far a vault's claims go
 
+-- The highest view at which a report with these two votes claims p; a vote that is not there has view 0.
+abbrev pub reachBy : Vote → Vote → ℕ → ℕ
+reachBy highest previous p = max (cond (eqb (highest .plan) p) (highest .view) 0) (previous .view)
+
+-- The vote of vault i in columns c and c + 1.
+abbrev pub countedIn : List ℕ → ℕ → ℕ → Vote
+countedIn t c i = record { view = getD t (column * c + i) 0 - 1; plan = getD t (column * (c + 1) + i) 0 }
+
 -- The highest view at which the report that the table has of vault i claims p, whether it is one of this view or not.
 unfoldable pub reachIn : List ℕ → ℕ → ℕ → ℕ
-reachIn t i p = max (cond (eqb (getD t (column * 2 + i) 0) p) (getD t (column * 1 + i) 0 - 1) 0) (getD t (column * 3 + i) 0 - 1)
+reachIn t i p = reachBy (countedIn t 1 i) (countedIn t 3 i) p
+
+-- What the search asks of its table is the reach of the report that the table tells. Proved as `tableReach` in proofs/Standing.
+abbrev pub TableReach : Type 0
+TableReach = (t : List ℕ) (i p : ℕ) (r : Report) → reportsInTable t i ≡ some r → reachIn t i p ≡ reach r p
 
 -- In how many views below `end`, from 0 on, a vault claims p: in none where it has not reported.
 abbrev pub claimEnd : ℕ → ℕ → Option Report → ℕ

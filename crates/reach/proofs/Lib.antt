@@ -1,0 +1,4 @@
+pub mod Laws
+pub mod Kept
+pub mod Tied
+pub mod Examples
