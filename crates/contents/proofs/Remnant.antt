@@ -27,14 +27,16 @@ use Rattle.contents.specs.Contents.{contentsIn, slotted}
 use Rattle.contents.specs.Calls.{leftAfter}
 use Rattle.contents.specs.Left.{Left, wrote, gave}
 use Rattle.contents.specs.Spelling.{LeavesSpelled}
-use Rattle.contents.specs.Size.{remnantSize}
+use Rattle.own.specs.Size.{remnantSize}
+use Rattle.own.specs.Part.{remnantOf, restored}
+use Rattle.own.proofs.Stored.{remnantLength}
 use Rattle.contents.specs.Which.{isBlank, isSound}
-use Rattle.contents.specs.Remnant.{remnantOf, restored, unlessGiven, remnantLeft, madeBack, restartLeft}
+use Rattle.contents.specs.Remnant.{unlessGiven, remnantLeft, madeBack, restartLeft}
 use Rattle.contents.specs.Back.{RemnantBack}
 use Rattle.contents.proofs.Sound.{decodedBack}
 use Rattle.contents.proofs.Ready.{readyLent, readySlotted}
 use Rattle.contents.proofs.Spelling.{Fine, fineSpells, fineBytes, spelledFine}
-use Rattle.contents.proofs.Own.{remnantLength, restoredBack, remnantAlone}
+use Rattle.contents.proofs.Own.{restoredBack, remnantAlone}
 
 -- A restart leaves contents that a vault may have.
 pub aloneFine : (r : Record) → Fine r → Fine (alone r)

@@ -14,8 +14,9 @@ use Rattle.protocol.specs.Alone.{alone, restarted}
 use Rattle.contents.specs.Contents.{contentsIn, slotted}
 use Rattle.contents.specs.Left.{wrote}
 use Rattle.contents.specs.Spelling.{LeavesSpelled}
-use Rattle.contents.specs.Size.{remnantSize}
-use Rattle.contents.specs.Remnant.{remnantOf, remnantLeft, restartLeft}
+use Rattle.own.specs.Size.{remnantSize}
+use Rattle.own.specs.Part.{remnantOf}
+use Rattle.contents.specs.Remnant.{remnantLeft, restartLeft}
 
 pub record RemnantBack : Type 0 where
   -- 'a remnant of fixed length'.

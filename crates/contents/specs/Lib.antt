@@ -1,6 +1,5 @@
 pub mod Contents
 pub mod Calls
-pub mod Size
 pub mod Which
 pub mod Remnant
 pub mod Back

@@ -1,71 +1,24 @@
--- The remnant of a record, and the two calls on it (document 02, wish 6, 'Come back after a power cut'): the answer, and every byte of record and output
--- afterwards.
+-- The two calls on a vault's remnant (document 02, wish 6, 'Come back after a power cut'): the answer, and every byte of record and output afterwards. What a
+-- remnant is stands in crate own, since steps change the same part of a record.
 -- Assumes nothing.
-use Prim.Native.Nat.{ℕ, zero, suc, _+_, _-_, _*_, _/_, _%_}
-use mathlib.Core.Bool.{cond, not}
-use mathlib.Core.List.{List, [], _∷_, _++_}
+use Prim.Native.Nat.{ℕ, zero, suc, _*_}
+use mathlib.Core.Bool.{not}
+use mathlib.Core.List.{List, [], _∷_}
 use lib.Dec.{ltb, eqb}
-use lib.ListN.{length, getD}
+use lib.ListN.{length}
 use Rattle.wire.specs.Placed.{placed}
-use Rattle.wire.specs.Digits.{numberAt, digits}
-use Rattle.frame.specs.declared.Report.{Report}
 use Rattle.frame.specs.Refusal.{Row, row, first}
 use Rattle.entry.specs.declared.Entry.{Entry}
 use Rattle.entry.specs.declared.Entry.the-variants.{Timer}
 use Rattle.entry.specs.Layout.{layout}
 use Rattle.settings.specs.Settings.{delayOf}
-use Rattle.record.specs.Slots.{Record, kinds, firstPrevious, frameSlot, reportSlot, emptySlot, slotOf}
-use Rattle.record.specs.Layout.{slotSize, slotIn, spelledSlots, encodeRecord, decodeRecord}
+use Rattle.record.specs.Slots.{Record}
+use Rattle.record.specs.Layout.{encodeRecord, decodeRecord}
+use Rattle.own.specs.Size.{remnantSize}
+use Rattle.own.specs.Part.{remnantOf, restored}
 use Rattle.sound.specs.inside.Sound.{lentIs}
-use Rattle.protocol.specs.Tables.{put}
 use Rattle.contents.specs.Left.{Left, wrote, gave}
-use Rattle.contents.specs.Size.{remnantSize}
 use Rattle.contents.specs.Which.{isBlank, isSound}
-
--- ---- the remnant's bytes
-
--- 'the vault's own row, previous votes, decision': how many slots that is, 8 frames, 6 reports, 2 previous votes and the decision.
-abbrev pub remnantSlots : ℕ
-remnantSlots = 17
-
--- 'settings, starting plan, current view': what stands before the slots.
-abbrev pub remnantHead : ℕ
-remnantHead = 16
-
--- Which slot of a record the remnant's slot t is: the own frames of kinds 1 to 8; the three reports of the own suggest, then of the own proof; the
--- previous vote-1 and vote-2; the decision.
-unfoldable pub ownSlot : ℕ → ℕ → ℕ
-ownSlot id t =
-    cond (ltb t kinds) (frameSlot (suc t) id)
-    (cond (ltb t 14) (reportSlot (7 + (t - kinds) / 3) ((t - kinds) % 3) id) (firstPrevious + (t - 14)))
-
--- Where its bytes stand in the remnant.
-abbrev pub remnantPlace : ℕ → ℕ
-remnantPlace t = remnantHead + slotSize * t
-
--- 'settings, starting plan, current view, the vault's own row, previous votes, decision': n, f, id, class (1 each), the current view (4), the starting
--- plan (8), and the 17 slots as the record spells them.
-unfoldable pub remnantOf : Record → List ℕ
-remnantOf r =
-    (r .set .n ∷ r .set .f ∷ r .set .id ∷ r .set .class ∷ digits 4 (r .view))
-    ++ (digits 8 (r .plan) ++ spelledSlots (λ t. slotOf r (ownSlot (r .set .id) t)) 0 remnantSlots)
-
--- 'A restart makes a record with that row and no others': the first slots, each at its place in the record of vault id, and nothing besides.
-unfoldable pub putBack : ℕ → (ℕ → Report) → ℕ → ℕ → Report
-putBack id own zero = λ i. emptySlot
-putBack id own (suc t) = put (ownSlot id t) (own t) (putBack id own t)
-
--- The record that a remnant makes.
-unfoldable pub restored : List ℕ → Record
-restored s =
-    record {
-      set = record { n = getD s 0 0; f = getD s 1 0; id = getD s 2 0; class = getD s 3 0 };
-      view = numberAt 4 s 4;
-      plan = numberAt 8 s 8;
-      slots = putBack (getD s 2 0) (λ t. slotIn s (remnantPlace t)) remnantSlots;
-    }
-
--- ---- the calls
 
 -- 'Each gives its number, zero bytes written, record and output unchanged.'
 abbrev pub unlessGiven : ℕ → List ℕ → List ℕ → Left → Left

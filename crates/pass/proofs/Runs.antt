@@ -1,43 +1,39 @@
 -- Entries written one after the other, and parts of a pass run one after the other (document 01, 'Entries lie end to end'; 'One pass').
 -- Assumes nothing.
-use Prim.Native.Nat.{ℕ, _+_, _≤_}
+use Prim.Native.Nat.{ℕ, _+_, _≤_, _<_}
 use mathlib.Core.Path.{_≡_, refl, sym, _∙_, ap, subst}
 use mathlib.Core.List.{List, [], _∷_, _++_, append-assoc, append-nil}
+use mathlib.Core.Bool.{true}
+use mathlib.Core.Option.{Option, some}
 use native.Mathlib.Omega.{arith}
 use native.Mathlib.Nat.{add-zero}
-use lib.ListN.{length, take, drop, length-append, drop-of-length-le}
-use lib.Seq.{take-all, take-length}
+use lib.ListN.{length, getD, length-append}
 use Rattle.wire.specs.Placed.{placed}
 use Rattle.wire.proofs.Output.{placedNone, placedMore, lengthPlaced}
+use Rattle.frame.specs.declared.Frame.{Frame}
+use Rattle.frame.specs.Valid.{fits}
 use Rattle.entry.specs.declared.Entry.{Entry}
 use Rattle.entry.specs.Layout.{entryBytes, layout}
 use Rattle.entry.proofs.Theorems.{layoutMore}
-use Rattle.record.specs.Size.{recordSize}
+use Rattle.record.specs.Slots as slots
 use Rattle.record.specs.Layout.{decodeRecord}
 use Rattle.record.specs.inside.Layout.{HoldsRecord}
+use Rattle.record.specs.inside.Kept.{keepFrame}
+use Rattle.own.specs.Part.{over}
+use Rattle.own.specs.inside.Own.{heardIn, OwnOf}
 use Rattle.protocol.specs.Record.{Record}
-use Rattle.protocol.specs.Pass.{Out, Step, onward, pass}
+use Rattle.protocol.specs.Pass.{Act, ask, Out, Step, taken, onward, pass}
 use Rattle.contents.specs.Contents.{contentsIn}
 use Rattle.contents.specs.inside.Ready.{Ready}
-use Rattle.contents.proofs.Ready.{contentsHeld, readyHolds}
+use Rattle.contents.proofs.Ready.{contentsHeld, readyAllowed}
 use Rattle.steps.specs.declared.Entries.{Entries}
-use Rattle.steps.specs.declared.Record as by
-use Rattle.steps.specs.inside.Steps.{listOf, Took}
-use Rattle.pass.specs.inside.Steps.{Room, Ran}
-
--- ---- a record copied
-
--- All of some bytes, over as many: what is there then is what was copied.
-pub copied : (src dst : List ℕ) {after : List ℕ} → length dst ≡ length src → after ≡ take (length src) src ++ drop (length src) dst → after ≡ src
-copied src dst same e =
-    e ∙ rw (take-length src, drop-of-length-le dst {i = length src} (omega arith)) (append-nil src)
-
--- The same of a part that is the whole.
-pub loaded : (rec dst : List ℕ) {after : List ℕ} → length rec ≡ recordSize → length dst ≡ recordSize
-    → after ≡ take (length (take recordSize rec)) (take recordSize rec) ++ drop (length (take recordSize rec)) dst → after ≡ rec
-loaded rec dst {after} whole size e =
-    let all : take recordSize rec ≡ rec = take-all recordSize rec (omega arith) in
-    copied rec dst (size ∙ sym whole) (subst (λ (l : List ℕ). after ≡ take (length l) l ++ drop (length l) dst) all e)
+use Rattle.steps.specs.declared.Entries.the-variants.{Sent}
+use Rattle.steps.specs.inside.Steps.{listOf, changes}
+use Rattle.acts.specs.inside.Acts.{actAt}
+use Rattle.steps.specs.inside.Own.{Did, Takes}
+use Rattle.steps.specs.inside.Order.{stepAt}
+use Rattle.steps.proofs.Steps.{didAsk, stepBy, readyStep}
+use Rattle.pass.specs.inside.Steps.{Room, Due, Ran}
 
 -- ---- entries
 
@@ -126,16 +122,45 @@ module _ (o : Out) (e : Entries) (wrote : listOf e ≡ o .wrote) (at : ℕ) (out
     bytes = bytes ∙ ap (λ (es : List Entry). placed out at (layout es)) wrote;
   }
 
--- A step on a copy of the record is one on the record, and what it left is stored.
-pub tookFrom : (s : Step) (t : by.Record) {copy rec : List ℕ} → copy ≡ rec → Took (s (contentsIn copy)) t → Took (s (contentsIn rec)) t
-tookFrom s t e = subst (λ (l : List ℕ). Took (s (contentsIn l)) t) e
+-- With the own part put back and the entries written, an act has run on the lent bytes.
+pub ranStored : (o : Out) (e : Entries) {r : slots.Record} → Did o r e → (at : ℕ) (out : List ℕ) {rec : List ℕ} {n : ℕ} {after : List ℕ}
+    → HoldsRecord rec r → Ready rec → EntriesPut at out (listOf e) n after → Ran o at out after n rec
+ranStored o e did at out held ready = ranWritten o e (did .wrote) at out (contentsHeld held ∙ did .left) ready
 
--- So with the record stored and its entries written, the step has run on the lent bytes.
-pub ranStored : (o : Out) (t : by.Record) → Took o t → (at : ℕ) (out : List ℕ) {rec : List ℕ} {n : ℕ} {after : List ℕ}
-    → HoldsRecord rec (decodeRecord (t .bytes)) → EntriesPut at out (listOf (t .wrote .entries)) n after → Ran o at out after n rec
-ranStored o t took at out held =
-    let was = took .ready in
-    ranWritten o (t .wrote .entries) (took .wrote) at out (contentsHeld held ∙ took .left) (readyHolds held (was .clean) (was .sound) (was .ranged))
+module _ (k : ℕ) {a : Option Act} (rec : List ℕ) {id : ℕ} (due : Due k a rec id) {s : List ℕ} (own : OwnOf rec s) (t : List ℕ) {e : Entries}
+    (step : Takes (actAt k) (stepAt k) a s t e) where
+  -- A step on the own part of a record, which asks for its act, is done.
+  pub didStep : Did (stepAt k (contentsIn rec)) (over (heardIn rec) t) e
+  didStep = step .took rec (due .ready) own (due .is)
+
+  -- So its act is.
+  pub didAct : Did (taken (contentsIn rec) a) (over (heardIn rec) t) e
+  didAct = subst (λ (o : Out). Did o (over (heardIn rec) t) e) (stepBy k (contentsIn rec) ∙ ap (taken (contentsIn rec)) (sym (due .is))) didStep
+
+  -- Its entries have room.
+  pub roomTaken : (at : ℕ) (out : List ℕ) → Room (stepAt k (contentsIn rec)) at out → at + length (layout (listOf e)) ≤ length out
+  roomTaken at out = roomWritten (stepAt k (contentsIn rec)) e (didStep .wrote) at out
+
+  -- With the own part put back and the entries written, it has run on the lent bytes.
+  pub ranStep : (at : ℕ) (out : List ℕ) {left : List ℕ} {n : ℕ} {after : List ℕ} → HoldsRecord left (over (heardIn rec) t) → EntriesPut at out
+      (listOf e) n after
+      → Ran (stepAt k (contentsIn rec)) at out after n left
+  ranStep at out held = ranStored (stepAt k (contentsIn rec)) e didStep at out held (readyStep k (due .low) (due .ready) didStep held)
+
+-- A record that calls leave has vaults, and its own part says so.
+pub someOwn : (rec : List ℕ) {s : List ℕ} → Ready rec → OwnOf rec s → 0 < getD s 0 0
+unfolding over
+someOwn rec h own = subst (λ (n : ℕ). 0 < n) (sym (ap (λ (x : slots.Record). x .set .n) (own .is))) (omega (arith, readyAllowed h .own))
+
+-- The timer's view-change is a frame that may be kept,
+pub changeFits : {id w : ℕ} {f : Frame} → f ≡ changes id w → (fits (f .kind) (f .body) ≡ true) × (f .kind ≤ 6)
+changeFits is = (subst (λ (g : Frame). fits (g .kind) (g .body) ≡ true) (sym is) refl, subst (λ (g : Frame). g .kind ≤ 6) (sym is) (omega arith))
+
+-- and kept where the record lies it is the act of asking.
+pub askFor : (rec : List ℕ) → Ready rec → {id w : ℕ} {f : Frame} → id ≡ decodeRecord rec .set .id → f ≡ changes id w
+    → Did (taken (contentsIn rec) (some (ask w))) (keepFrame (decodeRecord rec) id f) (Sent f)
+askFor rec h {id} {w} own is =
+    subst (λ (g : Frame). Did (taken (contentsIn rec) (some (ask w))) (keepFrame (decodeRecord rec) id g) (Sent g)) (sym is) (didAsk rec h own refl)
 
 -- Where there is nothing to do, nothing is written.
 pub ranNothing : (o : Out) (at : ℕ) (out rec : List ℕ) → o ≡ record { left = contentsIn rec; wrote = [] } → Ready rec → Ran o at out out at rec

@@ -1,16 +1,16 @@
--- Only what an act changed is written back (document 01, 'One pass'): a vote changes the own slot of its kind and that of the previous
--- vote, a decision its own slot. So a record with these slots put in is the one that the act left.
+-- Only what an act changed is put back (document 01, 'One pass'): a view-change and a decision change one slot each, a vote the own slot of its
+-- kind and that of the previous vote. So a record with these slots of the own part put in is the one that the own part makes.
 -- Assumes nothing.
 use Prim.Native.Nat.{ℕ, suc, _+_, _≤_, _<_}
 use mathlib.Core.Path.{_≡_, refl, sym, _∙_, ap, subst}
 use mathlib.Core.Logic.{_⊎_, inl, inr}
 use mathlib.Core.Bool.{Bool, true, false, cond, not, _&&_}
 use mathlib.Core.List.{List}
-use mathlib.Core.Option.{Option, none, some}
+use mathlib.Core.Option.{some}
 use native.Mathlib.Omega.{arith}
-use native.Mathlib.Decide.{ℕ-discrete, decLt}
+use native.Mathlib.Decide.{ℕ-discrete}
 use lib.Dec.{eqb}
-use lib.ListN.{length}
+use lib.ListN.{length, getD}
 use Rattle.rules.proofs.Bools.{which}
 use Rattle.frame.specs.Format.{within}
 use Rattle.frame.specs.Refusal.{present}
@@ -22,65 +22,128 @@ use Rattle.record.specs.inside.Slots.{withSlot}
 use Rattle.record.specs.Kept.{headSlot}
 use Rattle.record.specs.inside.Kept.{keepFrame}
 use Rattle.record.specs.inside.Keeping.{moves, ownSlot, shiftedSlots, ownBroadcast}
-use Rattle.record.specs.Size.{recordSize}
 use Rattle.record.specs.Layout.{decodeRecord}
 use Rattle.record.specs.inside.Layout.{HoldsRecord}
+use Rattle.record.proofs.Put.{heldAs}
 use Rattle.record.proofs.Slots.{slotSame, slotOther}
+use Rattle.own.specs.Size.{remnantSize}
+use Rattle.own.specs.Part as part
+use Rattle.own.specs.Part.{remnantSlots, over}
+use Rattle.own.specs.inside.Own.{ownIn, heardIn, Fitting}
+use Rattle.own.proofs.Slots.{ownHead, ownLast}
+use Rattle.own.proofs.Changes.{slotOver}
 use Rattle.protocol.specs.Record as protocol
-use Rattle.protocol.specs.Record.{voteFrame}
-use Rattle.protocol.specs.Pass.{Act, ask, enter, cast, decide, Out, taken}
+use Rattle.protocol.specs.Record.{voteFrame, changeFrame}
+use Rattle.protocol.specs.Pass.{Act, ask, cast, decide, Out, taken}
 use Rattle.contents.specs.Contents.{contents, contentsIn, slotted}
 use Rattle.contents.specs.Lent.{Clean}
 use Rattle.contents.specs.inside.Ready.{Ready}
 use Rattle.contents.proofs.Slotted.{slottedContents}
-use Rattle.contents.proofs.Ready.{readySlotted, readyRow}
-use Rattle.contents.proofs.Acts.{contentsCast, cleanCast, contentsDecided}
+use Rattle.contents.proofs.Ready.{readyRow}
+use Rattle.contents.proofs.Acts.{contentsAsk, cleanAsk, contentsCast, cleanCast, contentsDecided}
 use Rattle.contents.proofs.Parts.{cleanDecide, decided}
-use Rattle.acts.specs.declared.Act as acts
-use Rattle.acts.specs.inside.Acts.{asAct, actAt}
-use Rattle.steps.specs.declared.Record as by
-use Rattle.steps.specs.inside.Steps.{OfView, OfPlan, Took}
-use Rattle.steps.specs.inside.Order.{stepAt}
-use Rattle.steps.proofs.Steps.{stepBy, ofView, ofPlan}
-use Rattle.pass.specs.inside.Stored.{slotFrom, SameBut, AtPrevious, AtVote, BytesBut, VoteFits, ActLeft}
+use Rattle.steps.specs.declared.Entries.{Entries}
+use Rattle.steps.specs.inside.Own.{Did}
+use Rattle.steps.proofs.Steps.{takenSet, takenStart}
+use Rattle.pass.specs.inside.Stored.{SameBut, AtPrevious, AtVote, PartBut}
 
 -- ---- slots put in
 
-module _ (r t : Record) where
-  -- Records that differ nowhere are the same.
-  pub sameNone : {d : ℕ → Type 0} → SameBut d r t → ((i : ℕ) → ¬ (d i)) → r ≡ t
-  sameNone h nowhere =
-      sym (λ i. record { set = h .set i; view = h .view i; plan = h .plan i; slots = λ at. h .slots at (nowhere at) i })
+-- Records that differ in two slots at most are one, once these are put in: the second may be the first again.
+module _ (r t : Record) (a b : ℕ) {d : ℕ → Type 0} (h : SameBut d r t) (only : (i : ℕ) → d i → (i ≡ a) ⊎ (i ≡ b)) where
+  -- Both put in.
+  abbrev both : Record
+  both = withSlot (withSlot r a (slotOf t a)) b (slotOf t b)
 
-  module _ (a : ℕ) where
-    -- A slot put in is the other record's.
-    slotPutIn : slotOf (slotFrom r t a) a ≡ slotOf t a
-    slotPutIn = slotSame r a (slotOf t a)
+  pub sameBoth : both ≡ t
+  sameBoth = λ k. record { set = sym (h .set) k; view = sym (h .view) k; plan = sym (h .plan) k; slots = λ i. go i (ℕ-discrete i b) (ℕ-discrete i a) k }
+    where
+      one : Record
+      one = withSlot r a (slotOf t a)
 
-    -- After a slot is put in, the records differ only in those left.
-    pub sameNext : {d : ℕ → Type 0} → SameBut (λ i. (i ≡ a) ⊎ d i) r t → SameBut d (slotFrom r t a) t
-    sameNext {d} h = record { set = h .set; view = h .view; plan = h .plan; slots = λ i ne. go i ne (ℕ-discrete i a) }
-      where
-        go : (i : ℕ) → ¬ (d i) → Dec (i ≡ a) → slotOf t i ≡ slotOf (slotFrom r t a) i
-        go i ne (yes e) = subst (λ (j : ℕ). slotOf t j ≡ slotOf (slotFrom r t a) j) (sym e) (sym slotPutIn)
-        go i ne (no other) = h .slots i (λ u. here u) ∙ sym (slotOther r a (slotOf t a) i other)
-          where
-            here : (i ≡ a) ⊎ d i → ⊥
-            here (inl e) = other e
-            here (inr x) = ne x
+      go : (i : ℕ) → Dec (i ≡ b) → Dec (i ≡ a) → slotOf both i ≡ slotOf t i
+      go i (yes e) x = subst (λ (j : ℕ). slotOf both j ≡ slotOf t j) (sym e) (slotSame one b (slotOf t b))
+      go i (no other) (yes e) =
+          slotOther one b (slotOf t b) i other ∙ subst (λ (j : ℕ). slotOf one j ≡ slotOf t j) (sym e) (slotSame r a (slotOf t a))
+      go i (no other) (no neither) =
+          slotOther one b (slotOf t b) i other ∙ slotOther r a (slotOf t a) i neither ∙ sym (h .slots i (λ x. none (only i x)))
+        where
+          none : (i ≡ a) ⊎ (i ≡ b) → ⊥
+          none (inl e) = neither e
+          none (inr e) = other e
 
-    -- With the only slot in which they differ put in, they are the same.
-    pub sameOne : {d : ℕ → Type 0} → SameBut d r t → ((i : ℕ) → d i → i ≡ a) → slotFrom r t a ≡ t
-    sameOne {d} h only = λ i. record {
-      set = sym (h .set) i;
-      view = sym (h .view) i;
-      plan = sym (h .plan) i;
-      slots = λ at. go at (ℕ-discrete at a) i;
-    }
-      where
-        go : (i : ℕ) → Dec (i ≡ a) → slotOf (slotFrom r t a) i ≡ slotOf t i
-        go i (yes e) = subst (λ (j : ℕ). slotOf (slotFrom r t a) j ≡ slotOf t j) (sym e) slotPutIn
-        go i (no other) = slotOther r a (slotOf t a) i other ∙ sym (h .slots i (λ x. other (only i x)))
+-- The same of one slot.
+module _ (r t : Record) (a : ℕ) {d : ℕ → Type 0} (h : SameBut d r t) (only : (i : ℕ) → d i → i ≡ a) where
+  pub sameOne : withSlot r a (slotOf t a) ≡ t
+  sameOne = λ k. record { set = sym (h .set) k; view = sym (h .view) k; plan = sym (h .plan) k; slots = λ i. go i (ℕ-discrete i a) k }
+    where
+      go : (i : ℕ) → Dec (i ≡ a) → slotOf (withSlot r a (slotOf t a)) i ≡ slotOf t i
+      go i (yes e) = subst (λ (j : ℕ). slotOf (withSlot r a (slotOf t a)) j ≡ slotOf t j) (sym e) (slotSame r a (slotOf t a))
+      go i (no other) = slotOther r a (slotOf t a) i other ∙ sym (h .slots i (λ x. other (only i x)))
+
+-- ---- of an own part
+
+module _ (rec : List ℕ) (id : ℕ) (s : List ℕ) {d : ℕ → Type 0} (p : PartBut d rec id s) where
+  -- The record that it makes.
+  abbrev target : Record
+  target = over (heardIn rec) s
+
+  -- The own number is that of the part.
+  named : id ≡ getD s 2 0
+  named = p .fits .own ∙ sym (ap (λ (x : Settings). x .id) (p .fits .set))
+
+  -- What its slot t holds is what the target holds at its place.
+  held : (t : ℕ) → t < remnantSlots → ownIn s t ≡ slotOf target (part.ownSlot id t)
+  held t low =
+      sym (slotOver s (p .fits .long) (subst (λ (i : ℕ). i < rows) named (p .fits .row)) (heardIn rec) t low)
+      ∙ ap (λ (i : ℕ). slotOf target (part.ownSlot i t)) (sym named)
+
+  -- Where they differ in one slot, that is put back.
+  pub storedOne : {left : List ℕ} (t : ℕ) → t < remnantSlots → ((i : ℕ) → d i → i ≡ part.ownSlot id t)
+      → HoldsRecord left (withSlot (decodeRecord rec) (part.ownSlot id t) (ownIn s t)) → HoldsRecord left target
+  storedOne t low only put =
+      let e = held t low in
+      heldAs put ((λ i. withSlot (decodeRecord rec) (part.ownSlot id t) (e i)) ∙ sameOne (decodeRecord rec) target (part.ownSlot id t) (p .same) only)
+
+  -- Where they differ in two, one after the other.
+  pub storedTwo : {first left : List ℕ} (t u : ℕ) → t < remnantSlots → u < remnantSlots → ((i : ℕ) → d i → (i ≡ part.ownSlot id t) ⊎ (i ≡ part.ownSlot id u))
+      → HoldsRecord first (withSlot (decodeRecord rec) (part.ownSlot id t) (ownIn s t))
+      → HoldsRecord left (withSlot (decodeRecord first) (part.ownSlot id u) (ownIn s u)) → HoldsRecord left target
+  storedTwo t u low high only one two =
+      let e = held t low in
+      let f = held u high in
+      let was = one .is in
+      heldAs two ((λ i. withSlot (was i) (part.ownSlot id u) (f i))
+      ∙ (λ i. withSlot (withSlot (decodeRecord rec) (part.ownSlot id t) (e i)) (part.ownSlot id u) (slotOf target (part.ownSlot id u)))
+      ∙ sameBoth (decodeRecord rec) target (part.ownSlot id t) (part.ownSlot id u) (p .same) only)
+
+-- A vote's slot, and that of the previous vote, as the code puts them back.
+module _ (rec : List ℕ) (id k : ℕ) (s : List ℕ) (p : PartBut (AtVote id k) rec id s) (low : k ≤ 4) where
+  -- The vote's own slot.
+  voteAt : part.ownSlot id k ≡ frameSlot (k + 1) id
+  voteAt = ownHead id k (omega arith) ∙ omega arith
+
+  -- A vote without a previous one.
+  pub voteStored : {left : List ℕ} → ¬ ((1 ≤ k) × (k ≤ 2)) → HoldsRecord left (withSlot (decodeRecord rec) (part.ownSlot id k) (ownIn s k))
+      → HoldsRecord left (over (heardIn rec) s)
+  voteStored none = storedOne rec id s p k (omega arith) only
+    where
+      only : (i : ℕ) → AtVote id k i → i ≡ part.ownSlot id k
+      only i (inl e) = e ∙ sym voteAt
+      only i (inr (a, b, e)) = absurd (none (a, b))
+
+  -- A vote with one.
+  pub votesStored : {at : ℕ} {first left : List ℕ} → 1 ≤ k → k ≤ 2 → at ≡ k + 1 + 12 → HoldsRecord first
+      (withSlot (decodeRecord rec) (part.ownSlot id k) (ownIn s k))
+      → HoldsRecord left (withSlot (decodeRecord first) (part.ownSlot id at) (ownIn s at)) → HoldsRecord left (over (heardIn rec) s)
+  votesStored {at} one two ea = storedTwo rec id s p k at (omega arith) (omega arith) only
+    where
+      previousAt : part.ownSlot id at ≡ previousSlot (k + 1)
+      previousAt = ownLast id at (omega (arith, ea, one)) ∙ omega (arith, ea, one)
+
+      only : (i : ℕ) → AtVote id k i → (i ≡ part.ownSlot id k) ⊎ (i ≡ part.ownSlot id at)
+      only i (inl e) = inl (e ∙ sym voteAt)
+      only i (inr (a, b, e)) = inr (e ∙ sym previousAt)
 
 -- ---- what acts change
 
@@ -126,134 +189,64 @@ module _ (r : Record) (k p : ℕ) where
             ∙ was .slots i (λ x. ne (inr x));
       }
 
--- ---- bytes
+-- ---- what an act left
+
+-- What an act leaves has the settings and the starting plan of the record, so its own part fits.
+pub fitsLeft : (rec : List ℕ) (id : ℕ) (t : List ℕ) {o : Out} {e : Entries} → Ready rec → id ≡ decodeRecord rec .set .id → length t ≡ remnantSize
+    → Did o (over (heardIn rec) t) e → o .left .set ≡ contentsIn rec .set → o .left .start ≡ contentsIn rec .start → Fitting rec id t
+unfolding over contents
+fitsLeft rec id t h own long did set start = record {
+  size = h .size;
+  long = long;
+  own = own;
+  row = subst (λ (i : ℕ). i < rows) (sym own) (readyRow h);
+  set = ap (λ (x : protocol.Record). x .set) (did .left) ∙ set;
+  plan = ap (λ (x : protocol.Record). x .start) (did .left) ∙ start;
+}
 
 -- Two records with the same contents, both clean, are one.
-asLeft : {bytes : List ℕ} → Ready bytes → (t : Record) → Clean t → contentsIn bytes ≡ contents t → decodeRecord bytes ≡ t
-asLeft h t clean e = sym (readySlotted h) ∙ ap slotted e ∙ slottedContents t clean
+sameClean : (r t : Record) → Clean r → Clean t → contents r ≡ contents t → r ≡ t
+sameClean r t a b e = sym (slottedContents r a) ∙ ap slotted e ∙ slottedContents t b
 
-module _ (rec bytes : List ℕ) where
+module _ (rec : List ℕ) (h : Ready rec) (id : ℕ) (own : id ≡ decodeRecord rec .set .id) (t : List ℕ) (long : length t ≡ remnantSize) where
   -- The record before the act.
   abbrev r : Record
   r = decodeRecord rec
 
-  -- A vote's bytes differ from the record's in the slots of the vote.
-  pub leftVote : (k p : ℕ) → ActLeft (some (cast k p)) rec bytes → BytesBut (AtVote (r .set .id) k) rec bytes
-  leftVote k p h = record {
-    size = h .ready .size;
-    whole = h .after .size;
-    same = subst (SameBut (AtVote (r .set .id) k) r) (sym is) (voteChanges r k p);
+  -- An act that leaves a record with some slots changed leaves an own part that says all but these.
+  partLeft : (a : Act) (left : Record) {d : ℕ → Type 0} {e : Entries} → Clean left → contents left ≡ (taken (contentsIn rec) (some a)) .left → SameBut d r left
+      → Did (taken (contentsIn rec) (some a)) (over (heardIn rec) t) e → PartBut d rec id t
+  partLeft a left {d} clean is but did = record {
+    fits = fitsLeft rec id t h own long did (takenSet (contentsIn rec) (some a)) (takenStart (contentsIn rec) (some a));
+    same = subst (SameBut d r) (sameClean left (over (heardIn rec) t) clean (did .clean) (is ∙ sym (did .left))) but;
   }
-    where
-      is : decodeRecord bytes ≡ ownBroadcast r (voteFrame (contents r) k p)
-      is = asLeft (h .after) (ownBroadcast r (voteFrame (contents r) k p)) (cleanCast r k p (h .votes) (readyRow (h .ready)) (h .ready .clean))
-          (h .left ∙ sym (contentsCast r k p (h .votes) (readyRow (h .ready))))
 
-  -- A decision's differ in its slot.
-  pub leftDecision : (p : ℕ) → ActLeft (some (decide p)) rec bytes → slotFrom r (decodeRecord bytes) decisionSlot ≡ decodeRecord bytes
-  leftDecision p h =
-      sameOne r (decodeRecord bytes) decisionSlot {d = λ i. i ≡ decisionSlot}
-      (subst (SameBut (λ i. i ≡ decisionSlot) r) (sym is) changes) (λ i e. e)
-    where
-      is : decodeRecord bytes ≡ decided r (r .view) p
-      is = asLeft (h .after) (decided r (r .view) p) (cleanDecide r (r .view) p (h .ready .clean)) (h .left ∙ sym (contentsDecided r p))
-
-      changes : SameBut (λ i. i ≡ decisionSlot) r (decided r (r .view) p)
-      changes = record {
+  -- To ask for a view changes the own view-change.
+  pub askLeft : (w : ℕ) {e : Entries} → Did (taken (contentsIn rec) (some (ask w))) (over (heardIn rec) t) e → PartBut (λ i. i ≡ part.ownSlot id 5) rec id t
+  unfolding keepFrame contents
+  askLeft w =
+      partLeft (ask w) (keepFrame r (r .set .id) (changeFrame (contents r) w)) (cleanAsk r w (readyRow h) (h .clean)) (contentsAsk r w (readyRow h)) (record {
         set = refl;
         view = refl;
         plan = refl;
-        slots = λ i ne. slotOther r decisionSlot (record { mark = 1; view = r .view; plan = p }) i ne;
-      }
+        slots = λ i ne. slotOther r (frameSlot 6 (r .set .id)) (headSlot (changeFrame (contents r) w)) i
+            (λ (is : i ≡ frameSlot 6 (r .set .id)). ne (is ∙ sym (ap (λ (j : ℕ). part.ownSlot j 5) own ∙ ownHead (r .set .id) 5 (omega arith))));
+      })
 
--- ---- what is written back
+  -- To vote, the own vote and the previous one.
+  pub castLeft : (k p : ℕ) {e : Entries} → k ≤ 4 → Did (taken (contentsIn rec) (some (cast k p))) (over (heardIn rec) t) e → PartBut (AtVote id k) rec id t
+  castLeft k p low =
+      partLeft (cast k p) (ownBroadcast r (voteFrame (contents r) k p)) (cleanCast r k p low (readyRow h) (h .clean)) (contentsCast r k p low (readyRow h))
+      (subst (λ (j : ℕ). SameBut (AtVote j k) r (ownBroadcast r (voteFrame (contents r) k p))) (sym own) (voteChanges r k p))
 
-module _ (rec bytes : List ℕ) where
-  -- The record that is written.
-  abbrev before : Record
-  before = decodeRecord rec
-
-  -- The one that it is to become.
-  abbrev target : Record
-  target = decodeRecord bytes
-
-  -- A slot that is read of the one and put into the other.
-  pub slotStored : (i : ℕ) {left : List ℕ} {slot : Report} → slot ≡ slotOf target i → HoldsRecord left (withSlot before i slot)
-      → HoldsRecord left (slotFrom before target i)
-  slotStored i {left} = subst (λ (x : Report). HoldsRecord left (withSlot before i x))
-
-  -- Once the previous vote is put in, no slot is left.
-  pub previousStored : (k : ℕ) {left : List ℕ} {at : ℕ} → BytesBut (AtPrevious k) rec bytes → at ≡ previousSlot (k + 1)
-      → HoldsRecord left (slotFrom before target at) → HoldsRecord left target
-  previousStored k {left} {at} h e = subst (HoldsRecord left) (sameOne before target at (h .same) (λ i (low, high, is). is ∙ sym e))
-
-  -- Once a vote's own slot is put in, only the previous vote's is left.
-  pub voteNext : (id k : ℕ) {left : List ℕ} {at : ℕ} → BytesBut (AtVote id k) rec bytes → at ≡ frameSlot (k + 1) id
-      → HoldsRecord left (slotFrom before target at) → BytesBut (AtPrevious k) left bytes
-  voteNext id k {left} {at} h e held = record {
-    size = held .size;
-    whole = h .whole;
-    same = subst (λ (x : Record). SameBut (AtPrevious k) x target) (sym (held .is))
-        (sameNext before target at (subst (λ (a : ℕ). SameBut (λ i. (i ≡ a) ⊎ AtPrevious k i) before target) (sym e) (h .same)));
-  }
-
--- A vote without a previous one leaves nothing to put in.
-pub previousNone : (k : ℕ) {rec bytes : List ℕ} → BytesBut (AtPrevious k) rec bytes → ¬ ((1 ≤ k) × (k ≤ 2)) → HoldsRecord rec (decodeRecord bytes)
-previousNone k {rec} {bytes} h has =
-    record { size = h .size; is = sameNone (decodeRecord rec) (decodeRecord bytes) (h .same) (λ i (low, high, is). has (low, high)) }
-
--- The act, as the code's match has it.
-pub leftAs : (act was : acts.Act) → act ≡ was → {rec bytes : List ℕ} → ActLeft (asAct act) rec bytes → ActLeft (asAct was) rec bytes
-leftAs act was is {rec} {bytes} = subst (λ (a : acts.Act). ActLeft (asAct a) rec bytes) is
-
--- The slots of a vote may be written back: the settings name the own row.
-pub voteStored : (rec bytes : List ℕ) (k p : ℕ) → ActLeft (some (cast k p)) rec bytes → {set : Settings} → set ≡ decodeRecord rec .set
-    → BytesBut (AtVote (set .id) k) rec bytes × (set .id < rows) × (k ≤ 4)
-voteStored rec bytes k p h own =
-    let id : _ ≡ decodeRecord rec .set .id = ap (λ (x : Settings). x .id) own in
-    let back = sym id in
-    (subst (λ (j : ℕ). BytesBut (AtVote j k) rec bytes) back (leftVote rec bytes k p h), subst (λ (j : ℕ). j < rows) back (readyRow (h .ready)), h .votes)
-
--- The slot of a decision is all that is to be written back.
-pub decisionStored : (rec bytes : List ℕ) (p : ℕ) → ActLeft (some (decide p)) rec bytes
-    → {left : List ℕ} → HoldsRecord left (slotFrom (decodeRecord rec) (decodeRecord bytes) decisionSlot) → HoldsRecord left (decodeRecord bytes)
-decisionStored rec bytes p h {left} = subst (HoldsRecord left) (leftDecision rec bytes p h)
-
--- A copy of a record's bytes holds that record.
-pub holdsCopy : {left bytes : List ℕ} → length bytes ≡ recordSize → left ≡ bytes → HoldsRecord left (decodeRecord bytes)
-holdsCopy size e = record { size = ap length e ∙ size; is = ap decodeRecord e }
-
--- ---- what a step left
-
-module _ (k : ℕ) (c : protocol.Record) (a : acts.Act) (e : asAct a ≡ actAt k c) where
-  -- A step casts a vote that there is.
-  pub voteFits : VoteFits (asAct a)
-  voteFits = go (decLt k 2)
-    where
-      ofViews : (o : Option Act) → OfView o → VoteFits o
-      ofViews none h = tt
-      ofViews (some (ask w)) h = tt
-      ofViews (some (enter w)) h = tt
-      ofViews (some (cast k p)) h = absurd h
-      ofViews (some (decide p)) h = tt
-
-      ofPlans : (o : Option Act) → OfPlan o → VoteFits o
-      ofPlans none h = tt
-      ofPlans (some (ask w)) h = tt
-      ofPlans (some (enter w)) h = tt
-      ofPlans (some (cast k p)) h = h
-      ofPlans (some (decide p)) h = tt
-
-      go : Dec (k < 2) → VoteFits (asAct a)
-      go (yes low) = ofViews (asAct a) (ofView k c a e low)
-      go (no high) = ofPlans (asAct a) (ofPlan k c a e (omega arith))
-
--- So a step's bytes are those that its act leaves.
-pub leftStep : (k : ℕ) (a : acts.Act) {rec : List ℕ} (t : by.Record) → Ready rec → asAct a ≡ actAt k (contentsIn rec)
-    → Took (stepAt k (contentsIn rec)) t → ActLeft (asAct a) rec (t .bytes)
-leftStep k a {rec} t h e took = record {
-  votes = voteFits k (contentsIn rec) a e;
-  ready = h;
-  after = took .ready;
-  left = took .left ∙ ap (λ (o : Out). o .left) (stepBy k (contentsIn rec) ∙ ap (taken (contentsIn rec)) (sym e));
-}
+  -- To decide, the decision.
+  pub decideLeft : (p : ℕ) {e : Entries} → Did (taken (contentsIn rec) (some (decide p))) (over (heardIn rec) t) e → PartBut
+      (λ i. i ≡ part.ownSlot id 16) rec id t
+  decideLeft p =
+      partLeft (decide p) (decided r (r .view) p) (cleanDecide r (r .view) p (h .clean)) (contentsDecided r p) (record {
+        set = refl;
+        view = refl;
+        plan = refl;
+        slots = λ i ne. slotOther r decisionSlot (record { mark = 1; view = r .view; plan = p }) i
+            (λ (is : i ≡ decisionSlot). ne (is ∙ sym (ownLast id 16 (omega arith))));
+      })

@@ -1,95 +1,61 @@
-// One pass over a record's lent bytes: steps A to H in their order. What a step is to do is found where the record lies; a record is
-// loaded by value only where a step acts.
+// One pass over a record's lent bytes: steps A to H in their order. What a step is to do is found where the record lies. Only where a step
+// acts is the vault's own part loaded by value, and of what the step hands back only what it changed is put back.
 use acts::Act;
 use entry::Entry;
 use settings::Settings;
 use steps::Entries;
-use steps::Record;
+use steps::Own;
 use steps::Wrote;
 ghost use Prim.Native.Nat.{_+_, _≤_, _<_};
 ghost use mathlib.Core.Path.{_≡_};
+ghost use mathlib.Core.Logic.{_≢_};
 ghost use mathlib.Core.Option.{some};
 ghost use lib.ListN.{length};
 ghost use Rattle.wire.specs.Placed.{placed};
 ghost use Rattle.entry.specs.Layout.{layout};
-ghost use Rattle.record.specs.Slots.{rows, slotCount};
 ghost use Rattle.record.specs.Size.{recordSize};
 ghost use Rattle.record.specs.Layout.{decodeRecord};
 ghost use Rattle.record.specs.inside.Layout.{HoldsRecord};
-ghost use Rattle.protocol.specs.Pass.{ask, taken, pass};
+ghost use Rattle.own.specs.Part.{over};
+ghost use Rattle.own.specs.inside.Own.{heardIn, OwnOf};
+ghost use Rattle.protocol.specs.Pass.{ask, enter, cast, decide, taken, pass};
 ghost use Rattle.contents.specs.Contents.{contentsIn};
 ghost use Rattle.contents.specs.inside.Ready.{Ready};
 ghost use Rattle.acts.specs.inside.Acts.{asAct, actAt};
 ghost use Rattle.steps.specs.inside.Steps.{listOf};
 ghost use Rattle.steps.specs.inside.Order.{stepAt};
-ghost use Rattle.pass.specs.inside.Steps.{Room, Ran};
-ghost use Rattle.pass.specs.inside.Stored.{slotFrom, AtPrevious, AtVote, BytesBut, ActLeft};
+ghost use Rattle.pass.specs.inside.Steps.{Room, Due, Ran};
+ghost use Rattle.pass.specs.inside.Stored.{AtVote, PartBut};
 ghost use Rattle.pass.specs.inside.Passes.{stepsFrom};
 
-// ---- the record by value, and back
+// ---- the own part by value, and back
 
-// One copy. Its length is a constant, so that the array is not filled first.
-fn load(rec: &[u8]) -> Record
-    requires { ⌜ length (now rec) ≡ recordSize ⌝ }
-    ensures { λ r. ⌜ r .bytes ≡ now (rec .entry) ⌝ }
+// The own part of a record, with no entries yet.
+fn load(rec: &[u8]) -> Own
+    requires { ⌜ Ready (now rec) ⌝ }
+    ensures { λ r. ⌜ OwnOf (now (rec .entry)) (r .bytes) ⌝ }
 {
-    let mut bytes = [0; record::SIZE];
-    let count = bytes::copy(&rec[0..record::SIZE], &mut bytes);
+    let mut bytes = [0; own::SIZE];
+    own::load(rec, &mut bytes);
     let wrote = Wrote {
         entries: Entries::Zero,
     };
-    Record { bytes, wrote }
+    Own { bytes, wrote }
 }
 
-// Writes back one slot.
-fn store_slot(bytes: &[u8], i: usize, rec: &mut [u8])
-    requires { ⌜ (length (now rec) ≡ recordSize) × (length (now bytes) ≡ recordSize) × (i < slotCount) ⌝ }
-    ensures { λ _. ⌜ HoldsRecord (now (rec .exit)) (slotFrom (decodeRecord (now (rec .entry))) (decodeRecord (now (bytes .entry))) i) ⌝ }
+// Puts back what sending vote-k changed: the vote and, of vote-1 and vote-2, the previous one.
+fn store_vote(part: &[u8], id: u8, k: u8, rec: &mut [u8])
+    requires { ⌜ PartBut (AtVote id k) (now rec) id (now part) × (k ≤ 4) ⌝ }
+    ensures { λ _. ⌜ HoldsRecord (now (rec .exit)) (over (heardIn (now (rec .entry))) (now (part .entry))) ⌝ }
 {
-    let slot = record::slot_of(bytes, i);
-    record::put_slot(rec, i, slot);
-}
-
-// Writes back the previous vote-k, where that vote has one.
-fn store_previous(bytes: &[u8], k: u8, rec: &mut [u8])
-    requires { ⌜ BytesBut (AtPrevious k) (now rec) (now bytes) ⌝ }
-    ensures { λ _. ⌜ HoldsRecord (now (rec .exit)) (decodeRecord (now (bytes .entry))) ⌝ }
-{
+    own::store_slot(part, id, k, rec);
     if k < 1 {
         return;
     }
     if 2 < k {
         return;
     }
-    let at = record::previous_slot(k + 1);
-    store_slot(bytes, at, rec);
-}
-
-// Writes back what sending vote-k changed.
-fn store_vote(bytes: &[u8], id: u8, k: u8, rec: &mut [u8])
-    requires { ⌜ BytesBut (AtVote id k) (now rec) (now bytes) × (id < rows) × (k ≤ 4) ⌝ }
-    ensures { λ _. ⌜ HoldsRecord (now (rec .exit)) (decodeRecord (now (bytes .entry))) ⌝ }
-{
-    let at = record::frame_slot(k + 1, id);
-    store_slot(bytes, at, rec);
-    store_previous(bytes, k, rec);
-}
-
-// Writes back what an act changed: the slots of a vote or of a decision; after A and B all of the record, by one copy.
-fn store(bytes: &[u8], act: Act, rec: &mut [u8])
-    requires { ⌜ ActLeft (asAct act) (now rec) (now bytes) ⌝ }
-    ensures { λ _. ⌜ HoldsRecord (now (rec .exit)) (decodeRecord (now (bytes .entry))) ⌝ }
-{
-    match act {
-        Act::Cast(k, _) => {
-            let set = record::settings_of(rec);
-            store_vote(bytes, set.id, k, rec);
-        }
-        Act::Decide(_) => store_slot(bytes, record::DECISION, rec),
-        _ => {
-            let count = bytes::copy(bytes, rec);
-        }
-    }
+    own::store_slot(part, id, steps::slot_of_previous(k + 1), rec);
 }
 
 // ---- the entries, end to end
@@ -115,30 +81,85 @@ fn write_entries(out: &mut [u8], at: usize, e: Entries) -> usize
     }
 }
 
-// ---- one step after the other, with the entries written from a place on
+// ---- the steps that act, with their entries written
 
-// The step of a number on a record by value, with its entries written.
-fn run_step(rec: &mut [u8], k: u8, act: Act, out: &mut [u8], at: usize) -> usize
-    requires { ⌜ Ready (now rec) × (k < 8) × (asAct act ≡ actAt k (contentsIn (now rec))) × Room (stepAt k (contentsIn (now rec))) at (now out) ⌝ }
-    ensures { λ count. ⌜ Ran (stepAt k (contentsIn (now (rec .entry)))) at (now (out .entry)) (now (out .exit)) count (now (rec .exit)) ⌝ }
+// A: the own view-change is put back.
+fn run_ask(rec: &mut [u8], id: u8, w: u32, out: &mut [u8], at: usize) -> usize
+    requires { ⌜ Due 0 (some (ask w)) (now rec) id × Room (stepAt 0 (contentsIn (now rec))) at (now out) ⌝ }
+    ensures { λ count. ⌜ Ran (stepAt 0 (contentsIn (now (rec .entry)))) at (now (out .entry)) (now (out .exit)) count (now (rec .exit)) ⌝ }
 {
     let r = load(rec);
-    let s = r.step_at(k, act);
+    let s = r.step_a(w);
     let wrote = s.wrote;
     let entries = wrote.entries;
-    store(&s.bytes, act, rec);
+    own::store_slot(&s.bytes, id, steps::CHANGE, rec);
     write_entries(out, at, entries)
 }
 
-// The same; where there is nothing to do, no record is loaded.
-fn take_step(rec: &mut [u8], k: u8, act: Act, out: &mut [u8], at: usize) -> usize
-    requires { ⌜ Ready (now rec) × (k < 8) × (asAct act ≡ actAt k (contentsIn (now rec))) × Room (stepAt k (contentsIn (now rec))) at (now out) ⌝ }
+// B: the view, and all of the own part.
+fn run_enter(rec: &mut [u8], id: u8, w: u32, out: &mut [u8], at: usize) -> usize
+    requires { ⌜ Due 1 (some (enter w)) (now rec) id × Room (stepAt 1 (contentsIn (now rec))) at (now out) ⌝ }
+    ensures { λ count. ⌜ Ran (stepAt 1 (contentsIn (now (rec .entry)))) at (now (out .entry)) (now (out .exit)) count (now (rec .exit)) ⌝ }
+{
+    let r = load(rec);
+    let s = r.step_b(w);
+    let wrote = s.wrote;
+    let entries = wrote.entries;
+    own::store(&s.bytes, id, rec);
+    write_entries(out, at, entries)
+}
+
+// C to G, by the vote that they send (0: the proposal): that vote.
+fn run_cast(rec: &mut [u8], id: u8, k: u8, p: u64, out: &mut [u8], at: usize) -> usize
+    requires { ⌜ Due (k + 2) (some (cast k p)) (now rec) id × (k ≤ 4) × Room (stepAt (k + 2) (contentsIn (now rec))) at (now out) ⌝ }
+    ensures { λ count. ⌜ Ran (stepAt (k + 2) (contentsIn (now (rec .entry)))) at (now (out .entry)) (now (out .exit)) count (now (rec .exit)) ⌝ }
+{
+    let r = load(rec);
+    let s = r.step_cast(k, p);
+    let wrote = s.wrote;
+    let entries = wrote.entries;
+    store_vote(&s.bytes, id, k, rec);
+    write_entries(out, at, entries)
+}
+
+// H: the decision.
+fn run_decide(rec: &mut [u8], id: u8, p: u64, out: &mut [u8], at: usize) -> usize
+    requires { ⌜ Due 7 (some (decide p)) (now rec) id × Room (stepAt 7 (contentsIn (now rec))) at (now out) ⌝ }
+    ensures { λ count. ⌜ Ran (stepAt 7 (contentsIn (now (rec .entry)))) at (now (out .entry)) (now (out .exit)) count (now (rec .exit)) ⌝ }
+{
+    let r = load(rec);
+    let s = r.step_h(p);
+    let wrote = s.wrote;
+    let entries = wrote.entries;
+    own::store_slot(&s.bytes, id, own::DECISION, rec);
+    write_entries(out, at, entries)
+}
+
+// ---- one step after the other, with the entries written from a place on
+
+// The step of a number, by what it is to do; where that is nothing, the own part is not loaded.
+fn take_step(rec: &mut [u8], id: u8, k: u8, act: Act, out: &mut [u8], at: usize) -> usize
+    requires { ⌜ Due k (asAct act) (now rec) id × Room (stepAt k (contentsIn (now rec))) at (now out) ⌝ }
     ensures { λ count. ⌜ Ran (stepAt k (contentsIn (now (rec .entry)))) at (now (out .entry)) (now (out .exit)) count (now (rec .exit)) ⌝ }
 {
     match act {
+        Act::Ask(w) => run_ask(rec, id, w, out, at),
+        Act::Enter(w) => run_enter(rec, id, w, out, at),
+        Act::Cast(j, p) => run_cast(rec, id, j, p, out, at),
+        Act::Decide(p) => run_decide(rec, id, p, out, at),
         Act::Nothing => at,
-        _ => run_step(rec, k, act, out, at),
     }
+}
+
+// The view after the step of a number: only B enters one.
+fn view_after(rec: &[u8], k: u8, view: u32) -> u32
+    requires { ⌜ (length (now rec) ≡ recordSize) × (k ≢ 1 → view ≡ decodeRecord (now rec) .view) ⌝ }
+    ensures { λ r. ⌜ r ≡ decodeRecord (now (rec .entry)) .view ⌝ }
+{
+    if k == 1 {
+        return record::view_of(rec);
+    }
+    view
 }
 
 // One pass from the step of a number on: 0 from A, 2 from C.
@@ -148,20 +169,22 @@ pub fn pass_from(rec: &mut [u8], set: Settings, from: u8, out: &mut [u8], at: us
 {
     let mut count = at;
     let mut k = from;
+    let mut view = record::view_of(rec);
     while k < 8 {
-        let view = record::view_of(rec);
         let act = acts::act_at(rec, set, view, k);
-        count = take_step(rec, k, act, out, count);
+        count = take_step(rec, set.id, k, act, out, count);
+        view = view_after(rec, k, view);
         k += 1;
     }
     count
 }
 
-// To ask for a view when the timer says so: where the bytes lie, with the entry written.
+// To ask for a view when the timer says so: where the record lies, with the entry written.
 pub fn ask_for(rec: &mut [u8], set: Settings, w: u32, out: &mut [u8], at: usize) -> usize
     requires { ⌜ Ready (now rec) × (set ≡ decodeRecord (now rec) .set) × (decodeRecord (now rec) .view < w) × Room (taken (contentsIn (now rec)) (some (ask w))) at (now out) ⌝ }
     ensures { λ count. ⌜ Ran (taken (contentsIn (now (rec .entry))) (some (ask w))) at (now (out .entry)) (now (out .exit)) count (now (rec .exit)) ⌝ }
 {
-    let entries = steps::ask_in(rec, set.id, w);
-    write_entries(out, at, entries)
+    let f = steps::change_frame(set.id, w);
+    record::keeping::keep_head(rec, set.id, f);
+    write_entries(out, at, Entries::Sent(f))
 }

@@ -15,9 +15,8 @@ use Rattle.record.specs.Slots.{Record, frameSlot, reportSlot}
 use Rattle.record.specs.inside.Slots.{withSlot}
 use Rattle.record.specs.Layout.{decodeRecord}
 use Rattle.record.specs.inside.Layout.{HoldsRecord}
-use Rattle.record.specs.Kept.{planOf, headSlot}
+use Rattle.record.specs.Kept.{headSlot}
 use Rattle.record.specs.inside.Kept.{withReports, withBody, keepFrame}
-use Rattle.record.specs.inside.Keeping.{shiftedSlots, ownBroadcast}
 use Rattle.record.proofs.Forms.{toldKind}
 
 -- the same bytes hold an equal record
@@ -73,12 +72,3 @@ module _ (o o₁ : List ℕ) (sender : ℕ) (f : Frame) {at : ℕ} {slot : Repor
       go (Plan q) g = heldPlan g
       go Empty g = heldBare g
       go (Told t) g = absurd (omega (arith, low, toldKind (f .kind) g fit))
-
--- the previous vote moved where it must, then the frame kept in the own row: together the vault's own broadcast
-pub heldBroadcast : (o o₁ : List ℕ) (f : Frame) {o₂ : List ℕ} {id plan : ℕ} → id ≡ decodeRecord o .set .id → plan ≡ planOf (f .body)
-    → HoldsRecord o₁ (shiftedSlots (decodeRecord o) (f .kind) plan) → HoldsRecord o₂ (keepFrame (decodeRecord o₁) id f)
-    → HoldsRecord o₂ (ownBroadcast (decodeRecord o) f)
-unfolding ownBroadcast
-heldBroadcast o o₁ f e p x y =
-    let ex = x .is in
-    heldAs y (λ i. keepFrame ((ex ∙ ap (shiftedSlots (decodeRecord o) (f .kind)) p) i) (e i) f)

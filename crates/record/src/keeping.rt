@@ -17,7 +17,7 @@ ghost use Rattle.record.specs.Layout.{decodeRecord};
 ghost use Rattle.record.specs.inside.Layout.{HoldsRecord};
 ghost use Rattle.record.specs.Kept.{planOf};
 ghost use Rattle.record.specs.inside.Kept.{withReports, told, keepFrame};
-ghost use Rattle.record.specs.inside.Keeping.{stale, outdone, keepRows, moves, shiftedSlots, ownBroadcast};
+ghost use Rattle.record.specs.inside.Keeping.{stale, outdone, keepRows};
 
 fn is_stale(current: u32, kind: u8, view: u32) -> bool
     ensures { λ b. ⌜ b ≡ stale current kind view ⌝ }
@@ -113,45 +113,4 @@ pub fn keep(rec: &mut [u8], sender: u8, f: Frame)
         Body::Plan(_) => keep_head(rec, sender, f),
         Body::Empty => keep_head(rec, sender, f),
     }
-}
-
-// A new vote of a kind for a plan moves the kept one to the previous one.
-fn vote_moves(slot: Report, kind: u8, plan: u64) -> bool
-    ensures { λ b. ⌜ b ≡ moves slot kind plan ⌝ }
-{
-    if kind < numbers::VOTE_1 {
-        return false;
-    }
-    if numbers::VOTE_2 < kind {
-        return false;
-    }
-    if slot.mark != numbers::PRESENT {
-        return false;
-    }
-    slot.plan != plan
-}
-
-// Moves the own kept vote to the previous one, where a new vote of that kind for a plan moves it.
-fn shift(rec: &mut [u8], id: u8, kind: u8, plan: u64)
-    requires { ⌜ RowPlace kind id × (id ≡ decodeRecord (now rec) .set .id) × (length (now rec) ≡ recordSize) ⌝ }
-    ensures { λ _. ⌜ HoldsRecord (now (rec .exit)) (shiftedSlots (decodeRecord (now (rec .entry))) kind plan) ⌝ }
-{
-    let at = crate::frame_slot(kind, id);
-    let slot = crate::slot_of(rec, at);
-    if !vote_moves(slot, kind, plan) {
-        return;
-    }
-    let before = crate::previous_slot(kind);
-    crate::put_slot(rec, before, slot);
-}
-
-// Puts a vote or a proposal that the vault itself broadcasts into its own row, and the kept vote that it moves to the previous one.
-pub fn own_broadcast(rec: &mut [u8], id: u8, f: Frame)
-    requires { ⌜ (fits (f .kind) (f .body) ≡ true) × (f .kind ≤ 6) × (id < rows) × (id ≡ decodeRecord (now rec) .set .id) × (length (now rec) ≡ recordSize) ⌝ }
-    ensures { λ _. ⌜ HoldsRecord (now (rec .exit)) (ownBroadcast (decodeRecord (now (rec .entry))) f) ⌝ }
-{
-    let body = f.body;
-    let plan = plan_of(body);
-    shift(rec, id, f.kind, plan);
-    keep_head(rec, id, f);
 }

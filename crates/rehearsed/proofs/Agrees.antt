@@ -28,7 +28,7 @@ use Rattle.protocol.specs.Tables.{put, _∈_}
 use Rattle.protocol.proofs.Tables.{putSame, putOther}
 use Rattle.protocol.proofs.ReadsBack.{AllRight}
 use Rattle.contents.specs.Left.{Left, gave}
-use Rattle.contents.specs.Remnant.{remnantOf}
+use Rattle.own.specs.Part.{remnantOf}
 use Rattle.runs.specs.Runs.{ByteCall, frame, made, Item, recordIn, entriesIn, entriesAfter, IsBlank, Setting, recordAt, written, Sent, Fair}
 use Rattle.runs.specs.Runs.{Run, nothingYet, andThen}
 use Rattle.runs.specs.Fixed.{leaves}

@@ -1,22 +1,17 @@
--- Laws of a remnant: its slots' places, bytes put one behind the other, slots put back one by one, and what each call leaves by the test that
--- decides it.
+-- Laws of the two calls: the settings of a sound record, the record that a remnant makes, and what each call leaves by the test that decides it.
 -- Assumes nothing.
-use Prim.Native.Nat.{ℕ, zero, suc, _+_, _-_, _*_, _/_, _%_, _≤_, _<_}
-use mathlib.Core.Path.{_≡_, refl, sym, ap, subst, _∙_}
+use Prim.Native.Nat.{ℕ, zero, suc, _+_, _*_, _≤_, _<_}
+use mathlib.Core.Path.{_≡_, refl, sym, ap, _∙_}
 use mathlib.Core.Bool.{Bool, true, false, cond, not, true≢false}
-use mathlib.Core.List.{List, [], _∷_, _++_, append-assoc, append-nil}
-use native.Mathlib.Numerals.{add-one}
+use mathlib.Core.List.{List, [], _∷_, append-nil}
 use native.Mathlib.Nat.{zero-add}
 use native.Mathlib.Decide.{ℕ-discrete}
 use native.Mathlib.Omega.{arith}
 use lib.Dec.{ltb, eqb}
-use lib.ListN.{length, length-append}
+use lib.ListN.{length}
 use borrow.Author.Tests.{lt-ltb, le-ltb, ltb-false, eq-eqb, ne-eqb}
 use Rattle.wire.specs.Fields.{Bytes}
-use Rattle.wire.specs.Digits.{numberAt, digits}
 use Rattle.wire.specs.Placed.{placed}
-use Rattle.wire.proofs.Laws.{lengthDigits}
-use Rattle.wire.proofs.Output.{placedNone, placedSets, placedMore}
 use Rattle.frame.specs.declared.Report.{Report}
 use Rattle.frame.specs.Refusal.{row, first}
 use Rattle.entry.specs.declared.Entry.{Entry}
@@ -26,99 +21,23 @@ use Rattle.entry.proofs.Theorems.{entrySpan}
 use Rattle.settings.specs.declared.Settings.{Settings}
 use Rattle.settings.specs.Settings.{settingRows, delayOf}
 use Rattle.settings.proofs.Allowed.{allowed}
-use Rattle.record.specs.Slots.{Record, rows, firstPrevious, frameSlot, reportSlot, slotOf}
-use Rattle.record.specs.Layout.{slotIn, slotBytes, spelledSlots, sharedOf, encodeRecord, decodeRecord}
+use Rattle.record.specs.Slots.{Record, rows, slotOf}
+use Rattle.record.specs.Layout.{sharedOf, encodeRecord, decodeRecord}
 use Rattle.record.specs.Size.{recordSize}
-use Rattle.record.specs.inside.Slots.{slotPut, withSlot, withView, freshSlots}
+use Rattle.record.specs.inside.Slots.{freshSlots}
 use Rattle.record.specs.inside.Layout.{HoldsRecord}
-use Rattle.record.proofs.Laws.{settingBytes}
-use Rattle.record.proofs.Put.{heldAs}
-use Rattle.record.proofs.Theorems.{lengthSlots, encodeDecode}
+use Rattle.record.proofs.Theorems.{encodeDecode}
 use Rattle.sound.specs.declared.Lent.{Lent}
 use Rattle.sound.specs.declared.Lent.the-variants.{Blank, Unsound, Sound}
 use Rattle.sound.specs.inside.Sound.{sound, lentIs}
 use Rattle.sound.proofs.Laws.{soundSettings, lentLength, lentBlank, lentOther}
 use Rattle.contents.specs.Left.{Left, wrote, gave}
-use Rattle.contents.specs.Size.{remnantSize}
-use Rattle.contents.specs.Remnant.{remnantSlots, remnantHead, ownSlot, remnantPlace, remnantOf, putBack, restored}
+use Rattle.own.specs.Size.{remnantSize}
+use Rattle.own.specs.Part.{remnantOf, over, restored}
+use Rattle.own.specs.inside.Own.{settingsIn, viewIn, planIn, heardIn}
 use Rattle.contents.specs.Which.{isBlank, isSound}
 use Rattle.contents.specs.Remnant.{unlessGiven, remnantLeft, timerBack, madeBack, restartLeft}
-use Rattle.remnant.specs.inside.Parts.{headBytes, ownBytes, writeRefusal, restoredTo}
-
--- ---- places
-
-module _ (id t : ℕ) where
-  -- The first slots are the own frames, of kinds 1 to 8.
-  pub ownFrame : {at : ℕ} → at ≡ frameSlot (t + 1) id → t < 8 → at ≡ ownSlot id t
-  unfolding ownSlot
-  ownFrame is low = is ∙ rw (lt-ltb t 8 low, add-one) refl
-
-  -- Then come the reports, three of each of the two kinds.
-  pub ownReport : {at : ℕ} → at ≡ reportSlot (7 + (t - 8) / 3) ((t - 8) % 3) id → 8 ≤ t → t < 14 → at ≡ ownSlot id t
-  unfolding ownSlot
-  ownReport is low high = is ∙ rw (le-ltb t 8 low, lt-ltb t 14 high) refl
-
-  -- The previous votes and the decision are last.
-  pub ownPrevious : 14 ≤ t → firstPrevious + (t - 14) ≡ ownSlot id t
-  unfolding ownSlot
-  ownPrevious low = let high : 8 ≤ t = omega arith in rw (le-ltb t 8 high, le-ltb t 14 low) refl
-
--- ---- bytes put one behind the other
-
--- Four bytes stored and two numbers put behind them are the head.
-pub headPut : (o : List ℕ) (r : Record) → remnantSize ≤ length o
-    → placed (placed (settingBytes o (r .set)) 4 (digits 4 (r .view))) 8 (digits 8 (r .plan)) ≡ placed o 0 (headBytes r)
-unfolding headBytes
-headPut o r room =
-    let four : List ℕ = r .set .n ∷ r .set .f ∷ r .set .id ∷ r .set .class ∷ [] in
-    let view : List ℕ = digits 4 (r .view) in
-    let plan : List ℕ = digits 8 (r .plan) in
-    let eight : 0 + length (four ++ view) ≡ 8 = zero-add (length (four ++ view)) ∙ simp lengthDigits in
-    ap (λ (l : List ℕ). placed (placed l 4 view) 8 plan) (placedSets o 0 four (omega arith))
-    ∙ ap (λ (l : List ℕ). placed l 8 plan) (placedMore o 0 four view (omega arith))
-    ∙ ap (λ (n : ℕ). placed (placed o 0 (four ++ view)) n plan) (sym eight)
-    ∙ placedMore o 0 (four ++ view) plan (omega arith)
-
--- The head's length.
-pub headLong : (r : Record) → length (headBytes r) ≡ remnantHead
-unfolding headBytes
-headLong r = simp (length-append, lengthDigits)
-
-module _ (o : List ℕ) (r : Record) (id : ℕ) where
-  -- No slot was put yet.
-  pub slotsNone : o ≡ placed o remnantHead (ownBytes r id 0)
-  unfolding ownBytes spelledSlots
-  slotsNone = sym (placedNone o remnantHead)
-
-  -- One slot more.
-  pub slotsMore : (t : ℕ) → remnantSize ≤ length o
-      → placed (placed o remnantHead (ownBytes r id t)) (remnantPlace t) (slotBytes (slotOf r (ownSlot id t))) ≡ placed o remnantHead (ownBytes r id (t + 1))
-  unfolding ownBytes spelledSlots
-  slotsMore t room =
-      let own : ℕ → Report = λ k. slotOf r (ownSlot id k) in
-      let so : List ℕ = spelledSlots own 0 t in
-      rw add-one
-      (ap (λ (n : ℕ). placed (placed o remnantHead so) (remnantHead + n) (slotBytes (own t))) (sym (lengthSlots own 0 t))
-      ∙ placedMore o remnantHead so (slotBytes (own t)) (omega arith)
-      ∙ ap (λ (k : ℕ). placed o remnantHead (so ++ slotBytes (own k))) (sym (zero-add t)))
-
-  -- The same of a slot that was read and put at its place.
-  pub slotsNext : (was left : List ℕ) (t : ℕ) {at own : ℕ} {slot : Report} → remnantSize ≤ length o → was ≡ placed o remnantHead (ownBytes r id t)
-      → own ≡ ownSlot id t → slot ≡ slotOf r own → at ≡ remnantPlace t → left ≡ placed was at (slotBytes slot)
-      → left ≡ placed o remnantHead (ownBytes r id (t + 1))
-  slotsNext was left t room before eo es ea put =
-      put ∙ (λ i. placed (before i) (ea i) (slotBytes ((es ∙ ap (slotOf r) eo) i))) ∙ slotsMore t room
-
--- Head and slots together are the remnant.
-pub wholePut : (o : List ℕ) (r : Record) → placed (placed o 0 (headBytes r)) remnantHead (ownBytes r (r .set .id) remnantSlots) ≡ placed o 0 (remnantOf r)
-unfolding headBytes ownBytes remnantOf
-wholePut o r =
-    let head : List ℕ = r .set .n ∷ r .set .f ∷ r .set .id ∷ r .set .class ∷ digits 4 (r .view) in
-    let plan : List ℕ = digits 8 (r .plan) in
-    let slots : List ℕ = spelledSlots (λ k. slotOf r (ownSlot (r .set .id) k)) 0 remnantSlots in
-    ap (λ (n : ℕ). placed (placed o 0 (head ++ plan)) n slots) (sym (zero-add (length (head ++ plan)) ∙ headLong r))
-    ∙ placedMore o 0 (head ++ plan) slots (omega arith)
-    ∙ ap (placed o 0) (append-assoc head plan slots)
+use Rattle.remnant.specs.inside.Parts.{writeRefusal, Fitting, Fresh}
 
 -- ---- sound records
 
@@ -134,59 +53,58 @@ refusedUnsound s bad =
     go true false = refl
     go false blank = refl
 
--- Settings that are not refused have a row.
+-- So those of a sound record pass,
+pub soundGood : (s : List ℕ) → isSound (lentIs s) ≡ true → first (settingRows (decodeRecord s .set)) ≡ 0
+soundGood s is = go (ℕ-discrete (first (settingRows (decodeRecord s .set))) 0)
+  where
+    go : Dec (first (settingRows (decodeRecord s .set)) ≡ 0) → first (settingRows (decodeRecord s .set)) ≡ 0
+    go (yes good) = good
+    go (no bad) = absurd (true≢false (sym is ∙ refusedUnsound s bad))
+
+-- and settings that pass have a row.
 pub ownRow : (set : Settings) → first (settingRows set) ≡ 0 → set .id < rows
 ownRow set good = let a = allowed set good in omega (arith, a .own, a .most)
 
--- So a sound record has one for its vault.
-pub soundRow : (s : List ℕ) → isSound (lentIs s) ≡ true → decodeRecord s .set .id < rows
-soundRow s is = go (ℕ-discrete (first (settingRows (decodeRecord s .set))) 0)
-  where
-    go : Dec (first (settingRows (decodeRecord s .set)) ≡ 0) → decodeRecord s .set .id < rows
-    go (yes good) = ownRow (decodeRecord s .set) good
-    go (no bad) = absurd (true≢false (sym is ∙ refusedUnsound s bad))
+-- What is written has the settings of the remnant.
+writtenSet : (s : List ℕ) → decodeRecord (encodeRecord (restored s)) .set ≡ settingsIn s
+unfolding decodeRecord encodeRecord sharedOf over
+writtenSet s = refl
 
--- What is written has the settings of the record.
-writtenSet : (r : Record) → decodeRecord (encodeRecord r) .set ≡ r .set
-unfolding decodeRecord encodeRecord sharedOf
-writtenSet r = refl
+-- Settings that are refused make no sound record,
+pub backRefused : (s : List ℕ) → (first (settingRows (settingsIn s)) ≡ 0 → ⊥) → isSound (lentIs (encodeRecord (restored s))) ≡ false
+backRefused s bad =
+    refusedUnsound (encodeRecord (restored s)) (λ (e : first (settingRows (decodeRecord (encodeRecord (restored s)) .set)) ≡ 0).
+    bad (ap (λ (set : Settings). first (settingRows set)) (sym (writtenSet s)) ∙ e))
 
--- The same of the record that a remnant makes.
-pub restoredRefused : (s : List ℕ) → (first (settingRows (restored s .set)) ≡ 0 → ⊥) → isSound (lentIs (encodeRecord (restored s))) ≡ false
-restoredRefused s bad =
-    refusedUnsound (encodeRecord (restored s)) (subst (λ (set : Settings). first (settingRows set) ≡ 0 → ⊥) (sym (writtenSet (restored s))) bad)
+-- and those of a remnant that makes one pass.
+pub backGood : (s : List ℕ) {set : Settings} → set ≡ settingsIn s → isSound (lentIs (encodeRecord (restored s))) ≡ true → first (settingRows set) ≡ 0
+backGood s e is =
+    ap (λ (x : Settings). first (settingRows x)) (e ∙ sym (writtenSet s)) ∙ soundGood (encodeRecord (restored s)) is
 
--- Where it is sound its vault has a row.
-pub restoredRow : (s : List ℕ) → isSound (lentIs (encodeRecord (restored s))) ≡ true → restored s .set .id < rows
-restoredRow s is = subst (λ (set : Settings). set .id < rows) (writtenSet (restored s)) (soundRow (encodeRecord (restored s)) is)
+-- ---- the record made
 
--- ---- slots put back
+-- A record of the remnant's settings and starting plan in which nothing is kept.
+pub freshHeld : (s rec : List ℕ) {set : Settings} {plan : ℕ} → Fitting s set → plan ≡ planIn s → HoldsRecord rec (freshSlots set plan) → Fresh s set rec
+unfolding freshSlots
+freshHeld s rec {set} f ep held =
+    let es = ap (λ (r : Record). r .set) (held .is) in
+    record {
+      fits = record {
+        size = held .size;
+        long = f .size;
+        own = ap (λ (x : Settings). x .id) (sym es);
+        row = ownRow set (f .good);
+        set = sym (f .is) ∙ sym es;
+        plan = sym ep ∙ sym (ap (λ (r : Record). r .plan) (held .is));
+      };
+      none = ap (λ (r : Record). r .slots) (held .is);
+    }
 
--- A fresh record at the remnant's view has no slot put back.
-pub bareHeld : (s fresh made : List ℕ) {set : Settings} {view plan : ℕ} → set ≡ restored s .set → view ≡ numberAt 4 s 4 → plan ≡ numberAt 8 s 8
-    → HoldsRecord fresh (freshSlots set plan) → HoldsRecord made (withView (decodeRecord fresh) view) → HoldsRecord made (restoredTo s 0)
-unfolding restoredTo restored putBack freshSlots
-bareHeld s fresh made {set} {view} {plan} es ev ep was held =
-    let e = was .is in
-    heldAs held ((λ i. withView (e i) view) ∙ (λ i. withView (freshSlots (es i) (ep i)) (ev i)))
-
--- One slot more.
-pub slotHeld : (s was made : List ℕ) (t : ℕ) {at : ℕ} {slot : Report} → at ≡ ownSlot (restored s .set .id) t → slot ≡ slotIn s (remnantPlace t)
-    → HoldsRecord was (restoredTo s t) → HoldsRecord made (withSlot (decodeRecord was) at slot) → HoldsRecord made (restoredTo s (t + 1))
-unfolding restoredTo restored putBack slotPut
-slotHeld s was made t {at} {slot} ea es before held =
-    let e = before .is in
-    rw add-one (heldAs held ((λ i. withSlot (e i) at slot) ∙ (λ i. withSlot (restoredTo s t) (ea i) (es i))))
-
--- All are put back.
-pub allHeld : (s made : List ℕ) (t : ℕ) → t ≡ remnantSlots → Bytes made → HoldsRecord made (restoredTo s t) → made ≡ encodeRecord (restored s)
-unfolding restoredTo restored
-allHeld s made t all bytes held = sym (encodeDecode made bytes (held .size)) ∙ ap encodeRecord (held .is ∙ ap (restoredTo s) all)
-
--- What it is decides whether the remnant makes a sound record.
-pub madeSound : (s made : List ℕ) (lent : Lent) → made ≡ encodeRecord (restored s) → lentIs made ≡ lent
-    → isSound lent ≡ isSound (lentIs (encodeRecord (restored s)))
-madeSound s made lent all is = ap isSound (sym is ∙ ap lentIs all)
+-- 'that row and no others': the remnant's own part is put back to it.
+pub backHeld : (s rec made : List ℕ) {set : Settings} → Fresh s set rec → Bytes made → HoldsRecord made (over (heardIn rec) s)
+    → made ≡ encodeRecord (restored s)
+backHeld s rec made fresh bytes back =
+    sym (encodeDecode made bytes (back .size)) ∙ ap encodeRecord (back .is ∙ ap (λ (heard : ℕ → Report). over heard s) (fresh .none))
 
 -- ---- what a write leaves
 
@@ -241,11 +159,11 @@ pub entryRoom : (e : Entry) (out : List ℕ) → 256 ≤ length out → 0 + leng
 entryRoom e out room = omega (arith, room, entrySpan e .1)
 
 -- The record, and the timer entry of its current view.
-pub backMade : (s made out left : List ℕ) (count : ℕ) {set : Settings} {view millis : ℕ} → set ≡ restored s .set → view ≡ numberAt 4 s 4
+pub backMade : (s made out left : List ℕ) (count : ℕ) {set : Settings} {view millis : ℕ} → set ≡ settingsIn s → view ≡ viewIn s
     → millis ≡ 9 * delayOf (set .class) → made ≡ encodeRecord (restored s)
     → (count ≡ 0 + length (entryBytes (Timer view millis))) × (left ≡ placed out 0 (entryBytes (Timer view millis)))
     → wrote count made left ≡ madeBack (restored s) out
-unfolding restored
+unfolding over
 backMade s made out left count {set} {view} {millis} es ev em all put =
     let timer : Timer view millis ≡ timerBack (restored s) = (λ i. Timer (ev i) ((em ∙ ap (λ (x : Settings). 9 * delayOf (x .class)) es) i)) in
     let one : entryBytes (Timer view millis) ≡ layout (timerBack (restored s) ∷ []) = ap entryBytes timer ∙ sym (append-nil _) in

@@ -8,7 +8,7 @@ use lib.Dec.{eqb}
 use lib.ListN.{length, take, drop}
 use Rattle.frame.specs.declared.Report.{Report}
 use Rattle.record.specs.Slots.{Record, frameSlot, previousSlot, decisionSlot, emptySlot}
-use Rattle.contents.specs.Remnant.{remnantOf, ownSlot, restored}
+use Rattle.own.specs.Part.{remnantOf, ownSlot, restored}
 
 -- A kept vote, and another of an earlier view.
 abbrev pub vote : Report

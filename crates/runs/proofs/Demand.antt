@@ -46,11 +46,12 @@ use Rattle.contents.specs.Calls.{leftAfter}
 use Rattle.contents.specs.Contents.{slotted}
 use Rattle.contents.specs.Left.{Left, wrote}
 use Rattle.contents.specs.Spelling.{Spells}
-use Rattle.contents.specs.Remnant.{remnantOf, restartLeft}
+use Rattle.own.specs.Part.{remnantOf}
+use Rattle.contents.specs.Remnant.{restartLeft}
 use Rattle.contents.proofs.Lent.{blankIsLent}
 use Rattle.contents.proofs.Stays.{From, callSet}
 use Rattle.contents.proofs.Spelling.{Fine, callFine, fineSpells}
-use Rattle.contents.proofs.Own.{remnantLength}
+use Rattle.own.proofs.Stored.{remnantLength}
 use Rattle.contents.proofs.Remnant.{aloneFine, fineWritten, fineRestarts}
 use Rattle.runs.specs.Runs.{ByteCall, start, frame, timer, InWidth, HostCall, call, write, restart, Rules, Event, made, cutIn, cut, returned, Item}
 use Rattle.runs.specs.Runs.{recordIn, entriesIn, isAccepted, recordAfter, entriesAfter, storedAfter, written, storedAt, Sent, IsBlank, Setting}

@@ -39,9 +39,10 @@ use Rattle.contents.specs.Contents.{contents}
 use Rattle.contents.specs.Calls.{leftAfter, onLent, called, startLeft, frameLeft, timerLeft}
 use Rattle.contents.specs.Left.{gave}
 use Rattle.contents.specs.Spelling.{Spells}
-use Rattle.contents.specs.Remnant.{remnantOf, restored, timerBack}
+use Rattle.own.specs.Part.{remnantOf, over, restored}
+use Rattle.contents.specs.Remnant.{timerBack}
 use Rattle.contents.proofs.Spelling.{Fine, spelledFine}
-use Rattle.contents.proofs.Own.{remnantLength}
+use Rattle.own.proofs.Stored.{remnantLength}
 use Rattle.contents.proofs.Remnant.{writtenAny, restartedAny}
 use Rattle.runs.specs.Runs.{ByteCall, start, frame, timer, InWidth, recordIn, entriesIn}
 use Rattle.runs.specs.Fixed.{leaves}
@@ -159,7 +160,7 @@ callReadsBack rec out a bytes low =
 
 -- A restart that is not refused leaves the sound record that it made, and its timer entry.
 pub restartLeavesWell : RestartLeavesWell
-unfolding restored
+unfolding over
 restartLeavesWell rec remnant out bytes = ⊎-elim
     (λ (k, is). subst (LeavesWell rec out) (sym is) (refl, refl))
     (λ (room, sound, is). subst (LeavesWell rec out) (sym is) (keptBy out es (encodeRecord (restored remnant)) room few valid (readBack out es valid) sound))

@@ -42,12 +42,13 @@ use Rattle.contents.specs.Contents.{slotted}
 use Rattle.contents.specs.Calls.{leftAfter, called, timerLeft}
 use Rattle.contents.specs.Left.{Left, gave}
 use Rattle.contents.specs.Spelling.{Spells}
-use Rattle.contents.specs.Size.{remnantSize}
-use Rattle.contents.specs.Remnant.{remnantOf, restartLeft}
+use Rattle.own.specs.Size.{remnantSize}
+use Rattle.own.specs.Part.{remnantOf}
+use Rattle.contents.specs.Remnant.{restartLeft}
 use Rattle.contents.proofs.Lent.{blankIsLent}
 use Rattle.contents.proofs.Sound.{decodedBack}
 use Rattle.contents.proofs.Spelling.{Fine, fineSpells, losesNothing}
-use Rattle.contents.proofs.Own.{remnantLength}
+use Rattle.own.proofs.Stored.{remnantLength}
 use Rattle.contents.proofs.Remnant.{aloneFine, soundWritten, fineRestartsRoom}
 use Rattle.runs.specs.Runs.{ByteCall, start, frame, timer, InWidth, Event, made, cut, returned, Item, recordIn, entriesIn, isAccepted}
 use Rattle.runs.specs.Runs.{recordAfter, entriesAfter, storedAfter, Setting, Stores, recordAt, storedAt, written, Fair, Ruled, Run, nothingYet, andThen}

@@ -13,7 +13,7 @@ use Rattle.sound.specs.declared.Lent.the-variants.{Sound}
 use Rattle.sound.specs.inside.Sound.{lentIs}
 use Rattle.protocol.specs.ReadsBack.{ReadBy}
 use Rattle.contents.specs.Left.{Left, wrote, gave}
-use Rattle.contents.specs.Size.{remnantSize}
+use Rattle.own.specs.Size.{remnantSize}
 use Rattle.contents.specs.Remnant.{remnantLeft, restartLeft}
 use Rattle.runs.specs.Runs.{ByteCall, InWidth}
 use Rattle.runs.specs.Fixed.{leaves}

@@ -20,7 +20,7 @@ use Rattle.settings.specs.Vaults.{vaultsOf}
 use Rattle.record.specs.Size.{recordSize}
 use Rattle.protocol.specs.Tables.{put, _∈_}
 use Rattle.contents.specs.Left.{Left, wrote, gave}
-use Rattle.contents.specs.Size.{remnantSize}
+use Rattle.own.specs.Size.{remnantSize}
 
 -- A start brings settings and a plan; a frame call a link's sender and bytes; a timer a view.
 pub data ByteCall : Type 0 where

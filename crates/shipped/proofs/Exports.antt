@@ -22,9 +22,10 @@ use Rattle.vault_c.specs.Numbers.{Seen, seen, numbered}
 use Rattle.vault_c.proofs.Refusals.{refusalLow}
 use Rattle.vault_c.proofs.Small.{Small, smallStart, smallFrame, smallTimer}
 use Rattle.contents.specs.Left.{Left, wrote, gave}
-use Rattle.contents.specs.Size.{remnantSize}
+use Rattle.own.specs.Size.{remnantSize}
 use Rattle.contents.specs.Which.{isBlank, isSound}
-use Rattle.contents.specs.Remnant.{remnantOf, restored, unlessGiven, remnantLeft, madeBack, restartLeft}
+use Rattle.own.specs.Part.{remnantOf, restored}
+use Rattle.contents.specs.Remnant.{unlessGiven, remnantLeft, madeBack, restartLeft}
 use Rattle.runs.specs.Runs.{ByteCall, start, frame, timer, HostCall, call, write, restart, recordIn}
 use Rattle.runs.specs.Fixed.{leaves}
 use Rattle.runs.specs.Five.{leavesAll, Fixed}

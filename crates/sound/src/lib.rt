@@ -37,7 +37,7 @@ const GROUP: usize = record::SLOT * record::ROWS;
 
 // ---- one slot
 
-fn empty(slot: Report) -> bool
+pub fn empty(slot: Report) -> bool
     ensures { λ b. ⌜ b ≡ absent slot ⌝ }
 {
     if slot.mark != 0 {
@@ -49,7 +49,7 @@ fn empty(slot: Report) -> bool
     slot.plan == 0
 }
 
-fn well_formed(slot: Report) -> bool
+pub fn well_formed(slot: Report) -> bool
     ensures { λ b. ⌜ b ≡ not (badForm slot) ⌝ }
 {
     !frame::bad_form(slot)
@@ -63,7 +63,7 @@ fn follows(highest: Report, previous: Report) -> bool
 }
 
 // A previous vote against its highest.
-fn previous_stands(highest: Report, previous: Report) -> bool
+pub fn previous_stands(highest: Report, previous: Report) -> bool
     ensures { λ b. ⌜ b ≡ stands highest previous ⌝ }
 {
     if !well_formed(previous) {

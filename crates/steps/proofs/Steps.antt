@@ -2,10 +2,10 @@
 -- A frame goes into the own row by the laws of crate contents; the entries are the same frames. A step that does only what it may
 -- leaves a sound record (`actWhole` of crate protocol), so the next step finds one.
 -- Assumes nothing.
-use Prim.Native.Nat.{ℕ, zero, suc, _+_, _*_, _^_, _≤_, _<_}
+use Prim.Native.Nat.{ℕ, zero, suc, _+_, _-_, _*_, _^_, _≤_, _<_}
 use mathlib.Core.Path.{_≡_, refl, sym, _∙_, ap, subst}
 use mathlib.Core.Logic.{_≢_, ⊎-elim}
-use mathlib.Core.Bool.{Bool, true, false, not}
+use mathlib.Core.Bool.{Bool, true, false, not, cond}
 use mathlib.Core.List.{List, [], _∷_}
 use mathlib.Core.Option.{Option, none, some}
 use native.Mathlib.Omega.{arith}
@@ -27,12 +27,14 @@ use Rattle.frame.proofs.Laws.{inside}
 use Rattle.entry.specs.declared.Entry.{Entry}
 use Rattle.entry.specs.declared.Entry.the-variants.{ForAll, ForOne, Timer, Decision}
 use Rattle.record.specs.Slots as slots
-use Rattle.record.specs.Slots.{rows, slotOf, decisionSlot}
+use Rattle.wire.specs.Digits.{numberAt}
+use Rattle.record.specs.Slots.{rows, slotOf, decisionSlot, frameSlot, reportSlot, previousSlot}
 use Rattle.record.specs.inside.Slots.{withView, withSlot}
-use Rattle.record.specs.Layout.{decodeRecord}
+use Rattle.record.specs.Layout.{slotIn, decodeRecord}
 use Rattle.record.specs.inside.Layout.{HoldsRecord}
-use Rattle.record.specs.inside.Kept.{told, keepFrame}
-use Rattle.record.specs.inside.Keeping.{ownBroadcast}
+use Rattle.record.specs.inside.Kept.{told, keepFrame, withReports}
+use Rattle.record.specs.inside.Keeping.{moves, shiftedSlots, ownBroadcast}
+use Rattle.record.proofs.Kept.{shiftedMoves, shiftedStays, movesKind}
 use Rattle.rules.specs.Rules.{Vote}
 use Rattle.frame.specs.Refusal.{badPrevious}
 use Rattle.protocol.specs.Sound.{InRow}
@@ -51,26 +53,26 @@ use Rattle.contents.specs.Lent.{Clean}
 use Rattle.contents.specs.inside.Ready.{Ready}
 use Rattle.contents.proofs.Parts.{decided, cleanDecide}
 use Rattle.contents.proofs.Acts.{contentsCast, cleanCast, contentsAsk, cleanAsk, tellsAt, enteredBy, contentsEnter, cleanEnter, contentsDecided}
-use Rattle.contents.proofs.Ready.{contentsHeld, readyAllowed, readyRow}
+use Rattle.contents.proofs.Ready.{readyAs, readyAllowed, readyRow}
 use Rattle.acts.specs.declared.Act as acts
 use Rattle.acts.specs.declared.Act.the-variants.{Ask, Enter, Cast, Decide}
 use Rattle.acts.specs.inside.Acts.{asAct, actAt}
 use Rattle.steps.specs.declared.Entries.{Entries}
 use Rattle.steps.specs.declared.Entries.the-variants.{Zero, Sent, Decided, Led, Followed}
-use Rattle.steps.specs.declared.Record as by
-use Rattle.steps.specs.inside.Steps.{listOf, OfView, OfPlan, ownReports, OwnReports, Did, Took}
-use Rattle.steps.specs.inside.Order.{stepAt}
+use Rattle.own.specs.Size.{remnantSize}
+use Rattle.own.specs.Part.{remnantSlots, ownSlot, over}
+use Rattle.own.specs.inside.Own.{heardIn, ownIn, settingsIn, viewIn, reportsIn, OwnOf, Changes}
+use Rattle.own.proofs.Slots.{ownHead, ownLast, ownReport}
+use Rattle.own.proofs.Changes.{slotOver}
+use Rattle.steps.specs.inside.Steps.{listOf, changes, votes, ownReports, OwnReports}
+use Rattle.steps.specs.inside.Own.{Did, Does, Takes}
+use Rattle.steps.specs.inside.Order.{stepAt, ActOf}
 
 -- ---- what an act does
 
--- Bytes that hold the record that an act leaves.
-didHeld : {o : Out} {rec : List ℕ} {r : slots.Record} {e : Entries} → HoldsRecord rec r → contents r ≡ o .left → Clean r → listOf e ≡ o .wrote → Did o rec e
-didHeld held left clean wrote = record {
-  size = held .size;
-  left = contentsHeld held ∙ left;
-  clean = subst Clean (sym (held .is)) clean;
-  wrote = wrote;
-}
+-- A record that is the one that an act leaves.
+didHeld : {o : Out} {t r : slots.Record} {e : Entries} → t ≡ r → contents r ≡ o .left → Clean r → listOf e ≡ o .wrote → Did o t e
+didHeld held left clean wrote = record { left = ap contents held ∙ left; clean = subst Clean (sym held) clean; wrote = wrote }
 
 -- A vote's frame has a plan as its body, as the frame that is kept must.
 pub fitsVote : (k p : ℕ) → k ≤ 4 → fits (k + 1) (Plan p) ≡ true
@@ -101,41 +103,33 @@ module _ (rec : List ℕ) (h : Ready rec) where
   pub someSet : {set : Settings} → set ≡ r .set → 0 < set .n
   someSet own = subst (λ (s : Settings). 0 < s .n) (sym own) (omega (arith, readyAllowed h .own))
 
-  -- The frames of the code, whose sender is the own number.
-  abbrev pub changes : ℕ → ℕ → Frame
-  changes id w = record { kind = 6; sender = id; view = w; body = Empty }
-
-  -- A vote's or a proposal's.
-  abbrev pub votes : ℕ → ℕ → ℕ → ℕ → Frame
-  votes kind id view p = record { kind = kind; sender = id; view = view; body = Plan p }
-
   -- To ask for a view: the view-change in the own row, and sent to all.
-  pub didAsk : {id w : ℕ} {left : List ℕ} → id ≡ r .set .id → HoldsRecord left (keepFrame r id (changes id w))
+  pub didAsk : {id w : ℕ} {left : slots.Record} → id ≡ r .set .id → left ≡ (keepFrame r id (changes id w))
       → Did (taken c (some (ask w))) left (Sent (changes id w))
   unfolding contents writes
   didAsk {id} {w} {left} own held =
-      didHeld (subst (HoldsRecord left) (λ i. keepFrame r (own i) (changes (own i) w)) held)
+      didHeld (subst (_≡_ left) (λ i. keepFrame r (own i) (changes (own i) w)) held)
       (contentsAsk r w row) (cleanAsk r w row (h .clean)) (λ i. ForAll (changes (own i) w) ∷ [])
 
   -- To vote or propose: the frame in the own row, and sent to all.
-  pub didCast : {k p kind id view : ℕ} {left : List ℕ} → k ≤ 4 → kind ≡ suc k → id ≡ r .set .id → view ≡ r .view
-      → HoldsRecord left (ownBroadcast r (votes kind id view p)) → Did (taken c (some (cast k p))) left (Sent (votes kind id view p))
+  pub didCast : {k p kind id view : ℕ} {left : slots.Record} → k ≤ 4 → kind ≡ suc k → id ≡ r .set .id → view ≡ r .view
+      → left ≡ (ownBroadcast r (votes kind id view p)) → Did (taken c (some (cast k p))) left (Sent (votes kind id view p))
   unfolding contents writes
   didCast {k} {p} {left = left} low is own now held =
-      didHeld (subst (HoldsRecord left) (λ i. ownBroadcast r (votes (is i) (own i) (now i) p)) held)
+      didHeld (subst (_≡_ left) (λ i. ownBroadcast r (votes (is i) (own i) (now i) p)) held)
       (contentsCast r k p low row) (cleanCast r k p low row (h .clean)) (λ i. ForAll (votes (is i) (own i) (now i) p) ∷ [])
 
   -- To decide: the decision in its slot, and told to the host.
-  pub didDecide : {p view : ℕ} {slot : Report} {left : List ℕ} → view ≡ r .view → slot ≡ presentAt view p → HoldsRecord left (withSlot r decisionSlot slot)
+  pub didDecide : {p view : ℕ} {slot : Report} {left : slots.Record} → view ≡ r .view → slot ≡ presentAt view p → left ≡ (withSlot r decisionSlot slot)
       → Did (taken c (some (decide p))) left (Decided view p)
   unfolding contents writes
   didDecide {p} {left = left} now is held =
-      didHeld (subst (HoldsRecord left) (λ i. decided r (now i) p) (subst (λ (x : Report). HoldsRecord left (withSlot r decisionSlot x)) is held))
+      didHeld (subst (_≡_ left) (λ i. decided r (now i) p) (subst (λ (x : Report). left ≡ (withSlot r decisionSlot x)) is held))
       (contentsDecided r p) (cleanDecide r (r .view) p (h .clean)) (λ i. Decision (now i) p ∷ [])
 
   -- Nothing to do: the record as it is, and no entries.
-  pub didNothing : Did (taken c none) rec Zero
-  didNothing = record { size = h .size; left = refl; clean = h .clean; wrote = refl }
+  pub didNothing : Did (taken c none) r Zero
+  didNothing = record { left = refl; clean = h .clean; wrote = refl }
 
   -- To enter a view: the frames that are told, the timer and the leader as the code has them.
   module _ (set : Settings) (own : set ≡ r .set) (w : ℕ) (proofs suggests : Reports) (tellsOwn : OwnReports r (set .id) proofs suggests) where
@@ -161,14 +155,14 @@ module _ (rec : List ℕ) (h : Ready rec) where
     suggestTold : suggest ≡ reportFrame c rule1 w
     suggestTold = tells rule1 (tellsOwn .suggests)
 
-    module _ (millis to : ℕ) (em : millis ≡ 9 * delayOf (set .class)) (et : to ≡ leaderOf w (set .n)) {proved : List ℕ}
-        (hp : HoldsRecord proved (keepFrame (withView r w) (set .id) proof)) where
+    module _ (millis to : ℕ) (em : millis ≡ 9 * delayOf (set .class)) (et : to ≡ leaderOf w (set .n)) {proved : slots.Record}
+        (hp : proved ≡ (keepFrame (withView r w) (set .id) proof)) where
       abbrev heads : List Entry → List Entry
       heads l = Timer w (9 * delayOf (r .set .class)) ∷ ForAll (reportFrame c rule3 w) ∷ l
 
       -- The view and the proof are kept, as 01's frame has it.
-      there : HoldsRecord proved (enteredBy r w false)
-      there = subst (HoldsRecord proved) (λ i. keepFrame (withView r w) (own i .id) (proofTold i)) hp
+      there : proved ≡ (enteredBy r w false)
+      there = subst (_≡_ proved) (λ i. keepFrame (withView r w) (own i .id) (proofTold i)) hp
 
       -- The timer and the leader that the settings' equation gives.
       timed : millis ≡ 9 * delayOf (r .set .class)
@@ -178,7 +172,7 @@ module _ (rec : List ℕ) (h : Ready rec) where
       led = et ∙ ap (λ (s : Settings). leaderOf w (s .n)) own
 
       -- Whether or not the vault leads: a record that holds what 01's act leaves, with its entries.
-      entered : (b : Bool) → leads c w ≡ b → {left : List ℕ} → HoldsRecord left (enteredBy r w b) → (l : Entries)
+      entered : (b : Bool) → leads c w ≡ b → {left : slots.Record} → left ≡ (enteredBy r w b) → (l : Entries)
           → listOf l ≡ heads (suggestEntry c w b) → Did (taken c (some (enter w))) left l
       unfolding contents writes
       entered b lead held l same =
@@ -186,12 +180,12 @@ module _ (rec : List ℕ) (h : Ready rec) where
           (cleanEnter r w (h .clean) row b) (same ∙ ap (λ (x : Bool). heads (suggestEntry c w x)) (sym lead))
 
       -- It leads, and keeps its suggest.
-      pub didLead : to ≡ set .id → {left : List ℕ} → HoldsRecord left (keepFrame (decodeRecord proved) (set .id) suggest)
+      pub didLead : to ≡ set .id → {left : slots.Record} → left ≡ (keepFrame proved (set .id) suggest)
           → Did (taken c (some (enter w))) left (Led w millis proof)
       unfolding contents
       didLead mine {left} held =
           entered true (eq-eqb (leaderOf w (r .set .n)) (r .set .id) (sym led ∙ mine ∙ ap (λ (s : Settings). s .id) own))
-          (subst (HoldsRecord left) (λ i. keepFrame (there .is i) (own i .id) (suggestTold i)) held)
+          (subst (_≡_ left) (λ i. keepFrame (there i) (own i .id) (suggestTold i)) held)
           (Led w millis proof) (λ i. Timer w (timed i) ∷ ForAll (proofTold i) ∷ [])
 
       -- Another leads, and is sent the suggest.
@@ -202,37 +196,204 @@ module _ (rec : List ℕ) (h : Ready rec) where
           (Followed w millis proof to suggest)
           (λ i. Timer w (timed i) ∷ ForAll (proofTold i) ∷ ForOne (led i) (suggestTold i) ∷ [])
 
--- The view kept, and then the proof: what the two writes leave is told of the record before them.
-pub keptEntered : (rec : List ℕ) (w : ℕ) (f : Frame) {viewed left : List ℕ} → HoldsRecord viewed (withView (decodeRecord rec) w)
-    → HoldsRecord left (keepFrame (decodeRecord viewed) (f .sender) f) → HoldsRecord left (keepFrame (withView (decodeRecord rec) w) (f .sender) f)
-keptEntered rec w f {left = left} hv = subst (λ (x : slots.Record). HoldsRecord left (keepFrame x (f .sender) f)) (hv .is)
+-- ---- on an own part
 
--- The act, as the code's match has it.
-pub didAct : (c : Record) (act was : acts.Act) → act ≡ was → {left : List ℕ} {e : Entries} → Did (taken c (asAct was)) left e
-    → Did (taken c (asAct act)) left e
-didAct c act was is {left} {e} = subst (λ (a : acts.Act). Did (taken c (asAct a)) left e) (sym is)
+-- One change after the other.
+pub andThen : {f g : slots.Record → slots.Record} {s m t : List ℕ} → Changes f s m → Changes g m t → ((x : slots.Record) → f x .set .id ≡ x .set .id)
+    → Changes (λ x. g (f x)) s t
+unfolding over
+andThen {f} {g} {s} {m} {t} one two same = record {
+  size = two .size;
+  is = λ row heard. two .is (subst (λ (i : ℕ). i < rows) (sym (ap (λ (x : slots.Record). x .set .id) (one .is row heard) ∙ same (over heard s))) row) heard
+      ∙ ap (λ (x : slots.Record). g x) (one .is row heard);
+}
 
--- The number of a vote that C to H cast is one that `cast_in` takes.
-pub votesBy : (act : acts.Act) (k p : ℕ) → act ≡ Cast k p → OfPlan (asAct act) → k ≤ 4
-votesBy act k p is = subst (λ (a : acts.Act). OfPlan (asAct a)) is
+-- The same change, told otherwise.
+pub toldAs : {f g : slots.Record → slots.Record} {s t : List ℕ} → Changes f s t → ((x : slots.Record) → f x ≡ g x) → Changes g s t
+toldAs {s = s} one same = record { size = one .size; is = λ row heard. one .is row heard ∙ same (over heard s) }
 
--- A and B have nothing to do with plans, and the others nothing with view-changes.
-module _ (act : acts.Act) where
-  -- A and B send no vote.
-  pub noCast : {k p : ℕ} → act ≡ Cast k p → OfView (asAct act) → ⊥
-  noCast is = subst (λ (a : acts.Act). OfView (asAct a)) is
+-- A slot put, by the number that the code has.
+pub putAs : (slot : Report) {at t : ℕ} {s m : List ℕ} → at ≡ t → Changes (λ x. withSlot x (ownSlot (x .set .id) at) slot) s m
+    → Changes (λ x. withSlot x (ownSlot (x .set .id) t) slot) s m
+putAs slot {s = s} {m} = subst (λ (u : ℕ). Changes (λ x. withSlot x (ownSlot (x .set .id) u) slot) s m)
 
-  -- A and B decide nothing.
-  pub noDecide : {p : ℕ} → act ≡ Decide p → OfView (asAct act) → ⊥
-  noDecide is = subst (λ (a : acts.Act). OfView (asAct a)) is
+module _ {s : List ℕ} (rec : List ℕ) (h : Ready rec) (own : OwnOf rec s) where
+  -- What the part says is the record's.
+  setIs : settingsIn s ≡ decodeRecord rec .set
+  unfolding over
+  setIs = ap (λ (x : slots.Record). x .set) (own .is)
 
-  -- C to H ask for no view.
-  pub noAsk : {w : ℕ} → act ≡ Ask w → OfPlan (asAct act) → ⊥
-  noAsk is = subst (λ (a : acts.Act). OfPlan (asAct a)) is
+  idIs : getD s 2 0 ≡ decodeRecord rec .set .id
+  idIs = ap (λ (x : Settings). x .id) setIs
 
-  -- C to H enter no view.
-  pub noEnter : {w : ℕ} → act ≡ Enter w → OfPlan (asAct act) → ⊥
-  noEnter is = subst (λ (a : acts.Act). OfPlan (asAct a)) is
+  viewIs : viewIn s ≡ decodeRecord rec .view
+  unfolding over
+  viewIs = ap (λ (x : slots.Record). x .view) (own .is)
+
+  -- A change of the part is one of the record.
+  changed : {f : slots.Record → slots.Record} {t : List ℕ} → Changes f s t → over (heardIn rec) t ≡ f (decodeRecord rec)
+  changed {f} ch = ch .is (rowOf rec h idIs) (heardIn rec) ∙ ap (λ (x : slots.Record). f x) (own .is)
+
+  -- What an own slot holds.
+  slotIs : length s ≡ remnantSize → (t : ℕ) → t < remnantSlots → ownIn s t ≡ slotOf (decodeRecord rec) (ownSlot (decodeRecord rec .set .id) t)
+  slotIs size t low = sym (slotOver s size (rowOf rec h idIs) (heardIn rec) t low) ∙ (λ i. slotOf (own .is i) (ownSlot (idIs i) t))
+
+  -- So the reports that are read are the own ones.
+  reportsAre : length s ≡ remnantSize → (claim lock : ℕ) → 2 ≤ claim → claim ≤ 3 → 1 ≤ lock → lock ≤ 8
+      → reportsIn s claim lock ≡ ownReports (slotOf (decodeRecord rec)) (decodeRecord rec .set .id) claim lock
+  reportsAre size claim lock two three one eight =
+      let at = slotOf (decodeRecord rec) in
+      let id = decodeRecord rec .set .id in
+      let a : ownSlot id (claim - 1) ≡ frameSlot claim id = ownHead id (claim - 1) (omega arith) ∙ omega arith in
+      let b : ownSlot id (claim + 12) ≡ previousSlot claim = ownLast id (claim + 12) (omega arith) ∙ omega arith in
+      let c : ownSlot id (lock - 1) ≡ frameSlot lock id = ownHead id (lock - 1) (omega arith) ∙ omega arith in
+      let x = slotIs size (claim - 1) (omega arith) ∙ ap at a in
+      let y = slotIs size (claim + 12) (omega arith) ∙ ap at b in
+      let z = slotIs size (lock - 1) (omega arith) ∙ ap at c in
+      λ i. record { highest = x i; previous = y i; lock = z i }
+
+-- No shift changes the settings.
+shiftedSet : (x : slots.Record) (kind p : ℕ) → shiftedSlots x kind p .set ≡ x .set
+unfolding shiftedSlots
+shiftedSet x kind p = go (moves (slotOf x (frameSlot kind (x .set .id))) kind p)
+  where
+    go : (b : Bool) → (cond b (withSlot x (previousSlot kind) (slotOf x (frameSlot kind (x .set .id)))) x) .set ≡ x .set
+    go true = refl
+    go false = refl
+
+-- The own kept vote, where it stays and where it moves to the previous one.
+module _ (s : List ℕ) (size : length s ≡ remnantSize) (kind p : ℕ) (low : 1 ≤ kind) (high : kind ≤ 5) {slot : Report}
+    (es : slot ≡ ownIn s (kind - 1)) where
+  -- What is read is the own frame of the kind.
+  voteRead : getD s 2 0 < rows → (heard : ℕ → Report) → slot ≡ slotOf (over heard s) (frameSlot kind (over heard s .set .id))
+  unfolding over
+  voteRead row heard =
+      let place : ownSlot (getD s 2 0) (kind - 1) ≡ frameSlot kind (getD s 2 0) = ownHead (getD s 2 0) (kind - 1) (omega arith) ∙ omega arith in
+      es ∙ sym (slotOver s size row heard (kind - 1) (omega arith)) ∙ ap (slotOf (over heard s)) place
+
+  pub shiftStays : moves slot kind p ≡ false → Changes (λ x. shiftedSlots x kind p) s s
+  shiftStays stays = record {
+    size = size;
+    is = λ row heard. sym (shiftedStays (over heard s) kind p (ap (λ (y : Report). moves y kind p) (sym (voteRead row heard)) ∙ stays));
+  }
+
+  pub shiftMoves : moves slot kind p ≡ true → {t : List ℕ} → Changes (λ x. withSlot x (ownSlot (x .set .id) (kind + 12)) slot) s t
+      → Changes (λ x. shiftedSlots x kind p) s t
+  shiftMoves goes {t} ch = record {
+    size = ch .size;
+    is = λ row heard.
+        let x = over heard s in
+        let (two, three) = movesKind slot kind p goes in
+        let place : ownSlot (x .set .id) (kind + 12) ≡ previousSlot kind = ownLast (x .set .id) (kind + 12) (omega arith) ∙ omega arith in
+        let own = voteRead row heard in
+        ch .is row heard ∙ (λ i. withSlot x (place i) (own i)) ∙ sym (shiftedMoves x kind p (ap (λ (y : Report). moves y kind p) (sym own) ∙ goes));
+  }
+
+-- To ask for a view.
+pub doesAsk : {s t : List ℕ} {id w : ℕ} {f : Frame} {slot : Report} → id ≡ getD s 2 0 → f ≡ changes id w → slot ≡ presentAt w 0
+    → Changes (λ x. withSlot x (ownSlot (x .set .id) 5) slot) s t → Does (some (ask w)) s t (Sent f)
+unfolding keepFrame
+doesAsk {s} {t} {id} {w} {f} {slot} ei ef es ch = record {
+  size = ch .size;
+  did = λ rec h own.
+      let r = decodeRecord rec in
+      let e : id ≡ r .set .id = ei ∙ idIs rec h own in
+      subst (λ (g : Frame). Did (taken (contentsIn rec) (some (ask w))) (over (heardIn rec) t) (Sent g)) (sym ef)
+      (didAsk rec h e
+      (changed rec h own ch ∙ (λ i. withSlot r (ownHead (r .set .id) 5 (omega arith) i) (es i)) ∙ (λ i. keepFrame r (sym e i) (changes (sym e i) w))));
+}
+
+-- To vote or propose.
+pub doesCast : {s m t : List ℕ} {k p kind id view : ℕ} {slot : Report} → k ≤ 4 → kind ≡ suc k → id ≡ getD s 2 0 → view ≡ viewIn s → slot ≡ presentAt view p
+    → Changes (λ x. shiftedSlots x kind p) s m → Changes (λ x. withSlot x (ownSlot (x .set .id) k) slot) m t
+    → Does (some (cast k p)) s t (Sent (votes kind id view p))
+unfolding keepFrame ownBroadcast
+doesCast {s} {m} {t} {k} {p} {kind} {id} {view} {slot} low is ei ev es one two =
+    let both = andThen one two (λ x. ap (λ (y : Settings). y .id) (shiftedSet x kind p)) in
+    record {
+      size = two .size;
+      did = λ rec h own.
+          let r = decodeRecord rec in
+          let place : ownSlot (shiftedSlots r kind p .set .id) k ≡ frameSlot kind (r .set .id) =
+          (λ i. ownSlot (shiftedSet r kind p i .id) k) ∙ ownHead (r .set .id) k (omega arith) ∙ (λ i. frameSlot (sym is i) (r .set .id)) in
+          didCast rec h low is (ei ∙ idIs rec h own) (ev ∙ viewIs rec h own)
+          (changed rec h own both ∙ (λ i. withSlot (shiftedSlots r kind p) (place i) (es i)));
+    }
+
+-- To decide.
+pub doesDecide : {s t : List ℕ} {p view : ℕ} {slot : Report} → view ≡ viewIn s → slot ≡ presentAt view p
+    → Changes (λ x. withSlot x (ownSlot (x .set .id) 16) slot) s t → Does (some (decide p)) s t (Decided view p)
+doesDecide {s} {t} {p} {view} {slot} ev es ch = record {
+  size = ch .size;
+  did = λ rec h own.
+      let r = decodeRecord rec in
+      didDecide rec h (ev ∙ viewIs rec h own) es (changed rec h own ch ∙ (λ i. withSlot r (ownLast (r .set .id) 16 (omega arith) i) slot));
+}
+
+-- A suggest or a proof kept in four slots.
+pub keepsTold : {s a b c d : List ℕ} {kind w first : ℕ} (t : Reports) {head : Report} → 7 ≤ kind → kind ≤ 8 → first ≡ 8 + 3 * (kind - 7) → head ≡ presentAt w 0
+    → Changes (λ x. withSlot x (ownSlot (x .set .id) (kind - 1)) head) s a → Changes (λ x. withSlot x (ownSlot (x .set .id) first) (t .highest)) a b
+    → Changes (λ x. withSlot x (ownSlot (x .set .id) (first + 1)) (t .previous)) b c → Changes
+    (λ x. withSlot x (ownSlot (x .set .id) (first + 2)) (t .lock)) c d
+    → Changes (λ x. keepFrame x (x .set .id) (told kind (x .set .id) w t)) s d
+unfolding keepFrame withReports
+keepsTold {kind = kind} {w} {first} t {head} low high ef eh one two three four =
+    toldAs (andThen (andThen (andThen one two (λ x. refl)) three (λ x. refl)) four (λ x. refl))
+    (λ x.
+    let id = x .set .id in
+    let p : ownSlot id (kind - 1) ≡ frameSlot kind id = ownHead id (kind - 1) (omega arith) ∙ omega arith in
+    let q : ownSlot id first ≡ reportSlot kind 0 id = ap (ownSlot id) (ef ∙ omega arith) ∙ ownReport id kind 0 low high (omega arith) in
+    let u : ownSlot id (first + 1) ≡ reportSlot kind 1 id = ap (λ (n : ℕ). ownSlot id (n + 1)) ef ∙ ownReport id kind 1 low high (omega arith) in
+    let v : ownSlot id (first + 2) ≡ reportSlot kind 2 id = ap (λ (n : ℕ). ownSlot id (n + 2)) ef ∙ ownReport id kind 2 low high (omega arith) in
+    λ i. withSlot (withSlot (withSlot (withSlot x (p i) (eh i)) (q i) (t .highest)) (u i) (t .previous)) (v i) (t .lock))
+
+-- To enter a view.
+module _ {s : List ℕ} (size : length s ≡ remnantSize) {set : Settings} (es : set ≡ settingsIn s) (w : ℕ) {proof suggest : Reports}
+    (ep : proof ≡ reportsIn s 2 5) (eg : suggest ≡ reportsIn s 3 4) {millis to : ℕ} (em : millis ≡ 9 * delayOf (set .class)) (et : to ≡ leaderOf w (set .n))
+    {viewed kept : List ℕ} (one : Changes (λ x. withView x w) s viewed)
+    (two : Changes (λ x. keepFrame x (x .set .id) (told 8 (x .set .id) w proof)) viewed kept) where
+  -- The settings are the record's, and the reports the own ones.
+  module _ (rec : List ℕ) (h : Ready rec) (own : OwnOf rec s) where
+    setAs : set ≡ decodeRecord rec .set
+    setAs = es ∙ setIs rec h own
+
+    idAs : set .id ≡ decodeRecord rec .set .id
+    idAs = ap (λ (x : Settings). x .id) setAs
+
+    told2 : OwnReports (decodeRecord rec) (set .id) proof suggest
+    told2 =
+        let back = sym idAs in
+        record {
+          proofs = ep ∙ reportsAre rec h own size 2 5 (omega arith) (omega arith) (omega arith) (omega arith)
+              ∙ ap (λ (i : ℕ). ownReports (slotOf (decodeRecord rec)) i 2 5) back;
+          suggests = eg ∙ reportsAre rec h own size 3 4 (omega arith) (omega arith) (omega arith) (omega arith)
+              ∙ ap (λ (i : ℕ). ownReports (slotOf (decodeRecord rec)) i 3 4) back;
+        }
+
+    -- The view and the proof kept.
+    provedIs : over (heardIn rec) kept ≡ keepFrame (withView (decodeRecord rec) w) (set .id) (told 8 (set .id) w proof)
+    provedIs =
+        let back = sym idAs in
+        changed rec h own (andThen one two (λ x. refl)) ∙ (λ i. keepFrame (withView (decodeRecord rec) w) (back i) (told 8 (back i) w proof))
+
+  pub doesFollow : (to ≡ set .id → ⊥) → Does (some (enter w)) s kept (Followed w millis (told 8 (set .id) w proof) to (told 7 (set .id) w suggest))
+  doesFollow other = record {
+    size = two .size;
+    did = λ rec h own. didFollow rec h set (setAs rec h own) w proof suggest (told2 rec h own) millis to em et (provedIs rec h own) other;
+  }
+
+  pub doesLead : {left : List ℕ} → to ≡ set .id → Changes (λ x. keepFrame x (x .set .id) (told 7 (x .set .id) w suggest)) kept left
+      → Does (some (enter w)) s left (Led w millis (told 8 (set .id) w proof))
+  unfolding keepFrame withReports over
+  doesLead {left} mine three = record {
+    size = three .size;
+    did = λ rec h own.
+        let id : getD kept 2 0 ≡ set .id = ap (λ (x : slots.Record). x .set .id) (provedIs rec h own) ∙ sym (idAs rec h own) in
+        let held : over (heardIn rec) left ≡ keepFrame (over (heardIn rec) kept) (set .id) (told 7 (set .id) w suggest) =
+        three .is (subst (λ (i : ℕ). i < rows) (sym id) (rowSet rec h (setAs rec h own))) (heardIn rec)
+        ∙ (λ i. keepFrame (over (heardIn rec) kept) (id i) (told 7 (id i) w suggest)) in
+        didLead rec h set (setAs rec h own) w proof suggest (told2 rec h own) millis to em et (provedIs rec h own) mine held;
+  }
 
 -- ---- steps
 
@@ -255,21 +416,10 @@ stepBy (suc (suc (suc (suc (suc (suc zero)))))) c = refl
 stepBy (suc (suc (suc (suc (suc (suc (suc zero))))))) c = refl
 stepBy (suc (suc (suc (suc (suc (suc (suc (suc k)))))))) c = refl
 
--- H is what is left, where the number is none of the others.
-pub fromE : (k : ℕ) → k ≢ 0 → k ≢ 1 → k ≢ 2 → k ≢ 3 → 4 ≤ k
-fromE k a b c d = omega arith
-
--- The same from E on.
-pub isH : (k : ℕ) → k < 8 → 4 ≤ k → k ≢ 4 → k ≢ 5 → k ≢ 6 → k ≡ 7
-isH k low high e f g = omega arith
-
--- The code's match knows the number: the act of the step's number is that arm's.
-pub sameAct : {k j : ℕ} (c : Record) → k ≡ j → actAt k c ≡ actAt j c
-sameAct c e = ap (λ (i : ℕ). actAt i c) e
-
--- What an arm's step left is what the step of that number leaves.
-pub tookAs : {k j : ℕ} (c : Record) → k ≡ j → {t : by.Record} → Took (stepAt j c) t → Took (stepAt k c) t
-tookAs c e {t} = subst (λ (i : ℕ). Took (stepAt i c) t) (sym e)
+-- The code's match knows the vote: what an arm's step left is what the step of that vote leaves.
+pub takesAs : {k j p : ℕ} {s t : List ℕ} {e : Entries} → k ≡ j → Takes (actAt (j + 2)) (stepAt (j + 2)) (some (cast j p)) s t e
+    → Takes (actAt (k + 2)) (stepAt (k + 2)) (some (cast k p)) s t e
+takesAs {p = p} {s} {t} {e} is = subst (λ (i : ℕ). Takes (actAt (i + 2)) (stepAt (i + 2)) (some (cast i p)) s t e) (sym is)
 
 -- A step without an act leaves record and output as they are, so crate pass may leave it out.
 pub idleStep : (k : ℕ) (c : Record) → actAt k c ≡ none → stepAt k c ≡ taken c none
@@ -284,7 +434,7 @@ wholeStep s law c w = subst (λ (o : Out). Whole (o .left)) (sym (law .does c)) 
     go (some a) e = actWhole w a (law .may c a e)
 
 -- No act changes the settings.
-takenSet : (c : Record) (o : Option Act) → (taken c o) .left .set ≡ c .set
+pub takenSet : (c : Record) (o : Option Act) → (taken c o) .left .set ≡ c .set
 unfolding does
 takenSet c none = refl
 takenSet c (some (ask w)) = refl
@@ -292,78 +442,63 @@ takenSet c (some (enter w)) = refl
 takenSet c (some (cast k p)) = refl
 takenSet c (some (decide p)) = refl
 
+-- Nor the starting plan.
+pub takenStart : (c : Record) (o : Option Act) → (taken c o) .left .start ≡ c .start
+unfolding does
+takenStart c none = refl
+takenStart c (some (ask w)) = refl
+takenStart c (some (enter w)) = refl
+takenStart c (some (cast k p)) = refl
+takenStart c (some (decide p)) = refl
+
+pub stepStart : (k : ℕ) (c : Record) → (stepAt k c) .left .start ≡ c .start
+stepStart k c = ap (λ (o : Out). o .left .start) (stepBy k c) ∙ takenStart c (actAt k c)
+
 -- So no step does: the settings that are read once, before a pass, hold for all of it.
 pub stepSet : (k : ℕ) (c : Record) → (stepAt k c) .left .set ≡ c .set
 stepSet k c = ap (λ (o : Out). o .left .set) (stepBy k c) ∙ takenSet c (actAt k c)
 
--- Bytes whose contents are sound and have their widths.
-readyDid : {o : Out} {rec : List ℕ} {e : Entries} → Did o rec e → Whole (o .left) → Ready rec
-readyDid did whole =
-    let there : Whole (contentsIn _) = subst Whole (sym (did .left)) whole in
-    record { size = did .size; clean = did .clean; sound = there .sound; ranged = there .ranged }
+-- What a step's act does is what the step does.
+pub takes : (k : ℕ) {a : Option Act} {s t : List ℕ} {e : Entries} → Does a s t e → Takes (actAt k) (stepAt k) a s t e
+takes k {a} {s} {t} {e} d = record {
+  size = d .size;
+  took = λ rec h own is.
+      subst (λ (o : Out). Did o (over (heardIn rec) t) e) (ap (taken (contentsIn rec)) is ∙ sym (stepBy k (contentsIn rec))) (d .did rec h own);
+}
 
-module _ (k : ℕ) (low : k < 8) (rec : List ℕ) (h : Ready rec) (a : acts.Act) (e : asAct a ≡ actAt k (contentsIn rec)) where
-  -- The act that the code was given is the step's.
-  same : taken (contentsIn rec) (asAct a) ≡ stepAt k (contentsIn rec)
-  same = ap (taken (contentsIn rec)) e ∙ sym (stepBy k (contentsIn rec))
+-- Bytes of a record that hold what an act leaves, where its contents are sound and have their widths.
+pub readyDid : {o : Out} {r : slots.Record} {rec : List ℕ} {e : Entries} → Did o r e → HoldsRecord rec r → Whole (o .left) → Ready rec
+readyDid did held whole = readyAs held (did .left) (did .clean) (whole .sound) (whole .ranged)
 
-  -- What a step's act does is what the step does, and leaves a record for the next.
-  pub took : (t : by.Record) → Did (taken (contentsIn rec) (asAct a)) (t .bytes) (t .wrote .entries) → Took (stepAt k (contentsIn rec)) t
-  took t did =
-      let d : Did (stepAt k (contentsIn rec)) (t .bytes) (t .wrote .entries) = subst (λ (o : Out). Did o (t .bytes) (t .wrote .entries)) same did in
-      record {
-        left = d .left;
-        ready = readyDid d (wholeStep (stepAt k) (lawAt sureA k low) (contentsIn rec) (record { sound = h .sound; ranged = h .ranged }));
-        wrote = d .wrote;
-      }
+-- So what a step leaves is a record for the next.
+pub readyStep : (k : ℕ) → k < 8 → {was rec : List ℕ} → Ready was → {r : slots.Record} {e : Entries} → Did (stepAt k (contentsIn was)) r e
+    → HoldsRecord rec r → Ready rec
+readyStep k low {was} h did held =
+    readyDid did held (wholeStep (stepAt k) (lawAt sureA k low) (contentsIn was) (record { sound = h .sound; ranged = h .ranged }))
 
--- ---- what a step may be to do
+-- ---- which act a step does
 
 module _ (c : Record) {a : Act} where
-  -- An act that is known, among those that a step may be to do.
-  abbrev isOne : (may : Option Act → Type 0) {x : Act} → x ≡ a → may (some x) → may (some a)
-  isOne may e = subst (λ (b : Act). may (some b)) e
+  -- An act that is known.
+  isOne : (k : ℕ) {x : Act} → x ≡ a → ActOf k x → ActOf k a
+  isOne k e = subst (ActOf k) e
 
-  -- E, F and G cast a vote from 2 to 4.
-  planVote : (k : ℕ) → k ≤ 3 → actVote c k ≡ some a → OfPlan (some a)
-  planVote k high e = isOne OfPlan (actIs (agreed c k) (λ p. not (sentNow c (suc k))) (cast (suc k)) e .1) (omega arith)
+  -- E, F and G send vote-2 to vote-4.
+  voteOf : (j : ℕ) → j ≤ 3 → actVote c j ≡ some a → ActOf (j + 3) a
+  voteOf j high e = isOne (j + 3) (actIs (agreed c j) (λ p. not (sentNow c (suc j))) (cast (suc j)) e .1) (omega arith, omega arith)
 
-  -- A asks for a view, B enters one.
-  viewAt : (k : ℕ) → k < 2 → actAt k c ≡ some a → OfView (some a)
+  -- The act of a step is one of its kind.
+  pub actOf : (k : ℕ) → actAt k c ≡ some a → ActOf k a
   unfolding actAt
-  viewAt zero low e = isOne OfView (actIs (highest (asked c isBlocking) (changeOf c) (c .set .n)) (isNews c) ask e .1) tt
-  viewAt (suc zero) low e = isOne OfView (actIs (highest (canEnter c) (changeOf c) (c .set .n)) (λ w. true) enter e .1) tt
-  viewAt (suc (suc k)) low e = absurd (omega arith)
-
-  -- C to G cast a vote or a proposal, H decides.
-  planAt : (k : ℕ) → 2 ≤ k → actAt k c ≡ some a → OfPlan (some a)
-  unfolding actAt
-  planAt zero high e = absurd (omega arith)
-  planAt (suc zero) high e = absurd (omega arith)
-  planAt (suc (suc zero)) high e = isOne OfPlan (actIs (chosen c) (λ p. true) (cast 0) (whenSome (mayPropose c) _ e .1) .1) (omega arith)
-  planAt (suc (suc (suc zero))) high e = isOne OfPlan (actIs (planNow c 0 (leader c (c .view))) (approves c) (cast 1) e .1) (omega arith)
-  planAt (suc (suc (suc (suc zero)))) high e = planVote 1 (omega arith) e
-  planAt (suc (suc (suc (suc (suc zero))))) high e = planVote 2 (omega arith) e
-  planAt (suc (suc (suc (suc (suc (suc zero)))))) high e = planVote 3 (omega arith) e
-  planAt (suc (suc (suc (suc (suc (suc (suc zero))))))) high e = isOne OfPlan (actIs (agreed c 4) (λ p. isNone (c .decision)) decide e .1) tt
-  planAt (suc (suc (suc (suc (suc (suc (suc (suc k)))))))) high e = absurd (none≢some e)
-
-module _ (k : ℕ) (c : Record) (a : acts.Act) (e : asAct a ≡ actAt k c) where
-  -- So the act that A or B is given is one that `view_in` takes.
-  pub ofView : k < 2 → OfView (asAct a)
-  ofView low = go (asAct a) e
-    where
-      go : (o : Option Act) → o ≡ actAt k c → OfView o
-      go none is = tt
-      go (some x) is = viewAt c k low (sym is)
-
-  -- And the act that C to H are given is one that `plan_in` takes.
-  pub ofPlan : 2 ≤ k → OfPlan (asAct a)
-  ofPlan high = go (asAct a) e
-    where
-      go : (o : Option Act) → o ≡ actAt k c → OfPlan o
-      go none is = tt
-      go (some x) is = planAt c k high (sym is)
+  actOf zero e = isOne 0 (actIs (highest (asked c isBlocking) (changeOf c) (c .set .n)) (isNews c) ask e .1) refl
+  actOf (suc zero) e = isOne 1 (actIs (highest (canEnter c) (changeOf c) (c .set .n)) (λ w. true) enter e .1) refl
+  actOf (suc (suc zero)) e = isOne 2 (actIs (chosen c) (λ p. true) (cast 0) (whenSome (mayPropose c) _ e .1) .1) (refl, omega arith)
+  actOf (suc (suc (suc zero))) e = isOne 3 (actIs (planNow c 0 (leader c (c .view))) (approves c) (cast 1) e .1) (refl, omega arith)
+  actOf (suc (suc (suc (suc zero)))) e = voteOf 1 (omega arith) e
+  actOf (suc (suc (suc (suc (suc zero))))) e = voteOf 2 (omega arith) e
+  actOf (suc (suc (suc (suc (suc (suc zero)))))) e = voteOf 3 (omega arith) e
+  actOf (suc (suc (suc (suc (suc (suc (suc zero))))))) e = isOne 7 (actIs (agreed c 4) (λ p. isNone (c .decision)) decide e .1) refl
+  actOf (suc (suc (suc (suc (suc (suc (suc (suc k)))))))) e = absurd (none≢some e)
 
 -- ---- to ask for a view when the timer says so
 
@@ -407,6 +542,6 @@ askWhole c whole w later low = record {
 
 module _ (rec : List ℕ) (h : Ready rec) (w : ℕ) (later : decodeRecord rec .view < w) (low : w < 2 ^ 32) where
   -- So after a timer's view-change the record is one that the pass may begin with.
-  pub readyAsk : {left : List ℕ} {e : Entries} → Did (taken (contentsIn rec) (some (ask w))) left e → Ready left
+  pub readyAsk : {r : slots.Record} {left : List ℕ} {e : Entries} → Did (taken (contentsIn rec) (some (ask w))) r e → HoldsRecord left r → Ready left
   unfolding contents
-  readyAsk did = readyDid did (askWhole (contentsIn rec) (record { sound = h .sound; ranged = h .ranged }) w later low)
+  readyAsk did held = readyDid did held (askWhole (contentsIn rec) (record { sound = h .sound; ranged = h .ranged }) w later low)

@@ -1,28 +1,25 @@
-// What each step of document 01's pass does ('One pass', A to H), on a record by value: it hands back the record with the entries.
-// What an act does to the bytes is said once, over lent bytes; a step lends its own to it.
-use acts::Act;
+// What each step of document 01's pass does ('One pass', A to H), on the vault's own part of its record by value: what it says of itself. A step hands
+// that part back with the entries. What the vault heard is only read, where the record lies.
 use frame::Body;
 use frame::Frame;
+use frame::Report;
 use frame::Reports;
 use frame::numbers;
 use settings::Settings;
-ghost use Prim.Native.Nat.{_≤_, _<_};
+ghost use Prim.Native.Nat.{_+_, _-_, _≤_, _<_};
 ghost use mathlib.Core.Path.{_≡_};
 ghost use mathlib.Core.Option.{some};
-ghost use lib.ListN.{length};
+ghost use lib.ListN.{length, getD};
 ghost use Rattle.frame.specs.Refusal.{leaderOf};
-ghost use Rattle.record.specs.Slots.{slotOf};
-ghost use Rattle.record.specs.inside.Slots.{withView};
-ghost use Rattle.record.specs.Size.{recordSize};
-ghost use Rattle.record.specs.Layout.{decodeRecord};
-ghost use Rattle.record.specs.inside.Layout.{HoldsRecord};
 ghost use Rattle.record.specs.inside.Kept.{told, keepFrame};
-ghost use Rattle.protocol.specs.Pass.{ask, enter, cast, decide, taken};
+ghost use Rattle.record.specs.inside.Keeping.{moves, shiftedSlots};
+ghost use Rattle.own.specs.Size.{remnantSize};
+ghost use Rattle.own.specs.inside.Own.{settingsIn, reportsIn, Changes};
+ghost use Rattle.protocol.specs.Pass.{ask, enter, cast, decide};
 ghost use Rattle.protocol.specs.Pass.{actA, actB, actC, actD, actVote, actH, stepA, stepB, stepC, stepD, stepVote, stepH};
-ghost use Rattle.contents.specs.Contents.{contentsIn};
-ghost use Rattle.contents.specs.inside.Ready.{Ready};
-ghost use Rattle.acts.specs.inside.Acts.{asAct, actAt};
-ghost use Rattle.steps.specs.inside.Steps.{OfView, OfPlan, ownReports, OwnReports, Did, Took};
+ghost use Rattle.acts.specs.inside.Acts.{actAt};
+ghost use Rattle.steps.specs.inside.Steps.{changes};
+ghost use Rattle.steps.specs.inside.Own.{Tell, Does, Takes};
 ghost use Rattle.steps.specs.inside.Order.{stepAt};
 
 // The entries that a step writes: none; a frame for all vaults (A, C to G); the decision (H); a timer, given by view and milliseconds,
@@ -40,63 +37,124 @@ pub struct Wrote {
     pub entries: Entries,
 }
 
-// A record by value: its bytes, with the entries of the step that left it. A step takes one and hands one back, so the compiler has both
-// at one place, and does not copy it.
-pub struct Record {
-    pub bytes: [u8; record::SIZE],
+// A vault's own part of its record by value, with the entries of the step that left it. A step takes one and hands one back.
+pub struct Own {
+    pub bytes: [u8; own::SIZE],
     pub wrote: Wrote,
 }
 
-// ---- what an act does, where the bytes lie
+// The own slot of the view-change.
+pub const CHANGE: u8 = numbers::VIEW_CHANGE - numbers::PROPOSAL;
 
-// To ask for a view.
-pub fn ask_in(rec: &mut [u8], id: u8, w: u32) -> Entries
-    requires { ⌜ Ready (now rec) × (id ≡ decodeRecord (now rec) .set .id) ⌝ }
-    ensures { λ e. ⌜ Did (taken (contentsIn (now (rec .entry))) (some (ask w))) (now (rec .exit)) e ⌝ }
+// The own slot of a kind of frame.
+fn slot_of_kind(kind: u8) -> u8
+    requires { ⌜ (1 ≤ kind) × (kind ≤ 8) ⌝ }
+    ensures { λ t. ⌜ t ≡ kind - 1 ⌝ }
 {
-    let f = Frame {
+    kind - numbers::PROPOSAL
+}
+
+// ---- what an act does, where the own part lies
+
+// The frame that asks for a view.
+pub fn change_frame(id: u8, w: u32) -> Frame
+    ensures { λ f. ⌜ f ≡ changes id w ⌝ }
+{
+    Frame {
         kind: numbers::VIEW_CHANGE,
         sender: id,
         view: w,
         body: Body::Empty,
-    };
-    record::keeping::keep_head(rec, id, f);
-    Entries::Sent(f)
+    }
+}
+
+// To ask for a view.
+fn ask_in(part: &mut [u8; own::SIZE], w: u32) -> Wrote
+    ensures { λ r. ⌜ Does (some (ask w)) (now (part .entry)) (now (part .exit)) (r .entries) ⌝ }
+{
+    let set = own::settings_in(part);
+    let f = change_frame(set.id, w);
+    own::put_in(part, CHANGE, frame::present(w, 0));
+    Wrote {
+        entries: Entries::Sent(f),
+    }
+}
+
+// A new vote of a kind for a plan moves the kept one to the previous one.
+fn vote_moves(slot: Report, kind: u8, plan: u64) -> bool
+    ensures { λ b. ⌜ b ≡ moves slot kind plan ⌝ }
+{
+    if kind < numbers::VOTE_1 {
+        return false;
+    }
+    if numbers::VOTE_2 < kind {
+        return false;
+    }
+    if slot.mark != numbers::PRESENT {
+        return false;
+    }
+    slot.plan != plan
+}
+
+// The own slot of the previous vote of a kind: vote-1 or vote-2.
+pub fn slot_of_previous(kind: u8) -> u8
+    requires { ⌜ (2 ≤ kind) × (kind ≤ 3) ⌝ }
+    ensures { λ t. ⌜ t ≡ kind + 12 ⌝ }
+{
+    own::PREVIOUS + (kind - numbers::VOTE_1)
+}
+
+// Moves the own kept vote to the previous one, where a new vote of that kind for a plan moves it.
+fn shift(part: &mut [u8], kind: u8, p: u64)
+    requires { ⌜ (length (now part) ≡ remnantSize) × (1 ≤ kind) × (kind ≤ 5) ⌝ }
+    ensures { λ _. ⌜ Changes (λ r. shiftedSlots r kind p) (now (part .entry)) (now (part .exit)) ⌝ }
+{
+    let slot = own::slot_in(part, slot_of_kind(kind));
+    if !vote_moves(slot, kind, p) {
+        return;
+    }
+    own::put_in(part, slot_of_previous(kind), slot);
 }
 
 // To send a vote, or a proposal (0): the kinds of the votes follow that of the proposal.
-fn cast_in(rec: &mut [u8], id: u8, view: u32, k: u8, p: u64) -> Entries
-    requires { ⌜ Ready (now rec) × (id ≡ decodeRecord (now rec) .set .id) × (view ≡ decodeRecord (now rec) .view) × (k ≤ 4) ⌝ }
-    ensures { λ e. ⌜ Did (taken (contentsIn (now (rec .entry))) (some (cast k p))) (now (rec .exit)) e ⌝ }
+fn cast_in(part: &mut [u8; own::SIZE], k: u8, p: u64) -> Wrote
+    requires { ⌜ k ≤ 4 ⌝ }
+    ensures { λ r. ⌜ Does (some (cast k p)) (now (part .entry)) (now (part .exit)) (r .entries) ⌝ }
 {
+    let set = own::settings_in(part);
+    let view = own::view_in(part);
     let f = Frame {
         kind: k + numbers::PROPOSAL,
-        sender: id,
+        sender: set.id,
         view,
         body: Body::Plan(p),
     };
-    record::keeping::own_broadcast(rec, id, f);
-    Entries::Sent(f)
+    shift(part, k + numbers::PROPOSAL, p);
+    own::put_in(part, k, frame::present(view, p));
+    Wrote {
+        entries: Entries::Sent(f),
+    }
 }
 
 // To decide a plan.
-fn decide_in(rec: &mut [u8], view: u32, p: u64) -> Entries
-    requires { ⌜ Ready (now rec) × (view ≡ decodeRecord (now rec) .view) ⌝ }
-    ensures { λ e. ⌜ Did (taken (contentsIn (now (rec .entry))) (some (decide p))) (now (rec .exit)) e ⌝ }
+fn decide_in(part: &mut [u8; own::SIZE], p: u64) -> Wrote
+    ensures { λ r. ⌜ Does (some (decide p)) (now (part .entry)) (now (part .exit)) (r .entries) ⌝ }
 {
-    let decision = frame::present(view, p);
-    record::put_slot(rec, record::DECISION, decision);
-    Entries::Decided(view, p)
+    let view = own::view_in(part);
+    own::put_in(part, own::DECISION, frame::present(view, p));
+    Wrote {
+        entries: Entries::Decided(view, p),
+    }
 }
 
 // The reports of the own suggest or proof: the highest and the previous own vote of the kind `claim`, and the highest of the kind `lock`.
-fn reports_of(rec: &[u8], id: u8, claim: u8, lock: u8) -> Reports
-    requires { ⌜ (length (now rec) ≡ recordSize) × (id < 64) × (2 ≤ claim) × (claim ≤ 3) × (1 ≤ lock) × (lock ≤ 8) ⌝ }
-    ensures { λ t. ⌜ t ≡ ownReports (slotOf (decodeRecord (now (rec .entry)))) id claim lock ⌝ }
+fn reports_of(part: &[u8], claim: u8, lock: u8) -> Reports
+    requires { ⌜ (length (now part) ≡ remnantSize) × (2 ≤ claim) × (claim ≤ 3) × (1 ≤ lock) × (lock ≤ 8) ⌝ }
+    ensures { λ t. ⌜ t ≡ reportsIn (now (part .entry)) claim lock ⌝ }
 {
-    let highest = record::slot_of(rec, record::frame_slot(claim, id));
-    let previous = record::slot_of(rec, record::previous_slot(claim));
-    let locked = record::slot_of(rec, record::frame_slot(lock, id));
+    let highest = own::slot_in(part, slot_of_kind(claim));
+    let previous = own::slot_in(part, slot_of_previous(claim));
+    let locked = own::slot_in(part, slot_of_kind(lock));
     Reports {
         highest,
         previous,
@@ -112,23 +170,30 @@ fn leader_in(w: u32, n: u8) -> u8
     tally::leader(w, n as usize) as u8
 }
 
-// Keeps a view, and the own proof of it.
-fn keep_entered(rec: &mut [u8], id: u8, w: u32, proof: Reports)
-    requires { ⌜ (length (now rec) ≡ recordSize) × (id < 64) ⌝ }
-    ensures { λ _. ⌜ HoldsRecord (now (rec .exit)) (keepFrame (withView (decodeRecord (now (rec .entry))) w) id (told 8 id w proof)) ⌝ }
+// Keeps the own suggest or proof of a view.
+fn keep_told(part: &mut [u8], kind: u8, w: u32, t: Reports)
+    requires { ⌜ (length (now part) ≡ remnantSize) × (7 ≤ kind) × (kind ≤ 8) ⌝ }
+    ensures { λ _. ⌜ Changes (λ r. keepFrame r (r .set .id) (told kind (r .set .id) w t)) (now (part .entry)) (now (part .exit)) ⌝ }
 {
-    record::put_view(rec, w);
-    record::keeping::keep_told(rec, id, numbers::PROOF, w, proof);
+    let first = own::REPORTS + 3 * (kind - numbers::SUGGEST);
+    let highest = t.highest;
+    let previous = t.previous;
+    let lock = t.lock;
+    own::put_in(part, slot_of_kind(kind), frame::present(w, 0));
+    own::put_in(part, first, highest);
+    own::put_in(part, first + 1, previous);
+    own::put_in(part, first + 2, lock);
 }
 
 // To enter a view, with the own reports as they are before it: the suggest is kept where the vault leads the view, and sent elsewhere.
-fn tell_in(rec: &mut [u8], set: Settings, w: u32, proof: Reports, suggest: Reports) -> Entries
-    requires { ⌜ Ready (now rec) × (set ≡ decodeRecord (now rec) .set) × OwnReports (decodeRecord (now rec)) (set .id) proof suggest ⌝ }
-    ensures { λ e. ⌜ Did (taken (contentsIn (now (rec .entry))) (some (enter w))) (now (rec .exit)) e ⌝ }
+fn tell_in(part: &mut [u8], set: Settings, w: u32, proof: Reports, suggest: Reports) -> Entries
+    requires { ⌜ (length (now part) ≡ remnantSize) × (set ≡ settingsIn (now part)) × (0 < set .n) × Tell (now part) proof suggest ⌝ }
+    ensures { λ e. ⌜ Does (some (enter w)) (now (part .entry)) (now (part .exit)) e ⌝ }
 {
     let millis = settings::timer_millis(set.class);
     let to = leader_in(w, set.n);
-    keep_entered(rec, set.id, w, proof);
+    own::put_view(part, w);
+    keep_told(part, numbers::PROOF, w, proof);
     let all = Frame {
         kind: numbers::PROOF,
         sender: set.id,
@@ -136,7 +201,7 @@ fn tell_in(rec: &mut [u8], set: Settings, w: u32, proof: Reports, suggest: Repor
         body: Body::Told(proof),
     };
     if to == set.id {
-        record::keeping::keep_told(rec, set.id, numbers::SUGGEST, w, suggest);
+        keep_told(part, numbers::SUGGEST, w, suggest);
         return Entries::Led(w, millis, all);
     }
     let one = Frame {
@@ -149,160 +214,104 @@ fn tell_in(rec: &mut [u8], set: Settings, w: u32, proof: Reports, suggest: Repor
 }
 
 // To enter a view.
-fn enter_in(rec: &mut [u8], set: Settings, w: u32) -> Entries
-    requires { ⌜ Ready (now rec) × (set ≡ decodeRecord (now rec) .set) ⌝ }
-    ensures { λ e. ⌜ Did (taken (contentsIn (now (rec .entry))) (some (enter w))) (now (rec .exit)) e ⌝ }
+fn enter_in(part: &mut [u8; own::SIZE], w: u32) -> Wrote
+    requires { ⌜ 0 < getD (now part) 0 0 ⌝ }
+    ensures { λ r. ⌜ Does (some (enter w)) (now (part .entry)) (now (part .exit)) (r .entries) ⌝ }
 {
-    let proof = reports_of(rec, set.id, numbers::VOTE_1, numbers::VOTE_4);
-    let suggest = reports_of(rec, set.id, numbers::VOTE_2, numbers::VOTE_3);
-    tell_in(rec, set, w, proof, suggest)
-}
-
-// The act of A or B.
-fn view_in(rec: &mut [u8], act: Act) -> Entries
-    requires { ⌜ Ready (now rec) × OfView (asAct act) ⌝ }
-    ensures { λ e. ⌜ Did (taken (contentsIn (now (rec .entry))) (asAct act)) (now (rec .exit)) e ⌝ }
-{
-    let set = record::settings_of(rec);
-    match act {
-        Act::Ask(w) => ask_in(rec, set.id, w),
-        Act::Enter(w) => enter_in(rec, set, w),
-        Act::Cast(_, _) => Entries::Zero,
-        Act::Decide(_) => Entries::Zero,
-        Act::Nothing => Entries::Zero,
-    }
-}
-
-// The act of C to H.
-fn plan_in(rec: &mut [u8], act: Act) -> Entries
-    requires { ⌜ Ready (now rec) × OfPlan (asAct act) ⌝ }
-    ensures { λ e. ⌜ Did (taken (contentsIn (now (rec .entry))) (asAct act)) (now (rec .exit)) e ⌝ }
-{
-    let set = record::settings_of(rec);
-    let view = record::view_of(rec);
-    match act {
-        Act::Ask(_) => Entries::Zero,
-        Act::Enter(_) => Entries::Zero,
-        Act::Cast(k, p) => cast_in(rec, set.id, view, k, p),
-        Act::Decide(p) => decide_in(rec, view, p),
-        Act::Nothing => Entries::Zero,
-    }
+    let set = own::settings_in(part);
+    let proof = reports_of(part, numbers::VOTE_1, numbers::VOTE_4);
+    let suggest = reports_of(part, numbers::VOTE_2, numbers::VOTE_3);
+    let entries = tell_in(part, set, w, proof, suggest);
+    Wrote { entries }
 }
 
 // ---- steps
 
-// The same on an array: a step's own bytes are lent as one, and so they are not copied.
-fn view_act(bytes: &mut [u8; record::SIZE], act: Act) -> Wrote
-    requires { ⌜ Ready (now bytes) × OfView (asAct act) ⌝ }
-    ensures { λ w. ⌜ Did (taken (contentsIn (now (bytes .entry))) (asAct act)) (now (bytes .exit)) (w .entries) ⌝ }
-{
-    let entries = view_in(bytes, act);
-    Wrote { entries }
-}
-
-fn plan_act(bytes: &mut [u8; record::SIZE], act: Act) -> Wrote
-    requires { ⌜ Ready (now bytes) × OfPlan (asAct act) ⌝ }
-    ensures { λ w. ⌜ Did (taken (contentsIn (now (bytes .entry))) (asAct act)) (now (bytes .exit)) (w .entries) ⌝ }
-{
-    let entries = plan_in(bytes, act);
-    Wrote { entries }
-}
-
-impl Record {
+impl Own {
     // A: to ask for a view that f + 1 vaults ask for.
-    pub fn step_a(mut self, act: Act) -> Record
-        requires { ⌜ Ready (self .bytes) × (asAct act ≡ actA (contentsIn (self .bytes))) ⌝ }
-        ensures { λ s. ⌜ Took (stepA (contentsIn (self .bytes))) s ⌝ }
+    pub fn step_a(mut self, w: u32) -> Own
+        ensures { λ s. ⌜ Takes actA stepA (some (ask w)) (self .bytes) (s .bytes) (s .wrote .entries) ⌝ }
     {
-        let wrote = view_act(&mut self.bytes, act);
+        let wrote = ask_in(&mut self.bytes, w);
         self.wrote = wrote;
         self
     }
 
     // B: to enter a view that a quorum asks for.
-    pub fn step_b(mut self, act: Act) -> Record
-        requires { ⌜ Ready (self .bytes) × (asAct act ≡ actB (contentsIn (self .bytes))) ⌝ }
-        ensures { λ s. ⌜ Took (stepB (contentsIn (self .bytes))) s ⌝ }
+    pub fn step_b(mut self, w: u32) -> Own
+        requires { ⌜ 0 < getD (self .bytes) 0 0 ⌝ }
+        ensures { λ s. ⌜ Takes actB stepB (some (enter w)) (self .bytes) (s .bytes) (s .wrote .entries) ⌝ }
     {
-        let wrote = view_act(&mut self.bytes, act);
+        let wrote = enter_in(&mut self.bytes, w);
         self.wrote = wrote;
         self
     }
 
     // C: to propose, where the vault leads.
-    pub fn step_c(mut self, act: Act) -> Record
-        requires { ⌜ Ready (self .bytes) × (asAct act ≡ actC (contentsIn (self .bytes))) ⌝ }
-        ensures { λ s. ⌜ Took (stepC (contentsIn (self .bytes))) s ⌝ }
+    pub fn step_c(mut self, p: u64) -> Own
+        ensures { λ s. ⌜ Takes actC stepC (some (cast 0 p)) (self .bytes) (s .bytes) (s .wrote .entries) ⌝ }
     {
-        let wrote = plan_act(&mut self.bytes, act);
+        let wrote = cast_in(&mut self.bytes, 0, p);
         self.wrote = wrote;
         self
     }
 
     // D: to send vote-1 for the leader's proposal.
-    pub fn step_d(mut self, act: Act) -> Record
-        requires { ⌜ Ready (self .bytes) × (asAct act ≡ actD (contentsIn (self .bytes))) ⌝ }
-        ensures { λ s. ⌜ Took (stepD (contentsIn (self .bytes))) s ⌝ }
+    pub fn step_d(mut self, p: u64) -> Own
+        ensures { λ s. ⌜ Takes actD stepD (some (cast 1 p)) (self .bytes) (s .bytes) (s .wrote .entries) ⌝ }
     {
-        let wrote = plan_act(&mut self.bytes, act);
+        let wrote = cast_in(&mut self.bytes, 1, p);
         self.wrote = wrote;
         self
     }
 
     // E: to send vote-2 on a quorum of vote-1.
-    pub fn step_e(mut self, act: Act) -> Record
-        requires { ⌜ Ready (self .bytes) × (asAct act ≡ actVote (contentsIn (self .bytes)) 1) ⌝ }
-        ensures { λ s. ⌜ Took (stepVote 1 (contentsIn (self .bytes))) s ⌝ }
+    pub fn step_e(mut self, p: u64) -> Own
+        ensures { λ s. ⌜ Takes (λ c. actVote c 1) (stepVote 1) (some (cast 2 p)) (self .bytes) (s .bytes) (s .wrote .entries) ⌝ }
     {
-        let wrote = plan_act(&mut self.bytes, act);
+        let wrote = cast_in(&mut self.bytes, 2, p);
         self.wrote = wrote;
         self
     }
 
     // F: to send vote-3 on a quorum of vote-2.
-    pub fn step_f(mut self, act: Act) -> Record
-        requires { ⌜ Ready (self .bytes) × (asAct act ≡ actVote (contentsIn (self .bytes)) 2) ⌝ }
-        ensures { λ s. ⌜ Took (stepVote 2 (contentsIn (self .bytes))) s ⌝ }
+    pub fn step_f(mut self, p: u64) -> Own
+        ensures { λ s. ⌜ Takes (λ c. actVote c 2) (stepVote 2) (some (cast 3 p)) (self .bytes) (s .bytes) (s .wrote .entries) ⌝ }
     {
-        let wrote = plan_act(&mut self.bytes, act);
+        let wrote = cast_in(&mut self.bytes, 3, p);
         self.wrote = wrote;
         self
     }
 
     // G: to send vote-4 on a quorum of vote-3.
-    pub fn step_g(mut self, act: Act) -> Record
-        requires { ⌜ Ready (self .bytes) × (asAct act ≡ actVote (contentsIn (self .bytes)) 3) ⌝ }
-        ensures { λ s. ⌜ Took (stepVote 3 (contentsIn (self .bytes))) s ⌝ }
+    pub fn step_g(mut self, p: u64) -> Own
+        ensures { λ s. ⌜ Takes (λ c. actVote c 3) (stepVote 3) (some (cast 4 p)) (self .bytes) (s .bytes) (s .wrote .entries) ⌝ }
     {
-        let wrote = plan_act(&mut self.bytes, act);
+        let wrote = cast_in(&mut self.bytes, 4, p);
         self.wrote = wrote;
         self
     }
 
     // H: to decide.
-    pub fn step_h(mut self, act: Act) -> Record
-        requires { ⌜ Ready (self .bytes) × (asAct act ≡ actH (contentsIn (self .bytes))) ⌝ }
-        ensures { λ s. ⌜ Took (stepH (contentsIn (self .bytes))) s ⌝ }
+    pub fn step_h(mut self, p: u64) -> Own
+        ensures { λ s. ⌜ Takes actH stepH (some (decide p)) (self .bytes) (s .bytes) (s .wrote .entries) ⌝ }
     {
-        let wrote = plan_act(&mut self.bytes, act);
+        let wrote = decide_in(&mut self.bytes, p);
         self.wrote = wrote;
         self
     }
 
-    // The step of a number, 0 to 7 for A to H.
-    pub fn step_at(self, k: u8, act: Act) -> Record
-        requires { ⌜ Ready (self .bytes) × (k < 8) × (asAct act ≡ actAt k (contentsIn (self .bytes))) ⌝ }
-        ensures { λ s. ⌜ Took (stepAt k (contentsIn (self .bytes))) s ⌝ }
+    // The step of C to G that sends vote-k (0: the proposal).
+    pub fn step_cast(self, k: u8, p: u64) -> Own
+        requires { ⌜ k ≤ 4 ⌝ }
+        ensures { λ s. ⌜ Takes (actAt (k + 2)) (stepAt (k + 2)) (some (cast k p)) (self .bytes) (s .bytes) (s .wrote .entries) ⌝ }
     {
         match k {
-            0 => self.step_a(act),
-            1 => self.step_b(act),
-            2 => self.step_c(act),
-            3 => self.step_d(act),
-            4 => self.step_e(act),
-            5 => self.step_f(act),
-            6 => self.step_g(act),
-            _ => self.step_h(act),
+            0 => self.step_c(p),
+            1 => self.step_d(p),
+            2 => self.step_e(p),
+            3 => self.step_f(p),
+            _ => self.step_g(p),
         }
     }
 }

@@ -34,7 +34,8 @@ use Rattle.vault_c.proofs.Refusals.{Refusal, Named, Brings, readNamed, 
 use Rattle.contents.specs.Contents.{contents}
 use Rattle.contents.specs.Calls.{leftAfter, onLent, called, startLeft, frameLeft, timerLeft}
 use Rattle.contents.specs.Left.{Left, wrote, gave}
-use Rattle.contents.specs.Remnant.{restored, remnantLeft, timerBack, restartLeft}
+use Rattle.own.specs.Part.{restored}
+use Rattle.contents.specs.Remnant.{remnantLeft, timerBack, restartLeft}
 use Rattle.contents.proofs.Remnant.{writtenAny, restartedAny}
 
 -- What a call leaves is small: at most 205 bytes written, or a refusal's number.

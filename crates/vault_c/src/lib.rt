@@ -4,7 +4,7 @@ ghost use mathlib.Core.Path.{_≡_};
 ghost use lib.ListN.{length, drop};
 ghost use Rattle.record.specs.Size.{recordSize};
 ghost use Rattle.contents.specs.Calls.{startLeft, frameLeft, timerLeft};
-ghost use Rattle.contents.specs.Size.{remnantSize};
+ghost use Rattle.own.specs.Size.{remnantSize};
 ghost use Rattle.contents.specs.Remnant.{remnantLeft, restartLeft};
 ghost use Rattle.questions.specs.Stored.{currentOf, decisionOf};
 ghost use Rattle.equivocation.specs.Call.{equivocatorsLeft};

@@ -14,9 +14,10 @@ use Rattle.pass.specs.inside.Steps.{Room, Ran}
 abbrev pub stepsFrom : ℕ → List Step
 stepsFrom k = drop k fromA
 
--- A pass on its way: it has left a record and written up to a place, and is at the step of a number. Where the steps from there on are
--- run, so is the whole pass.
-pub record Going (first : List ℕ) (from at : ℕ) (before : List ℕ) (rec : List ℕ) (k count : ℕ) (there : List ℕ) : Type 0 where
+-- A pass on its way: it has left a record and written up to a place, and is at the step of a number, with the current view at hand. Where the
+-- steps from there on are run, so is the whole pass.
+pub record Going (first : List ℕ) (from at : ℕ) (before : List ℕ) (rec : List ℕ) (k count : ℕ) (there : List ℕ) (view : ℕ) : Type 0 where
+  pub here : view ≡ decodeRecord rec .view
   pub ready : Ready rec
   pub same : decodeRecord rec .set ≡ decodeRecord first .set
   pub most : k ≤ 8

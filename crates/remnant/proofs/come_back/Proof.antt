@@ -9,8 +9,8 @@ use Rattle.remnant.proofs.come_back.Tie as tie
 rebuild-requires : tie.Need-rebuild-requires
 rebuild-requires c κs = search needs
 
-number32-requires : tie.Need-number32-requires
-number32-requires c κs = search needs
+view-in-requires : tie.Need-view-in-requires
+view-in-requires c κs = search needs
 
 timer-millis-requires : tie.Need-timer-millis-requires
 timer-millis-requires c κs = search needs
@@ -35,14 +35,14 @@ returns c =
     let entry = r .before .before .before .before .before in
     let a = entry .args in
     backMade (now (a .remnant)) (r .rebuild .last .0) (now (a .out)) (d .put-entry .last .0) (d .put-entry .result) (entry .pre .1 .is)
-    (n .number32 .ensures) (m .timer-millis .ensures) (r .rebuild .ensures) (d .put-entry .ensures)
+    (n .view-in .ensures) (m .timer-millis .ensures) (r .rebuild .ensures) (d .put-entry .ensures)
 
 pub come-back-spec : {M : Type 1} → statement M
 come-back-spec =
     tie.close
     (tie.spec
     rebuild-requires
-    number32-requires
+    view-in-requires
     timer-millis-requires
     put-entry-requires
     same-length

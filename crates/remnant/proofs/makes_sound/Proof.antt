@@ -5,8 +5,8 @@ use denote.Ref.{now}
 use Rattle.frame.specs.Refusal.{first}
 use Rattle.settings.specs.declared.Settings.{Settings}
 use Rattle.settings.specs.Settings.{settingRows}
-use Rattle.contents.specs.Remnant.{restored}
-use Rattle.remnant.proofs.Laws.{ownRow, restoredRefused}
+use Rattle.own.specs.inside.Own.{settingsIn}
+use Rattle.remnant.proofs.Laws.{backRefused}
 use borrow.Author.Needs.{needs}
 use Rattle.remnant.proofs.makes_sound.Statement.{statement}
 use Rattle.remnant.proofs.makes_sound.Tie as tie
@@ -20,7 +20,7 @@ returns c =
     let given = r .before .before in
     let remnant = now (given .args .remnant) in
     let gives = r .settings-refusal .ensures ∙ ap (λ (set : Settings). first (settingRows set)) (given .pre .1) in
-    sym (restoredRefused remnant (λ (none : first (settingRows (restored remnant .set)) ≡ 0). c .if1 .taken (gives ∙ none)))
+    sym (backRefused remnant (λ (none : first (settingRows (settingsIn remnant)) ≡ 0). c .if1 .taken (gives ∙ none)))
 
 is-sound-requires : tie.Need-is-sound-requires
 is-sound-requires c κs =
@@ -29,7 +29,7 @@ is-sound-requires c κs =
     record {
       size = entry .pre .0;
       is = entry .pre .1;
-      row = ownRow (entry .args .set) (sym (s .settings-refusal .ensures) ∙ c .if1 .left);
+      good = sym (s .settings-refusal .ensures) ∙ c .if1 .left;
     }
 
 returns-2 : tie.Need-returns-2

@@ -1,13 +1,10 @@
 -- `remnant::restart` meets its contract: 1, 4, 25 and 26 in their order, else the record and its timer entry.
 -- Assumes nothing.
-use Prim.Native.Nat.{_<_}
-use mathlib.Core.Path.{sym, subst, _∙_}
+use mathlib.Core.Path.{_∙_}
 use denote.Ref.{now}
 use Rattle.sound.proofs.Laws.{off, on}
-use Rattle.settings.specs.declared.Settings.{Settings}
-use Rattle.record.specs.Slots.{rows}
 use Rattle.remnant.specs.inside.Parts.{Fitting}
-use Rattle.remnant.proofs.Laws.{restoredRow, blankBy, restartShort, restartLength, restartHeld, remnantLength, remnantUnsound, remnantTaken}
+use Rattle.remnant.proofs.Laws.{backGood, blankBy, restartShort, restartLength, restartHeld, remnantLength, remnantUnsound, remnantTaken}
 use borrow.Author.Needs.{needs}
 use Rattle.remnant.proofs.restart.Statement.{statement}
 use Rattle.remnant.proofs.restart.Tie as tie
@@ -80,11 +77,10 @@ come-back-requires c κs =
     let d = f .before .before .before .before .before in
     let b = d .before in
     let a = b .before .before .before .before .args in
-    let row = restoredRow (now (a .remnant)) (on (m .makes-sound .ensures) (k .if5 .left)) in
     let fitting : Fitting (now (a .remnant)) (s .settings-in .result) = record {
       size = f .if4 .left;
       is = s .settings-in .ensures;
-      row = subst (λ (set : Settings). set .id < rows) (sym (s .settings-in .ensures)) row;
+      good = backGood (now (a .remnant)) (s .settings-in .ensures) (on (m .makes-sound .ensures) (k .if5 .left));
     } in
     (d .if2 .left, fitting, b .if1 .left)
 

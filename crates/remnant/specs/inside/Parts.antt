@@ -1,46 +1,54 @@
--- A remnant written and put back in parts, as the code goes through them.
+-- What the code of a restart goes by: the row that a remnant holds, and when its settings pass.
 -- Assumes nothing.
-use Prim.Native.Nat.{ℕ, _<_}
+use Prim.Native.Nat.{ℕ, _≤_, _<_}
 use mathlib.Core.Path.{_≡_}
 use mathlib.Core.Bool.{not}
-use mathlib.Core.List.{List, [], _∷_, _++_}
+use mathlib.Core.List.{List, [], _∷_}
 use lib.Dec.{ltb}
-use lib.ListN.{length, getD}
-use Rattle.wire.specs.Digits.{digits}
+use lib.ListN.{length}
+use Rattle.frame.specs.declared.Report.{Report}
 use Rattle.frame.specs.Refusal.{row, first}
 use Rattle.settings.specs.declared.Settings.{Settings}
-use Rattle.record.specs.Slots.{Record, rows, slotOf}
-use Rattle.record.specs.Layout.{slotIn, spelledSlots}
+use Rattle.settings.specs.Settings.{settingRows}
+use Rattle.record.specs.Slots.{rows, frameSlot, emptySlot, slotOf}
 use Rattle.sound.specs.inside.Sound.{lentIs}
-use Rattle.contents.specs.Size.{remnantSize}
+use Rattle.own.specs.Size.{remnantSize}
+use Rattle.own.specs.Part.{restored}
+use Rattle.own.specs.inside.Own.{settingsIn, heardIn}
+use Rattle.own.specs.inside.Own as own
 use Rattle.contents.specs.Which.{isBlank, isSound}
-use Rattle.contents.specs.Remnant.{ownSlot, remnantPlace, putBack, restored}
-
--- What stands before the slots.
-unfoldable pub headBytes : Record → List ℕ
-headBytes r = (r .set .n ∷ r .set .f ∷ r .set .id ∷ r .set .class ∷ digits 4 (r .view)) ++ digits 8 (r .plan)
-
--- The first slots of the remnant of vault id, end to end.
-unfoldable pub ownBytes : Record → ℕ → ℕ → List ℕ
-ownBytes r id t = spelledSlots (λ k. slotOf r (ownSlot id k)) 0 t
 
 -- The refusal of a write, by the record and the space.
 unfoldable pub writeRefusal : List ℕ → ℕ → ℕ
 writeRefusal rec room =
     first (row 1 (ltb room remnantSize) ∷ row 2 (isBlank (lentIs rec)) ∷ row 3 (not (isSound (lentIs rec))) ∷ [])
 
--- The record that a remnant makes, with the first slots put back.
-unfoldable pub restoredTo : List ℕ → ℕ → Record
-restoredTo s t =
-    record {
-      set = restored s .set;
-      view = restored s .view;
-      plan = restored s .plan;
-      slots = putBack (getD s 2 0) (λ k. slotIn s (remnantPlace k)) t;
-    }
+-- The vault that a remnant is of.
+abbrev pub idIn : List ℕ → ℕ
+idIn s = settingsIn s .id
 
--- A remnant of its length, its settings, and a row for its vault.
+-- The slots of the record that it makes.
+abbrev pub rowIn : List ℕ → ℕ → Report
+rowIn s = slotOf (restored s)
+
+-- A remnant of its length, and its settings, which pass 5 to 8.
 pub record Fitting (s : List ℕ) (set : Settings) : Type 0 where
   pub size : length s ≡ remnantSize
-  pub is : set ≡ restored s .set
-  pub row : set .id < rows
+  pub is : set ≡ settingsIn s
+  pub good : first (settingRows set) ≡ 0
+
+-- A remnant of a vault that has a row, and a kind of frames.
+pub record Kind (s : List ℕ) (kind : ℕ) : Type 0 where
+  pub size : length s ≡ remnantSize
+  pub row : idIn s < rows
+  pub low : 1 ≤ kind
+  pub high : kind ≤ 8
+
+-- What stands in the slot of its own frame of that kind.
+pub record Head (s : List ℕ) (kind : ℕ) (head : Report) : Type 0 where
+  pub is : head ≡ rowIn s (frameSlot kind (idIn s))
+
+-- A record that its own part can be put back to, in which nothing is kept.
+pub record Fresh (s : List ℕ) (set : Settings) (rec : List ℕ) : Type 0 where
+  pub fits : own.Fitting rec (set .id) s
+  pub none : heardIn rec ≡ (λ i. emptySlot)

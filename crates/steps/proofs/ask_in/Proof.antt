@@ -1,24 +1,35 @@
--- `steps::ask_in` meets its contract: the view-change goes into the own row.
+-- `steps::ask_in` meets its contract: the view-change goes into its own slot.
 -- Assumes nothing.
-use mathlib.Core.Path.{refl}
-use native.Mathlib.Omega.{arith}
-use Rattle.steps.proofs.Steps.{rowOf, didAsk}
+use mathlib.Core.Path.{ap}
+use Rattle.settings.specs.declared.Settings.{Settings}
+use Rattle.steps.proofs.Steps.{doesAsk}
 use borrow.Author.Needs.{needs}
 use Rattle.steps.proofs.ask_in.Statement.{statement}
 use Rattle.steps.proofs.ask_in.Tie as tie
 
-keep-head-requires : tie.Need-keep-head-requires
-keep-head-requires c κs =
-    let s = c .before .before in
-    (refl, omega arith, rowOf _ (s .pre .0) (s .pre .1), s .pre .0 .size)
+settings-in-requires : tie.Need-settings-in-requires
+settings-in-requires c κs = search needs
 
-same-length : tie.Need-same-length
-same-length c = search needs
+change-frame-requires : tie.Need-change-frame-requires
+change-frame-requires c κs = search needs
+
+present-requires : tie.Need-present-requires
+present-requires c κs = search needs
+
+put-in-requires : tie.Need-put-in-requires
+put-in-requires c κs = search needs
 
 returns : tie.Need-returns
 returns c =
-    let s = c .before .before .before .before .before in
-    didAsk _ (s .pre .0) (s .pre .1) (c .before .before .keep-head .ensures)
+    let id = ap (λ (x : Settings). x .id) (c .before .before .before .before .settings-in .ensures) in
+    doesAsk id (c .before .before .before .change-frame .ensures) (c .before .present .ensures) (c .put-in .ensures)
 
 pub ask-in-spec : {M : Type 1} → statement M
-ask-in-spec = tie.close (tie.spec keep-head-requires same-length returns)
+ask-in-spec =
+    tie.close
+    (tie.spec
+    settings-in-requires
+    change-frame-requires
+    present-requires
+    put-in-requires
+    returns)

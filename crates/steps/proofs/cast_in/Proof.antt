@@ -1,27 +1,50 @@
--- `steps::cast_in` meets its contract: the vote goes into the own row.
+-- `steps::cast_in` meets its contract: the kept vote moves where it must, then the vote goes into its own slot.
 -- Assumes nothing.
-use native.Mathlib.Omega.{arith}
+use mathlib.Core.Path.{ap}
 use native.Mathlib.Numerals.{add-one}
-use Rattle.steps.proofs.Steps.{rowOf, fitsVote, didCast}
+use Rattle.settings.specs.declared.Settings.{Settings}
+use Rattle.steps.proofs.Steps.{doesCast}
 use borrow.Author.Needs.{needs}
 use Rattle.steps.proofs.cast_in.Statement.{statement}
 use Rattle.steps.proofs.cast_in.Tie as tie
 
-add-t7 : tie.Need-add-t7
-add-t7 c = search needs
+settings-in-requires : tie.Need-settings-in-requires
+settings-in-requires c κs = search needs
 
-own-broadcast-requires : tie.Need-own-broadcast-requires
-own-broadcast-requires c κs =
-    let s = c .before .before in
-    (fitsVote (s .args .k) (s .args .p) (s .pre .3), omega (arith, s .pre .3), rowOf _ (s .pre .0) (s .pre .1), s .pre .1, s .pre .0 .size)
+view-in-requires : tie.Need-view-in-requires
+view-in-requires c κs = search needs
 
-same-length : tie.Need-same-length
-same-length c = search needs
+add-shift : tie.Need-add-shift
+add-shift c = search needs
+
+add-shift-2 : tie.Need-add-shift-2
+add-shift-2 c = search needs
+
+shift-requires : tie.Need-shift-requires
+shift-requires c κs = search needs
+
+present-requires : tie.Need-present-requires
+present-requires c κs = search needs
+
+put-in-requires : tie.Need-put-in-requires
+put-in-requires c κs = search needs
 
 returns : tie.Need-returns
 returns c =
-    let s = c .before .before .before .before .before in
-    didCast _ (s .pre .0) (s .pre .3) (add-one (s .args .k)) (s .pre .1) (s .pre .2) (c .before .before .own-broadcast .ensures)
+    let s = c .before .before .before .before .before .before .before .before .before .before .before in
+    let id = ap (λ (x : Settings). x .id) (c .before .before .before .before .before .before .before .before .settings-in .ensures) in
+    doesCast (s .pre) (add-one (s .args .k)) id (c .before .before .before .before .before .view-in .ensures) (c .before .present .ensures)
+    (c .before .before .before .shift .ensures) (c .put-in .ensures)
 
 pub cast-in-spec : {M : Type 1} → statement M
-cast-in-spec = tie.close (tie.spec add-t7 own-broadcast-requires same-length returns)
+cast-in-spec =
+    tie.close
+    (tie.spec
+    settings-in-requires
+    view-in-requires
+    add-shift
+    add-shift-2
+    shift-requires
+    present-requires
+    put-in-requires
+    returns)

@@ -1,39 +1,37 @@
--- `steps::enter_in` meets its contract: the own reports are read before anything is kept.
+-- `steps::enter_in` meets its contract: with the own reports as they are before the view is entered.
 -- Assumes nothing.
-use native.Mathlib.Omega.{arith}
-use Rattle.steps.proofs.Steps.{rowSet}
+use Prim.Native.Nat.{ℕ, _<_}
+use mathlib.Core.Path.{sym, subst}
+use Rattle.settings.specs.declared.Settings.{Settings}
 use borrow.Author.Needs.{needs}
 use Rattle.steps.proofs.enter_in.Statement.{statement}
 use Rattle.steps.proofs.enter_in.Tie as tie
 
+settings-in-requires : tie.Need-settings-in-requires
+settings-in-requires c κs = search needs
+
 reports-of-requires : tie.Need-reports-of-requires
-reports-of-requires c κs =
-    let s = c .before .before in
-    (s .pre .0 .size, rowSet _ (s .pre .0) (s .pre .1), omega arith, omega arith, omega arith, omega arith)
+reports-of-requires c κs = search needs
 
 reports-of-requires-2 : tie.Need-reports-of-requires-2
-reports-of-requires-2 c κs =
-    let s = c .before .before .before .before in
-    (s .pre .0 .size, rowSet _ (s .pre .0) (s .pre .1), omega arith, omega arith, omega arith, omega arith)
+reports-of-requires-2 c κs = search needs
 
 tell-in-requires : tie.Need-tell-in-requires
 tell-in-requires c κs =
-    let read = c .before in
-    let s = read .before .before .before .before .before in
-    (s .pre .0, s .pre .1, record { proofs = read .before .before .reports-of .ensures; suggests = read .reports-of2 .ensures })
-
-same-length : tie.Need-same-length
-same-length c = search needs
+    let s = c .before .before .before .before .before .before .before .before .before .before in
+    let set = c .before .before .before .before .before .before .before .settings-in .ensures in
+    let some = subst (λ (x : Settings). 0 < x .n) (sym set) (s .pre) in
+    (search needs, set, some, record { proofs = c .before .before .before .before .reports-of .ensures; suggests = c .before .reports-of2 .ensures })
 
 returns : tie.Need-returns
-returns c = c .before .before .tell-in .ensures
+returns c = search needs
 
 pub enter-in-spec : {M : Type 1} → statement M
 enter-in-spec =
     tie.close
     (tie.spec
+    settings-in-requires
     reports-of-requires
     reports-of-requires-2
     tell-in-requires
-    same-length
     returns)

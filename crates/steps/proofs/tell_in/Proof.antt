@@ -1,7 +1,6 @@
 -- `steps::tell_in` meets its contract: by whether the vault leads the view.
 -- Assumes nothing.
-use native.Mathlib.Omega.{arith}
-use Rattle.steps.proofs.Steps.{rowSet, someSet, didLead, didFollow}
+use Rattle.steps.proofs.Steps.{doesLead, doesFollow}
 use borrow.Author.Needs.{needs}
 use Rattle.steps.proofs.tell_in.Statement.{statement}
 use Rattle.steps.proofs.tell_in.Tie as tie
@@ -10,43 +9,41 @@ timer-millis-requires : tie.Need-timer-millis-requires
 timer-millis-requires c κs = search needs
 
 leader-in-requires : tie.Need-leader-in-requires
-leader-in-requires c κs =
-    let s = c .before .before in
-    someSet _ (s .pre .0) (s .pre .1)
+leader-in-requires c κs = search needs
 
-keep-entered-requires : tie.Need-keep-entered-requires
-keep-entered-requires c κs =
-    let s = c .before .before .before .before in
-    (s .pre .0 .size, rowSet _ (s .pre .0) (s .pre .1))
+put-view-requires : tie.Need-put-view-requires
+put-view-requires c κs = search needs
 
 keep-told-requires : tie.Need-keep-told-requires
-keep-told-requires c κs =
-    let kept = c .before .before .before .before .before in
-    let s = kept .before .before .before .before .before in
-    (omega arith, record { low = omega arith; high = omega arith; row = rowSet _ (s .pre .0) (s .pre .1) }, kept .keep-entered .ensures .size)
+keep-told-requires c κs = search needs
+
+keep-told-requires-2 : tie.Need-keep-told-requires-2
+keep-told-requires-2 c κs = search needs
 
 same-length : tie.Need-same-length
 same-length c = search needs
 
 returns : tie.Need-returns
 returns c =
-    let branch = c .before .before .before .before in
-    let kept = branch .before .before .before .before in
-    let leader = kept .before .before in
-    let s = leader .before .before .before in
-    didLead _ (s .pre .0) _ (s .pre .1) (s .args .w) (s .args .proof) (s .args .suggest) (s .pre .2) _ _ (leader .before .timer-millis .ensures)
-    (leader .leader-in .ensures) (kept .keep-entered .ensures) (branch .if1 .taken) (c .before .before .keep-told .ensures)
+    let s = c .before .before .before .before .before .before .before .before .before .before .before .before .before .before .before .before .before in
+    doesLead (s .pre .0) (s .pre .1) (s .args .w) (s .pre .3 .proofs) (s .pre .3 .suggests)
+    (c .before .before .before .before .before .before .before .before .before .before .before .before .before .before .before .timer-millis .ensures)
+    (c .before .before .before .before .before .before .before .before .before .before .before .before .before .before .leader-in .ensures)
+    (c .before .before .before .before .before .before .before .before .before .before .before .before .put-view .ensures)
+    (c .before .before .before .before .before .before .before .before .keep-told .ensures) (c .before .before .before .before .if1 .taken)
+    (c .before .before .keep-told2 .ensures)
 
 same-length-2 : tie.Need-same-length-2
 same-length-2 c = search needs
 
 returns-2 : tie.Need-returns-2
 returns-2 c =
-    let kept = c .before .before .before .before in
-    let leader = kept .before .before in
-    let s = leader .before .before .before in
-    didFollow _ (s .pre .0) _ (s .pre .1) (s .args .w) (s .args .proof) (s .args .suggest) (s .pre .2) _ _ (leader .before .timer-millis .ensures)
-    (leader .leader-in .ensures) (kept .keep-entered .ensures) (c .if1 .left)
+    let s = c .before .before .before .before .before .before .before .before .before .before .before .before .before in
+    doesFollow (s .pre .0) (s .pre .1) (s .args .w) (s .pre .3 .proofs) (s .pre .3 .suggests)
+    (c .before .before .before .before .before .before .before .before .before .before .before .timer-millis .ensures)
+    (c .before .before .before .before .before .before .before .before .before .before .leader-in .ensures)
+    (c .before .before .before .before .before .before .before .before .put-view .ensures) (c .before .before .before .before .keep-told .ensures)
+    (c .if1 .left)
 
 pub tell-in-spec : {M : Type 1} → statement M
 tell-in-spec =
@@ -54,8 +51,9 @@ tell-in-spec =
     (tie.spec
     timer-millis-requires
     leader-in-requires
-    keep-entered-requires
+    put-view-requires
     keep-told-requires
+    keep-told-requires-2
     same-length
     returns
     same-length-2

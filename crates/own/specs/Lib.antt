@@ -1,0 +1,3 @@
+pub mod Part
+pub mod Size
+pub mod inside
