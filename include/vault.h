@@ -84,7 +84,7 @@ extern "C" {
 #define VAULT_LONGEST_FRAME 45
 #define VAULT_REPORTS_SIZE 39     /* bytes of the three reports of a suggest or proof: those behind its first 6 */
 #define VAULT_LONGEST_TEXT 120    /* no text of vault_refusal_text is longer */
-#define VAULT_STACK_SIZE 49152    /* no call needs more stack */
+#define VAULT_STACK_SIZE 16384    /* no call needs more stack */
 #define VAULT_FEWEST 4            /* n is at least this */
 #define VAULT_MOST 64             /* and at most this */
 #define VAULT_FEWEST_RECORDS 2    /* vault_equivocators takes at least so many records */

@@ -13,16 +13,22 @@ use crate::table;
 const ROUNDS: u32 = 150;
 
 /// Calls from a fresh copy of the record. A refused call changes nothing, and may be repeated.
-fn caller<'a, S: Side>(clock: &'a Clock, case: &'a Case) -> Contender<'a> {
+/// Record and output lie where `place` puts them.
+fn caller<'a, S: Side, B: AsMut<[u8]> + 'a>(
+    clock: &'a Clock,
+    case: &'a Case,
+    place: impl Fn(&[u8], &[u8]) -> (B, B),
+) -> Contender<'a> {
     let lent = case.lend::<S>();
-    let state = (lent.clone(), vec![0; case.space]);
-    let call = move |(rec, out): &mut (Vec<u8>, Vec<u8>)| {
-        let _ = black_box(black_box(case).call.on::<S>(black_box(rec), black_box(out)));
+    let state = place(&lent, &vec![0; case.space]);
+    let call = move |(rec, out): &mut (B, B)| {
+        let (rec, out) = (black_box(rec.as_mut()), black_box(out.as_mut()));
+        let _ = black_box(black_box(case).call.on::<S>(rec, out));
     };
     if case.refused() {
         clock.repeated(state, call)
     } else {
-        clock.fresh(state, move |(rec, _)| rec.copy_from_slice(&lent), call)
+        clock.fresh(state, move |(rec, _)| rec.as_mut().copy_from_slice(&lent), call)
     }
 }
 
@@ -32,12 +38,22 @@ fn copier<S: Side>(clock: &Clock) -> Contender<'_> {
     clock.repeated(to, move |to| black_box(to).copy_from_slice(black_box(&from)))
 }
 
-pub fn group<'a>(clock: &'a Clock, case: &'a Case) -> Group<'a> {
+/// All sides, each with record and output where `place` puts them.
+pub fn group_at<'a, B: AsMut<[u8]> + 'a>(
+    clock: &'a Clock,
+    case: &'a Case,
+    place: impl Fn(&[u8], &[u8]) -> (B, B),
+) -> Group<'a> {
     Group {
-        library: caller::<Rattle>(clock, case),
-        in_place: caller::<InPlace>(clock, case),
-        reference: caller::<Reference>(clock, case),
+        library: caller::<Rattle, B>(clock, case, &place),
+        in_place: caller::<InPlace, B>(clock, case, &place),
+        reference: caller::<Reference, B>(clock, case, &place),
     }
+}
+
+/// All sides, with record and output where they come to lie.
+pub fn group<'a>(clock: &'a Clock, case: &'a Case) -> Group<'a> {
+    group_at(clock, case, |rec, out| (rec.to_vec(), out.to_vec()))
 }
 
 pub fn print(clock: &Clock, summary: &mut Summary, n: u8, f: u8) {

@@ -7,6 +7,7 @@ mod counts;
 mod equivocation;
 mod folder;
 mod lines;
+mod offsets;
 mod reaches;
 mod records;
 mod remnants;
@@ -37,10 +38,10 @@ Times are the best of some rounds; rounds of the sides take turns. A ratio is th
 over the other's: above 1 the library is the slower; where the other's is too short to be told well
 there is none. Before it is timed each call is made once at all sides, on records of the same
 contents, made by the same calls (an unsound record is one of these with its contents changed):
-answer, output bytes and contents afterwards are the same. In part 1 each accepted call gets a fresh
-copy of its record, made outside the timed section; refused calls, which change nothing, follow each
-other on one copy. So records are warm in the cache. Outputs are not cleared between calls. The
-clock's own {:.0} ns are taken off each timed section.
+answer, output bytes and contents afterwards are the same. In parts 1 and 10 each accepted call gets
+a fresh copy of its record, made outside the timed section; refused calls, which change nothing,
+follow each other on one copy. So records are warm in the cache. Outputs are not cleared between
+calls. The clock's own {:.0} ns are taken off each timed section.
 
 The in-place vault (bench/inplace) is what plain Rust reaches on the library's own {} bytes: whole
 calls, nothing decoded, wide scans. It is compared with the library byte for byte. The reference is
@@ -73,5 +74,6 @@ fn main() {
     equivocation::print(&clock, &mut summary, &SIZES);
     remnants::print(&clock, &mut summary, &[SIZES[0], SIZES[2]]);
     reaches::print(&clock, &mut summary);
+    offsets::print(&clock, &mut summary, &[SIZES[0], SIZES[2]]);
     summary.print();
 }

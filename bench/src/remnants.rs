@@ -182,8 +182,8 @@ pub fn print(clock: &Clock, summary: &mut Summary, sizes: &[(u8, u8)]) {
     compare();
     table::head(
         "8. Remnants written, and restarts from them
-   A restart makes a record apart and tests it for soundness; then the library makes it once more,
-   where it is lent, and the in-place vault copies it there",
+   The library tests what a remnant says, and then makes the record, once, where it is lent; the
+   in-place vault makes one apart, tests it for soundness and copies it there",
         "nanoseconds a call",
     );
     for &(n, f) in sizes {

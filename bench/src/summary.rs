@@ -11,6 +11,7 @@ pub enum Aim {
     Quiet,
     Vain,
     Refused,
+    /// Wherever record and output lie: the worst offsets of part 10 count too.
     Acting,
     Run,
     Search,
@@ -52,7 +53,7 @@ impl Aim {
             Aim::Quiet => "call accepted, no step acts or searches",
             Aim::Vain => "call accepted, no step acts, C or D searches",
             Aim::Refused => "call refused",
-            Aim::Acting => "call in which a step acts",
+            Aim::Acting => "call in which a step acts, at every offset",
             Aim::Run => "whole run of 4 or of 64 vaults",
             Aim::Search => "slowest search at n = 64",
             Aim::Twice => "who spoke twice, in 2 to 64 records",
@@ -65,9 +66,10 @@ impl Aim {
     /// The most of a ratio to the in-place vault; for lines the least of one to the reference.
     fn bound(self) -> f64 {
         match self {
-            Aim::Quiet | Aim::Vain | Aim::Refused | Aim::Twice | Aim::Remnant | Aim::Reach => 2.5,
-            Aim::Acting | Aim::Search => 5.0,
-            Aim::Run => 4.0,
+            Aim::Quiet | Aim::Vain | Aim::Refused | Aim::Acting => 2.5,
+            Aim::Twice | Aim::Remnant | Aim::Reach => 2.5,
+            Aim::Run => 1.9,
+            Aim::Search => 5.0,
             Aim::Lines => 3.0,
         }
     }

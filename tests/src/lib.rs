@@ -13,6 +13,7 @@ pub mod faults;
 pub mod frames;
 pub mod lists;
 pub mod met;
+pub mod offsets;
 pub mod pages;
 pub mod program;
 pub mod random;

@@ -9,6 +9,10 @@ mod sys {
         pub fn vault_claim_reach(reports: *const u8, len: usize, plan: u64) -> u64;
         pub fn vault_remnant_size() -> u32;
         pub fn vault_write_remnant(rec: *const u8, rec_len: usize, out: *mut u8, out_len: usize) -> u32;
+        pub fn vault_current(rec: *const u8, rec_len: usize, out: *mut u32, out_count: usize) -> u32;
+        pub fn vault_decision(rec: *const u8, rec_len: usize, out: *mut u64, out_count: usize) -> u32;
+        pub fn vault_entry(out: *const u8, out_len: usize, at: usize) -> u32;
+        pub fn vault_refusal_text(number: u32, out: *mut u8, out_len: usize) -> u32;
         pub fn vault_restart(rec: *mut u8, rec_len: usize, remnant: *const u8, len: usize, out: *mut u8, out_len: usize) -> u32;
     }
 }
@@ -79,4 +83,35 @@ pub fn restart(rec: &mut [u8], remnant: &[u8], out: &mut [u8]) -> Result<usize, 
         266 => Ok(10),
         code => panic!("no such answer: {code}"),
     }
+}
+
+/// The current view, and the milliseconds of its timer.
+pub fn current(rec: &[u8]) -> Result<[u32; 2], u8> {
+    let mut out = [0; 2];
+    match unsafe { sys::vault_current(rec.as_ptr(), rec.len(), out.as_mut_ptr(), out.len()) } {
+        code @ (2 | 3) => Err(code as u8),
+        256 => Ok(out),
+        code => panic!("no such answer: {code}"),
+    }
+}
+
+/// The decision's view and plan.
+pub fn decision(rec: &[u8]) -> Result<Option<[u64; 2]>, u8> {
+    let mut out = [0; 2];
+    match unsafe { sys::vault_decision(rec.as_ptr(), rec.len(), out.as_mut_ptr(), out.len()) } {
+        code @ (2 | 3) => Err(code as u8),
+        256 => Ok(None),
+        257 => Ok(Some(out)),
+        code => panic!("no such answer: {code}"),
+    }
+}
+
+/// The length of the entry that begins there.
+pub fn entry(out: &[u8], at: usize) -> usize {
+    unsafe { sys::vault_entry(out.as_ptr(), out.len(), at) as usize }
+}
+
+/// The length of the sentence that is written.
+pub fn refusal_text(number: u32, out: &mut [u8]) -> usize {
+    unsafe { sys::vault_refusal_text(number, out.as_mut_ptr(), out.len()) as usize }
 }

@@ -1,5 +1,5 @@
 //! How deep the stack of a call gets: each call runs on a painted stack of its own, and the paint that is left tells. A thread of a small
-//! C library has 128 KB, and a call may take at most 48 KB of it.
+//! C library has 128 KB, and a call may take at most 16 KB of it.
 #![cfg(target_arch = "x86_64")]
 use std::arch::asm;
 use std::ffi::c_void;
@@ -7,14 +7,15 @@ use std::fmt::Debug;
 
 use comparison::case::{Case, Class, SPACE};
 use comparison::lists::List;
-use comparison::records::{frame_slot, fresh, put, LEN, PREVIOUS};
+use comparison::records::{frame_slot, fresh, put, DECISION, LEN, PREVIOUS};
 use comparison::remnants::REMNANT_SIZE;
 use comparison::sides::Rattle;
 use comparison::{cases, vaults};
 use reference::frame::Report;
 use reference::reaches::spelled;
 
-const MOST: usize = 48 * 1024;
+/// What include/vault.h names as `VAULT_STACK_SIZE`.
+const MOST: usize = 16 * 1024;
 /// Far more than a call takes.
 const STACK: usize = 1 << 20;
 /// What is painted. A call may leave such a byte itself, but hardly both.
@@ -81,7 +82,7 @@ fn full_list() -> List {
 
 /// Where everyone is named, and where all is well but the last record: both look at all of them.
 #[test]
-fn no_list_takes_more_than_48_kilobytes() {
+fn no_list_takes_more_than_16_kilobytes() {
     let mut list = full_list();
     for wanted in [Ok(64), Err(24)] {
         let once = |paint| {
@@ -108,10 +109,9 @@ fn deepest<T: Copy + PartialEq + Debug>(lent: &[u8], mut call: impl FnMut(&mut [
     PAINTS.map(once).into_iter().max().expect("two paints")
 }
 
-/// Of 64 vaults and of 4: a remnant of a full record, and the restart from it, which tests a record of its own. Both accepted, and refused as
-/// late as they get.
+/// Of 64 vaults and of 4: a remnant of a full record, and the restart from it. Both accepted, and refused as late as they get.
 #[test]
-fn no_remnant_takes_more_than_48_kilobytes() {
+fn no_remnant_takes_more_than_16_kilobytes() {
     for (n, f) in [(4, 1), (64, 21)] {
         let mut full = fresh([n, f, 0, 0], 0, 7);
         let votes = (2..=5).flat_map(|kind| (0..usize::from(n)).map(move |sender| frame_slot(kind, sender)));
@@ -135,13 +135,39 @@ fn no_remnant_takes_more_than_48_kilobytes() {
 
 /// Accepted, and refused as late as it gets.
 #[test]
-fn no_claims_reach_takes_more_than_48_kilobytes() {
+fn no_claims_reach_takes_more_than_16_kilobytes() {
     let [highest, previous] = [(4, 5), (2, 6)].map(|(view, plan)| Some(Report { view, plan }));
     for (reports, wanted) in [([highest, previous, None], Ok(2)), ([previous, highest, None], Err(22))] {
         let bytes = deepest(&spelled(&reports), |reports| vaults::claim_reach(reports, 6), wanted);
         println!("{bytes:>7} bytes of stack, a claim's reach: {wanted:?}");
         assert!(bytes <= MOST);
     }
+}
+
+/// What a host asks besides: of a full record and of an unsound one, of an output, and for the sentence that is asked for last.
+#[test]
+fn no_question_takes_more_than_16_kilobytes() {
+    let mut full = full_list().records[..LEN].to_vec();
+    put(&mut full, DECISION, 1, 0, 7);
+    let mut unsound = full.clone();
+    put(&mut unsound, PREVIOUS[1], 1, 0, 0);
+    let depths = [
+        deepest(&full, |rec| vaults::current(rec), Ok([0, 180])),
+        deepest(&unsound, |rec| vaults::current(rec), Err(3)),
+        deepest(&full, |rec| vaults::decision(rec), Ok(Some([0, 7]))),
+        deepest(&unsound, |rec| vaults::decision(rec), Err(3)),
+        deepest(&[0xfe, 0x0b, 0, 0, 0, 0, 0, 0, 0, 180], |out| Ok(vaults::entry(out, 0)), Ok(10)),
+        deepest(&[0; SPACE], |out| Ok(vaults::refusal_text(26, out) > 0), Ok(true)),
+    ];
+    println!("{depths:?} bytes of stack: current, decision, entry, refusal_text");
+    assert!(depths.iter().all(|&bytes| bytes <= MOST));
+}
+
+/// Hosts go by the header.
+#[test]
+fn the_header_names_the_bound() {
+    let header = include_str!("../../include/vault.h");
+    assert!(header.contains(&format!("#define VAULT_STACK_SIZE {MOST} ")));
 }
 
 /// The measure itself: an array of known size shows.
@@ -158,7 +184,7 @@ fn a_written_array_shows() {
 }
 
 #[test]
-fn no_call_takes_more_than_48_kilobytes() {
+fn no_call_takes_more_than_16_kilobytes() {
     let mut all = Vec::new();
     for (n, f) in [(4, 1), (64, 21)] {
         let cases = cases::all(n, f);
