@@ -1,18 +1,18 @@
 -- An own part with a slot or the view changed is the record so changed, whatever was heard: a slot put into the part is the slot put into the record.
 -- Assumes nothing.
-use Prim.Native.Nat.{ℕ, _+_, _*_, _^_, _≤_, _<_}
-use mathlib.Core.Path.{_≡_, refl, sym, _∙_, ap, subst}
+use Prim.Native.Nat.{ℕ, _+_, _^_, _≤_, _<_}
+use mathlib.Core.Path.{_≡_, _∙_}
 use mathlib.Core.Logic.{_≢_}
 use mathlib.Core.List.{List}
 use native.Mathlib.Omega.{arith}
 use native.Mathlib.Decide.{ℕ-discrete}
 use lib.ListN.{length, getD}
-use Rattle.wire.specs.Digits.{numberAt, digits}
+use Rattle.wire.specs.Digits.{digits}
 use Rattle.wire.specs.Placed.{placed}
 use Rattle.wire.proofs.Laws.{lengthDigits}
 use Rattle.wire.proofs.Output.{lengthPlaced}
 use Rattle.frame.specs.declared.Report.{Report}
-use Rattle.record.specs.Slots.{Record, rows, slotOf}
+use Rattle.record.specs.Slots.{rows, slotOf}
 use Rattle.record.specs.inside.Slots.{withSlot, withView}
 use Rattle.record.specs.Layout.{slotSize, slotIn, slotBytes}
 use Rattle.record.specs.inside.Layout.{Small}
@@ -20,7 +20,7 @@ use Rattle.record.proofs.Bytes.{placedOther, numberSame, numberPut}
 use Rattle.record.proofs.Laws.{slotBytesSame, slotPutAt, putSize, putByte}
 use Rattle.own.specs.Size.{remnantSize}
 use Rattle.own.specs.Part.{remnantSlots, remnantPlace, ownSlot, putOver, over}
-use Rattle.own.specs.inside.Own.{ownIn, Changes}
+use Rattle.own.specs.inside.Own.{Changes}
 use Rattle.own.proofs.Slots.{overSame, overPut, overOwn}
 
 -- ---- the part's bytes

@@ -9,7 +9,7 @@ use native.Mathlib.Numerals.{add-one}
 use native.Mathlib.Omega.{arith}
 use native.Mathlib.Decide.{decLt, ℕ-discrete}
 use lib.Dec.{ltb, eqb}
-use borrow.Author.Tests.{lt-ltb, le-ltb, eq-eqb, ne-eqb, eqb-true, eqb-false}
+use borrow.Author.Tests.{lt-ltb, le-ltb, eq-eqb, ne-eqb, eqb-true}
 use Rattle.frame.specs.declared.Report.{Report}
 use Rattle.record.specs.Slots.{rows, kinds, firstReport, firstPrevious, slotCount, frameSlot, reportSlot}
 use Rattle.record.specs.inside.Slots.{slotPut}

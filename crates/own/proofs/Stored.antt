@@ -1,7 +1,7 @@
 -- Laws of an own part that is read off a record and put back. Read, its bytes are the remnant of the record, since each of its parts is copied as it stands;
 -- put back, they make the record that they say with what was heard.
 -- Assumes nothing.
-use Prim.Native.Nat.{ℕ, zero, suc, _+_, _-_, _*_, _^_, _≤_, _<_}
+use Prim.Native.Nat.{ℕ, _+_, _-_, _*_, _≤_, _<_}
 use mathlib.Core.Path.{_≡_, refl, sym, ap, subst, _∙_}
 use mathlib.Core.List.{List, [], _∷_, _++_, append-assoc, append-nil}
 use native.Mathlib.Numerals.{add-one}
@@ -19,7 +19,7 @@ use Rattle.settings.specs.declared.Settings.{Settings}
 use Rattle.record.specs.Slots.{Record, rows, slotCount, slotOf}
 use Rattle.record.specs.Layout.{place, headSize, sharedSize, slotSize, slotIn, slotBytes, spelledSlots, decodeRecord}
 use Rattle.record.specs.Size.{recordSize}
-use Rattle.record.specs.inside.Slots.{slotPut, withSlot, withView}
+use Rattle.record.specs.inside.Slots.{withSlot, withView}
 use Rattle.record.specs.inside.Layout.{FitsBytes, HoldsRecord}
 use Rattle.record.proofs.Laws.{slotThere, holdsThere, smallIn, fitsDecoded}
 use Rattle.record.proofs.Put.{heldAs}

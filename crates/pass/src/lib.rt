@@ -21,7 +21,7 @@ ghost use Rattle.own.specs.inside.Own.{heardIn, OwnOf};
 ghost use Rattle.protocol.specs.Pass.{ask, enter, cast, decide, taken, pass};
 ghost use Rattle.contents.specs.Contents.{contentsIn};
 ghost use Rattle.contents.specs.inside.Ready.{Ready};
-ghost use Rattle.acts.specs.inside.Acts.{asAct, actAt};
+ghost use Rattle.acts.specs.inside.Acts.{asAct};
 ghost use Rattle.steps.specs.inside.Steps.{listOf};
 ghost use Rattle.steps.specs.inside.Order.{stepAt};
 ghost use Rattle.pass.specs.inside.Steps.{Room, Due, Ran};

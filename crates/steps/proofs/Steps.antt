@@ -18,19 +18,17 @@ use Rattle.settings.specs.declared.Settings.{Settings}
 use Rattle.settings.specs.Settings.{delayOf}
 use Rattle.frame.specs.declared.Report.{Report}
 use Rattle.frame.specs.declared.Reports.{Reports}
-use Rattle.frame.specs.declared.Body.the-variants.{Plan, Empty}
+use Rattle.frame.specs.declared.Body.the-variants.{Empty}
 use Rattle.frame.specs.declared.Frame.{Frame}
-use Rattle.frame.specs.Valid.{fits}
 use Rattle.frame.specs.Refusal.{leaderOf}
 use Rattle.frame.specs.inside.Reading.{presentAt}
 use Rattle.frame.proofs.Laws.{inside}
 use Rattle.entry.specs.declared.Entry.{Entry}
 use Rattle.entry.specs.declared.Entry.the-variants.{ForAll, ForOne, Timer, Decision}
 use Rattle.record.specs.Slots as slots
-use Rattle.wire.specs.Digits.{numberAt}
 use Rattle.record.specs.Slots.{rows, slotOf, decisionSlot, frameSlot, reportSlot, previousSlot}
 use Rattle.record.specs.inside.Slots.{withView, withSlot}
-use Rattle.record.specs.Layout.{slotIn, decodeRecord}
+use Rattle.record.specs.Layout.{decodeRecord}
 use Rattle.record.specs.inside.Layout.{HoldsRecord}
 use Rattle.record.specs.inside.Kept.{told, keepFrame, withReports}
 use Rattle.record.specs.inside.Keeping.{moves, shiftedSlots, ownBroadcast}
@@ -53,12 +51,11 @@ use Rattle.contents.specs.Lent.{Clean}
 use Rattle.contents.specs.inside.Ready.{Ready}
 use Rattle.contents.proofs.Parts.{decided, cleanDecide}
 use Rattle.contents.proofs.Acts.{contentsCast, cleanCast, contentsAsk, cleanAsk, tellsAt, enteredBy, contentsEnter, cleanEnter, contentsDecided}
-use Rattle.contents.proofs.Ready.{readyAs, readyAllowed, readyRow}
+use Rattle.contents.proofs.Ready.{readyAs, readyRow}
 use Rattle.acts.specs.declared.Act as acts
-use Rattle.acts.specs.declared.Act.the-variants.{Ask, Enter, Cast, Decide}
-use Rattle.acts.specs.inside.Acts.{asAct, actAt}
+use Rattle.acts.specs.inside.Acts.{actAt}
 use Rattle.steps.specs.declared.Entries.{Entries}
-use Rattle.steps.specs.declared.Entries.the-variants.{Zero, Sent, Decided, Led, Followed}
+use Rattle.steps.specs.declared.Entries.the-variants.{Sent, Decided, Led, Followed}
 use Rattle.own.specs.Size.{remnantSize}
 use Rattle.own.specs.Part.{remnantSlots, ownSlot, over}
 use Rattle.own.specs.inside.Own.{heardIn, ownIn, settingsIn, viewIn, reportsIn, OwnOf, Changes}
@@ -74,10 +71,6 @@ use Rattle.steps.specs.inside.Order.{stepAt, ActOf}
 didHeld : {o : Out} {t r : slots.Record} {e : Entries} → t ≡ r → contents r ≡ o .left → Clean r → listOf e ≡ o .wrote → Did o t e
 didHeld held left clean wrote = record { left = ap contents held ∙ left; clean = subst Clean (sym held) clean; wrote = wrote }
 
--- A vote's frame has a plan as its body, as the frame that is kept must.
-pub fitsVote : (k p : ℕ) → k ≤ 4 → fits (k + 1) (Plan p) ≡ true
-fitsVote k p low = inside 1 5 (k + 1) (omega arith) (omega arith)
-
 module _ (rec : List ℕ) (h : Ready rec) where
   -- The record's slots.
   abbrev r : slots.Record
@@ -91,17 +84,13 @@ module _ (rec : List ℕ) (h : Ready rec) where
   row : r .set .id < rows
   row = readyRow h
 
-  -- The settings as the code has them: the own number has a row, and there are vaults.
+  -- The own number as the code has it.
   pub rowOf : {id : ℕ} → id ≡ r .set .id → id < rows
   rowOf own = subst (λ (i : ℕ). i < rows) (sym own) row
 
   -- The same of the settings whole.
   pub rowSet : {set : Settings} → set ≡ r .set → set .id < rows
   rowSet own = rowOf (ap (λ (s : Settings). s .id) own)
-
-  -- There is at least one vault, so a view has a leader.
-  pub someSet : {set : Settings} → set ≡ r .set → 0 < set .n
-  someSet own = subst (λ (s : Settings). 0 < s .n) (sym own) (omega (arith, readyAllowed h .own))
 
   -- To ask for a view: the view-change in the own row, and sent to all.
   pub didAsk : {id w : ℕ} {left : slots.Record} → id ≡ r .set .id → left ≡ (keepFrame r id (changes id w))
@@ -126,10 +115,6 @@ module _ (rec : List ℕ) (h : Ready rec) where
   didDecide {p} {left = left} now is held =
       didHeld (subst (_≡_ left) (λ i. decided r (now i) p) (subst (λ (x : Report). left ≡ (withSlot r decisionSlot x)) is held))
       (contentsDecided r p) (cleanDecide r (r .view) p (h .clean)) (λ i. Decision (now i) p ∷ [])
-
-  -- Nothing to do: the record as it is, and no entries.
-  pub didNothing : Did (taken c none) r Zero
-  didNothing = record { left = refl; clean = h .clean; wrote = refl }
 
   -- To enter a view: the frames that are told, the timer and the leader as the code has them.
   module _ (set : Settings) (own : set ≡ r .set) (w : ℕ) (proofs suggests : Reports) (tellsOwn : OwnReports r (set .id) proofs suggests) where

@@ -1,6 +1,6 @@
 -- `steps::enter_in` meets its contract: with the own reports as they are before the view is entered.
 -- Assumes nothing.
-use Prim.Native.Nat.{ℕ, _<_}
+use Prim.Native.Nat.{_<_}
 use mathlib.Core.Path.{sym, subst}
 use Rattle.settings.specs.declared.Settings.{Settings}
 use borrow.Author.Needs.{needs}
