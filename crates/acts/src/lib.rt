@@ -1,5 +1,6 @@
 // When each step of document 01's pass acts ('One pass', A to H), read off a record's lent bytes: A and B are lent its shared part,
 // C to H the practice's block. The answer says what is to be done.
+#![tactic(auto)]
 ghost use Rattle.std.specs.Prelude.{◌≤◌, ◌<◌, ◌≡◌};
 ghost use Rattle.record.specs.Layout.{decode_record};
 ghost use Rattle.safe.specs.Choices.{chosen};
@@ -15,7 +16,7 @@ use safe::Choice;
 use settings::Settings;
 
 // What a step does: ask for a view, enter it, send a vote (0: a proposal) for a plan, decide a plan, or nothing.
-#[derive(Drop)]
+#[derive(Clone, Copy)]
 pub enum Act {
     Ask(u32),
     Enter(u32),

@@ -1,6 +1,7 @@
 // One line of the line program of document 01: the call that its bytes make, and what that prints.
 //
 // What a line leaves and prints is a definition, `vault_lines` (specs/Lines); `answer_line` is exact.
+#![tactic(auto)]
 ghost use Rattle.std.specs.Prelude.{◌≡◌, [], ◌+◌, ◌*◌, ◌≤◌, ◌<◌, length, take};
 ghost use Rattle.entry.specs.Reading.{entries_of};
 ghost use Rattle.vault.specs.Answers.{left_by};
@@ -157,7 +158,7 @@ pub const PIECE: usize = 4096;
 pub const PAGE: usize = 293858;
 
 // How much is kept of the line that has begun, and how much is on the page.
-#[derive(Drop)]
+#[derive(Clone, Copy)]
 pub struct Place {
     pub len: usize,
     pub at: usize,

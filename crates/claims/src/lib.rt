@@ -1,5 +1,6 @@
 // Claims: who claims which plan at a view (document 01, 'When a plan is safe'), from a lent table of reports, prepared in a row of plans.
 // A plan's walk goes down the candidate views with one count and ends at the first one that serves the plan. So does the lock search, by spans.
+#![tactic(auto)]
 ghost use Rattle.std.specs.Prelude.{◌+◌, ◌-◌, ◌*◌, ◌≤◌, ◌<◌, max, ◌≡◌, cond, not, leb, eqb, length, set};
 ghost use Rattle.rules.specs.Sets.{weigh};
 ghost use Rattle.claims.specs.inside.Rows.{rows_size, for_plan, FitsRow, added, SameBelow};
@@ -27,7 +28,7 @@ pub const LOCK: usize = 5 * COLUMN;
 pub const LOCKED: usize = 6 * COLUMN;
 
 // How many are for every plan, and how many others for one plan only, which stands in a row of plans.
-#[derive(Drop)]
+#[derive(Clone, Copy)]
 pub struct Tally {
     pub every: usize,
     pub some: usize,
@@ -35,7 +36,7 @@ pub struct Tally {
 
 // Who comes in at a candidate view: how many for every plan; how many for one plan only, which stands in the row, from a place on; and
 // how many for every plan but one: those plans are the row's first.
-#[derive(Drop)]
+#[derive(Clone, Copy)]
 pub struct Coming {
     pub every: usize,
     pub from: usize,
@@ -44,7 +45,7 @@ pub struct Coming {
 }
 
 // Who comes in at the view after u, and at u.
-#[derive(Drop)]
+#[derive(Clone, Copy)]
 pub struct Claims {
     pub next: Coming,
     pub here: Coming,
@@ -52,7 +53,7 @@ pub struct Claims {
 
 // What a search goes by: n and f, the view v, the lowest view u that can serve a plan; who comes in at the next view and at view u, and
 // whom the locks let be at view u.
-#[derive(Drop)]
+#[derive(Clone, Copy)]
 pub struct Search {
     pub n: usize,
     pub f: usize,
@@ -116,7 +117,7 @@ fn higher(a: u64, b: u64) -> u64
 }
 
 // A vote that a report tells: its view, 0 where there is none, and its plan.
-#[derive(Drop)]
+#[derive(Clone, Copy)]
 pub struct Vote {
     pub view: u64,
     pub plan: u64,
@@ -262,7 +263,7 @@ fn list_at<'a>(
 
 // How many plans are listed: of those that claim their own in both candidate views, with the others at u or not, and of those that claim
 // their own at u.
-#[derive(Drop)]
+#[derive(Clone, Copy)]
 struct Row {
     both: usize,
     only: usize,

@@ -1,4 +1,5 @@
 // Output entries: written end to end, and walked one after the other.
+#![tactic(auto)]
 ghost use Rattle.std.specs.Prelude.{◌≡◌, ◌+◌, ◌≤◌, length, drop, ◌∷◌};
 ghost use Rattle.wire.specs.Fields.{spell};
 ghost use Rattle.wire.specs.inside.Widths.{widths, total_width};
@@ -10,7 +11,7 @@ ghost use Rattle.entry.specs.Walk.{host_size, frame_size, size_by, size_in};
 use frame::{Frame, numbers};
 
 // An entry of the output: a frame for all vaults or for one, or word to the host that a timer is to run or a plan is decided.
-#[derive(Drop)]
+#[derive(Clone, Copy)]
 pub enum Entry {
     ForAll(Frame),
     ForOne(u8, Frame),

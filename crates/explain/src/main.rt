@@ -1,6 +1,7 @@
 // Explains lines of vaultlines and of rehearsal, given and printed: each is shown, with its meaning in plain words below it.
 //
 // Proved: it ends, and touches only what it is lent. Digits are read by crate lines and frames by crate frame; the sentences are tested.
+#![tactic(auto)]
 mod frames;
 mod given;
 mod printed;
@@ -138,7 +139,7 @@ fn explain_line(text: &[u8], before: Line) -> Line
 // ---- the input, in pieces
 
 // How much is kept of the line that has begun, the line given last, and whether the input is over.
-#[derive(Drop)]
+#[derive(Clone, Copy)]
 struct Place {
     len: usize,
     given: Line,

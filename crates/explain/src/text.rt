@@ -35,7 +35,7 @@ const SHOWN: u8 = 0;
 const MENDED: u8 = 1;
 
 // How a line is written: how many characters are left where blanks and carriage returns are dropped, and how many are of each sort.
-#[derive(Drop)]
+#[derive(Clone, Copy)]
 pub(crate) struct Writing {
     pub(crate) is_cut: bool,
     pub(crate) digits: usize,
@@ -46,7 +46,7 @@ pub(crate) struct Writing {
 }
 
 // A line as it was read, and the program that it is of. Where it could be mended, the first count bytes are what it spells.
-#[derive(Drop)]
+#[derive(Clone, Copy)]
 pub(crate) struct Line {
     pub(crate) program: u8,
     pub(crate) is_read: bool,

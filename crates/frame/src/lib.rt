@@ -1,4 +1,5 @@
 // Frames by value, and the tests of refusals 9 to 15, 21 and 22 in the four groups that callers use apart.
+#![tactic(auto)]
 ghost use Rattle.std.specs.Prelude.{◌≡◌, false, ◌||◌, ◌++◌, ◌<◌};
 ghost use Rattle.frame.specs.Format.{length_of, three_reports};
 ghost use Rattle.frame.specs.Refusal.{bad_form, too_high, bad_previous, view_missing, misled, first, any, form_rows, link_rows, report_rows, content_rows, leader_rows};
@@ -16,7 +17,7 @@ const BARE_LENGTH: usize = 6;
 const REPORTS_LENGTH: usize = 45;
 
 // A report of one vote: mark 1 is present; mark 0 is absent, with view and plan 0.
-#[derive(Drop)]
+#[derive(Clone, Copy)]
 pub struct Report {
     pub mark: u8,
     pub view: u32,
@@ -36,7 +37,7 @@ pub fn present(view: u32, plan: u64) -> Report
 
 // The three reports of a suggest (highest vote-2, previous vote-2, highest vote-3) or a proof (highest vote-1,
 // previous vote-1, highest vote-4).
-#[derive(Drop)]
+#[derive(Clone, Copy)]
 pub struct Reports {
     pub highest: Report,
     pub previous: Report,
@@ -44,14 +45,14 @@ pub struct Reports {
 }
 
 // What follows the head: a plan in kinds 1 to 5, nothing in kind 6, reports in kinds 7 and 8.
-#[derive(Drop)]
+#[derive(Clone, Copy)]
 pub enum Body {
     Plan(u64),
     Empty,
     Told(Reports),
 }
 
-#[derive(Drop)]
+#[derive(Clone, Copy)]
 pub struct Frame {
     pub kind: u8,
     pub sender: u8,
@@ -60,7 +61,7 @@ pub struct Frame {
 }
 
 // What reading finds: a frame, or the number of a refusal.
-#[derive(Drop)]
+#[derive(Clone, Copy)]
 pub enum Reading {
     Accepted(Frame),
     Refused(u8),

@@ -1,5 +1,6 @@
 // Lines of hexadecimal digits, for programs that read and print them: the bytes that a text spells, bytes put on a page as digits, and
 // lines taken from pieces of input. What a line is for, and how many digits it may have, the program says.
+#![tactic(auto)]
 ghost use Rattle.std.specs.Prelude.{◌≡◌, [], ◌∷◌, ◌++◌, ◌+◌, ◌*◌, ◌≤◌, ◌<◌, length, take, drop};
 ghost use Rattle.lines.specs.Digits.{value_of, digit_of, line_of, refusal_line, bytes_of};
 ghost use Rattle.lines.specs.inside.Lines.{first_line};
@@ -33,7 +34,7 @@ fn digit_of(x: u8) -> u8
 }
 
 // What a text spells: how many bytes, or none.
-#[derive(Drop)]
+#[derive(Clone, Copy)]
 pub enum Spelling {
     Count(usize),
     Bad,
@@ -119,7 +120,7 @@ fn keep(text: &mut [u8], len: usize, b: u8) -> usize
 }
 
 // How much is kept of a line, and where in the piece it ends; the piece's length where it goes on.
-#[derive(Drop)]
+#[derive(Clone, Copy)]
 pub struct Taken {
     pub len: usize,
     pub next: usize,
@@ -147,7 +148,7 @@ pub fn take_line(text: &mut [u8], len: usize, piece: &[u8], from: usize) -> Take
 // ---- the input, read in pieces
 
 // How reading ended: the input ran dry, with so much kept of a line that has not ended; or it failed, and that line is dropped.
-#[derive(Drop)]
+#[derive(Clone, Copy)]
 pub enum Ended {
     Dry(usize),
     Failed,

@@ -1,6 +1,7 @@
 // A rehearsal obeys a script of lines, on a stage (document 02, wish 2).
 //
 // What a line does to the stage and prints is a definition, `rehearsal` (crate stage, specs/Lines); `obey_line` is exact.
+#![tactic(auto)]
 ghost use Rattle.std.specs.Prelude.{◌≡◌, [], ◌+◌, ◌*◌, ◌≤◌, ◌<◌, length, take};
 ghost use Rattle.entry.specs.Reading.{entry_at, entries_of};
 ghost use Rattle.frame.specs.Refusal.{first};
@@ -173,7 +174,7 @@ pub const PIECE: usize = 1024;
 pub const PAGE: usize = 173094;
 
 // How much is kept of the line that has begun, and how much is on the page.
-#[derive(Drop)]
+#[derive(Clone, Copy)]
 pub struct Place {
     pub len: usize,
     pub at: usize,

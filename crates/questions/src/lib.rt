@@ -1,5 +1,6 @@
 // What a host may ask besides the calls. Of a stored record, when it comes back: the view, the timer of it, and the decision, which may
 // have been stored and not yet acted on. Of a refusal: its sentence.
+#![tactic(auto)]
 ghost use Rattle.std.specs.Prelude.{◌≡◌, ◌<◌, length};
 ghost use Rattle.sound.specs.declared.Lent.TheVariants.{Sound};
 ghost use Rattle.sound.specs.inside.Sound.{lent_is};
@@ -11,14 +12,14 @@ use frame::numbers;
 use sound::Lent;
 
 // The view that a record is in, and the milliseconds of its timer; or the number of a refusal.
-#[derive(Drop)]
+#[derive(Clone, Copy)]
 pub enum Current {
     Entered { view: u32, millis: u32 },
     Refused(u8),
 }
 
 // What a record has decided, and in which view; or that it has not yet; or the number of a refusal.
-#[derive(Drop)]
+#[derive(Clone, Copy)]
 pub enum Decision {
     Made { view: u32, plan: u64 },
     Open,

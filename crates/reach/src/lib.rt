@@ -1,4 +1,5 @@
 // Says how high a claim reaches: the highest view at which the reports of a suggest or proof claim a plan (document 02, wish 7).
+#![tactic(auto)]
 ghost use Rattle.std.specs.Prelude.{◌≡◌};
 ghost use Rattle.frame.specs.Format.{three_reports};
 ghost use Rattle.frame.specs.Refusal.{first};
@@ -11,7 +12,7 @@ use frame::{Reports, numbers};
 const LENGTH: usize = 39;
 
 // The highest view at which a plan is claimed; or the number of a refusal.
-#[derive(Drop)]
+#[derive(Clone, Copy)]
 pub enum Reach {
     View(u32),
     Refused(u8),

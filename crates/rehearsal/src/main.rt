@@ -3,6 +3,7 @@
 // What it prints for a whole input is a definition, `rehearsal_prints` (crate stage, specs/Lines). The input is read and fed in pieces, and the
 // pages are what `rehearsal_prints` says however it is split (`WholeInput`, crate obey, specs/Steps).
 // There the proof stops, at the input and output calls: no contract can say what `libc::read` reads and `io::write_all` writes.
+#![tactic(auto)]
 ghost use Rattle.std.specs.Prelude.{◌≡◌, ◌≤◌, length};
 ghost use Rattle.lines.specs.inside.Reading.{EndedWell};
 ghost use Rattle.stage.specs.Stage.{stage_size};

@@ -1,5 +1,6 @@
 // Safe plans (document 01, 'When a plan is safe'): Rule 1, Rule 3, and step C's choice, over a lent table of reports.
 // What a search needs is prepared once: who comes in for which plan at the next view and at view u, and whose lock allows which plan at view u.
+#![tactic(auto)]
 ghost use Rattle.std.specs.Prelude.{◌+◌, ◌-◌, ◌*◌, ◌≤◌, ◌<◌, ◌≡◌, cond, not, true, false, ◌&&◌, length, get_or};
 ghost use Rattle.rules.specs.Sets.{equals};
 ghost use Rattle.settings.specs.Vaults.{vaults_of};
@@ -139,7 +140,7 @@ fn locks_at<'a>(table: &'a [u64], n: usize, u: u32, plans: &mut [u64]) -> Tally
 
 // ---- what is prepared
 
-#[derive(Drop)]
+#[derive(Clone, Copy)]
 struct Parts {
     plans: [u64; ROOM],
     search: Search,
@@ -202,7 +203,7 @@ fn safe_one<'a>(plans: &'a [u64], c: Search, p: u64) -> bool
 // ---- the two-set clause
 
 // A plan, or none.
-#[derive(Drop)]
+#[derive(Clone, Copy)]
 pub enum Choice {
     Plan(u64),
     Nothing,

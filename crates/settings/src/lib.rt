@@ -1,4 +1,5 @@
 // A vault's settings: the refusals 5 to 8 of the place 'start', and the delay that the link class gives.
+#![tactic(auto)]
 ghost use Rattle.std.specs.Prelude.{◌≡◌, ◌*◌};
 ghost use Rattle.frame.specs.Refusal.{first};
 ghost use Rattle.settings.specs.Settings.{setting_rows, delay_of};
@@ -6,7 +7,7 @@ ghost use Rattle.settings.specs.Settings.{setting_rows, delay_of};
 use frame::numbers;
 
 // 'n, f, id, class': how many vaults there are, how many of them may break the rules, the vault's own number, its link class.
-#[derive(Drop)]
+#[derive(Clone, Copy)]
 pub struct Settings {
     pub n: u8,
     pub f: u8,

@@ -1,5 +1,6 @@
 // Whether lent bytes are a blank record, a sound one, or neither. They are read where they lie: in bulk where nothing is kept, else the
 // mark first, and the rest only where it is asked for.
+#![tactic(auto)]
 ghost use Rattle.std.specs.Prelude.{◌≡◌, not, ◌&&◌, ◌||◌, ◌+◌, ◌-◌, ◌*◌, ◌≤◌, ◌<◌, length, eqb, ltb};
 ghost use Rattle.frame.specs.Format.{within, three_reports};
 ghost use Rattle.frame.specs.Refusal.{first, absent, bad_form, bad_previous, report_rows};
@@ -15,7 +16,7 @@ use frame::{Report, numbers};
 use settings::Settings;
 
 // What lent bytes are.
-#[derive(Drop)]
+#[derive(Clone, Copy)]
 pub enum Lent {
     Blank,
     Unsound,
@@ -23,7 +24,7 @@ pub enum Lent {
 }
 
 // A kept frame's kind, sender and view.
-#[derive(Drop)]
+#[derive(Clone, Copy)]
 pub struct Head {
     pub kind: u8,
     pub sender: u8,

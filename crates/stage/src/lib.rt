@@ -1,6 +1,7 @@
 // The stage of a rehearsal: four vaults, the frames between them and the liar, and which lines are refused on it (document 02, wish 2).
 //
 // What a line does to the stage and prints is a definition, `rehearsal` (specs/Lines). Crate obey obeys it.
+#![tactic(auto)]
 ghost use Rattle.std.specs.Prelude.{◌≡◌, length, get_or};
 ghost use Rattle.frame.specs.Refusal.{first};
 ghost use Rattle.stage.specs.Stage.{stage_size};
@@ -48,7 +49,7 @@ pub const WAITS: u8 = 252;
 pub const LOST: u8 = 251;
 
 // Who wrote a frame, and its recipient byte.
-#[derive(Drop)]
+#[derive(Clone, Copy)]
 pub struct Way {
     pub writer: u8,
     pub to: u8,

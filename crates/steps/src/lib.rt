@@ -1,5 +1,6 @@
 // What each step of document 01's pass does ('One pass', A to H), on the vault's own part of its record by value: what it says of itself. A step hands
 // that part back with the entries. What the vault heard is only read, where the record lies.
+#![tactic(auto)]
 ghost use Rattle.std.specs.Prelude.{◌+◌, ◌-◌, ◌≤◌, ◌<◌, ◌≡◌, length, get_or};
 ghost use Rattle.std.proofs.Math.Option.{some};
 ghost use Rattle.frame.specs.Refusal.{leader_of};
@@ -19,7 +20,7 @@ use settings::Settings;
 
 // The entries that a step writes: none; a frame for all vaults (A, C to G); the decision (H); a timer, given by view and milliseconds,
 // with the proof for all (B, where the vault leads the view), and with the suggest for the leader (B elsewhere).
-#[derive(Drop)]
+#[derive(Clone, Copy)]
 pub enum Entries {
     Zero,
     Sent(Frame),
@@ -29,13 +30,13 @@ pub enum Entries {
 }
 
 // What a step wrote: as a struct it is stored in a field.
-#[derive(Drop)]
+#[derive(Clone, Copy)]
 pub struct Wrote {
     pub entries: Entries,
 }
 
 // A vault's own part of its record by value, with the entries of the step that left it. A step takes one and hands one back.
-#[derive(Drop)]
+#[derive(Clone, Copy)]
 pub struct Own {
     pub bytes: [u8; own::SIZE],
     pub wrote: Wrote,

@@ -1,5 +1,6 @@
 // What steps A to H count and gather (document 01, 'One pass'), over lent parts of a record: the highest view with enough
 // view-changes, over its shared part; the reports of a view and the plan that a quorum of votes is for, over its block.
+#![tactic(auto)]
 ghost use Rattle.std.specs.Prelude.{◌+◌, ◌-◌, ◌*◌, ◌≤◌, ◌<◌, ◌≡◌, not, cond, leb, ltb, eqb, length};
 ghost use Rattle.rules.specs.Sets.{weigh};
 ghost use Rattle.rules.specs.Options.{is_none, holds};
@@ -235,7 +236,7 @@ pub fn gather(block: &[u8], kind: u8, n: u8, v: u32) -> [u64; claims::TABLE]
 // ---- votes, for E to H
 
 // The plan that leads among votes, by how many, and how many the votes are.
-#[derive(Drop)]
+#[derive(Clone, Copy)]
 struct Lead {
     plan: u64,
     margin: usize,

@@ -1,5 +1,6 @@
 // The vault's calls on lent bytes. The record stays where it lies: what a call asks of it, and what it puts there, goes over its bytes;
 // every refusal comes before the first write.
+#![tactic(auto)]
 ghost use Rattle.std.specs.Prelude.{◌≤◌, ◌<◌, ◌≡◌, length};
 ghost use Rattle.frame.specs.Refusal.{first};
 ghost use Rattle.settings.specs.Settings.{setting_rows};
@@ -22,7 +23,7 @@ use settings::Settings;
 use sound::Lent;
 
 // What a call answers: how many bytes it wrote, or the number of a refusal.
-#[derive(Drop)]
+#[derive(Clone, Copy)]
 pub enum Answer {
     Written(usize),
     Refused(u8),
