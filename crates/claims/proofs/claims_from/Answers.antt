@@ -1,0 +1,20 @@
+-- `claims::claims_from` meets its contract.
+-- Where the vaults stand, and the lists of their plans, tell who comes in at each candidate view (`standing_told`).
+-- Assumes nothing.
+use native.Mathlib.Omega.{arith}
+use borrow.Author.Rules.{rules}
+use Rattle.claims.proofs.Standing.{standing_told}
+use Rattle.claims.proofs.claims_from.Goals as goal
+
+pub overflow_add-next : goal.overflow_add-next
+overflow_add-next c =
+    let row = c.write_row-row.ensures.1 in
+    omega (arith, row.most)
+
+pub returns : goal.returns
+returns c =
+    let a = c.args in (
+      c.write_row-c.ensures.0,
+      standing_told a.table.now a.n a.u a.end c.requires.3 _ c.standings-c.ensures _ _ _ _ c.write_row-c.ensures.1 _ _
+          c.count_at.ensures c.count_at-2.ensures,
+    )

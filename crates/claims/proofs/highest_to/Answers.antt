@@ -1,0 +1,23 @@
+-- `claims::highest_to` meets its contract.
+-- The loop keeps the highest of the first r spans that are not above w, and `highest_more` adds one span.
+-- Assumes nothing.
+use Prim.Native.Nat.{◌≤◌, ◌-◌, max}
+use mathlib.Core.Path.{◌≡◌, sym, ◌∙◌, ap}
+use native.Mathlib.Omega.{arith}
+use borrow.Author.Rules.{rules}
+use Rattle.claims.proofs.Spans.{highest_more, highest_none}
+use Rattle.claims.specs.inside.Spans.{highest_to}
+use Rattle.claims.proofs.highest_to.Goals as goal
+
+pub loop-r-init : goal.loop-r-init
+loop-r-init c = (search rules, sym (highest_none _ _))
+
+pub loop-r-preserved : goal.loop-r-preserved
+loop-r-preserved c =
+    let at = c.loop-r in
+    let a = c.args in
+    let step = c.larger-best.ensures ∙ (λ i. max (at.invariant.1 i) (c.span_to.ensures i)) in
+    (omega arith, step ∙ sym (highest_more a.spans.now a.w at.r))
+
+pub returns : goal.returns
+returns c = let e : c.loop-r.r ≡ c.args.n = omega arith in c.loop-r.invariant.1 ∙ ap (highest_to _ _) e

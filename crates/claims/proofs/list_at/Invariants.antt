@@ -1,0 +1,16 @@
+-- `claims::list_at` meets its contract.
+-- The plans of the first r vaults that stand there are listed; `listing_more` looks at one more. While some are missing there is one (`listing_left`).
+-- Assumes nothing.
+use Prim.Native.Nat.{◌-◌, ◌<◌}
+use native.Mathlib.Omega.{arith}
+use borrow.Author.Rules.{rules}
+use Rattle.claims.proofs.Walk.{Listing, listing_none, listing_most, listing_more, listing_left, listing_all}
+use Rattle.claims.specs.inside.Spans.{stands_at}
+use Rattle.rules.proofs.Quorums.{share_most}
+use Rattle.claims.proofs.list_at.Given as goal
+
+abbrev pub invariant-loop-count : goal.invariant-loop-count
+invariant-loop-count l = Listing l.table l.standings l.n l.k l.from l.initial.plans l.plans l.count l.r
+
+abbrev pub decreases-loop-count : goal.decreases-loop-count
+decreases-loop-count l = l.n - l.r

@@ -1,0 +1,152 @@
+-- `claims::serving_view` meets its contract.
+-- The walk down the candidate views. Outer invariant: no view finished so far serves, and the count is that of the claimers at the last of them
+-- (`Walked`). Inner invariant: the first r of those that come in for one plan are counted too. A view that f + 1 claim serves; else the next is tried.
+-- Assumes nothing.
+use Prim.Native.Nat.{ℕ, ◌+◌, ◌-◌, ◌*◌, ◌≤◌}
+use mathlib.Core.Path.{◌≡◌, refl, sym, ◌∙◌, ap}
+use mathlib.Core.Bool.{true}
+use native.Mathlib.Omega.{arith}
+use borrow.Author.Rules.{rules}
+use lib.Dec.{eqb}
+use lib.ListN.{get_or}
+use Rattle.claims.proofs.Rows.{count_none, count_step}
+use Rattle.claims.proofs.Walk.{end_bounds, coming_fits, others_bound, walk_begins, walk_over, walk_step, walk_on}
+use Rattle.claims.specs.declared.Coming.{Coming}
+use Rattle.claims.specs.inside.Rows.{count_of}
+use Rattle.claims.specs.inside.Walk.{coming_for, FitsComing, coming_at, claimed_in, serving_view, Walked}
+use Rattle.claims.specs.Table.{column}
+use Rattle.rules.proofs.Quorums.{share_most}
+use Rattle.claims.proofs.serving_view.Goals as goal
+use Rattle.claims.proofs.serving_view.Goals.{After-coming_at-coming, After-is_blocking, After-struct_known-1, Start}
+
+pub views-init : goal.views-init
+views-init c =
+    let a = c.args in
+    let begins : Walked a.plans.now a.c a.low a.p c.end_of_lem.result 0
+    = walk_begins a.plans.now a.c a.low a.p c.end_of_lem.result c.end_of_lem.ensures in
+    (refl, omega arith, omega arith, begins)
+
+-- Who comes in at a view has a place in the row.
+fits : (c : After-coming_at-coming the-invariant-reporters the-decreases-reporters the-invariant-views the-decreases-views) → FitsComing c.coming-at.result
+fits c =
+    let entry = c.before.before.before.before.before in
+    let w = c.before.before.views.end - 1 in
+    coming_fits entry.args.c w c.coming-at.result c.coming-at.ensures entry.requires.2 entry.requires.3
+
+pub others_for-requires : goal.others_for-requires
+others_for-requires c = (c.requires.0, omega (arith, (fits c).1))
+
+-- Of the others no more come in than there are.
+most : (c : After-struct_known-1 the-invariant-reporters the-decreases-reporters the-invariant-views the-decreases-views) → c.before.others-for.result ≤ column
+most c = others_bound _ _ _ _ c.before.others-for.ensures (omega (arith, (fits c.before.before).1))
+
+pub overflow_add-claimers : goal.overflow_add-claimers
+overflow_add-claimers c = omega (arith, most c, (fits c.before.before).0)
+
+pub overflow_add-claimers-in-views : goal.overflow_add-claimers-in-views
+overflow_add-claimers-in-views c = omega (arith, most c, (fits c.before.before).0, c.views.invariant.2)
+
+pub reporters-init : goal.reporters-init
+reporters-init c =
+    let a = c.args in
+    let (every, others, from, some) = fits c.before.before in (
+      omega arith,
+      omega arith,
+      omega (arith, count_none a.plans.now c.coming_at-coming.result.from a.p),
+      from,
+      some,
+      omega (arith, most c, every, c.views.invariant.2),
+    )
+
+pub overflow_add-from : goal.overflow_add-from
+overflow_add-from c = omega arith
+
+pub offset_bounds-plans-from : goal.offset_bounds-plans-from
+offset_bounds-plans-from c = omega arith
+
+pub bounds-plans-from : goal.bounds-plans-from
+bounds-plans-from c = omega arith
+
+pub overflow_add-claimers-in-reporters : goal.overflow_add-claimers-in-reporters
+overflow_add-claimers-in-reporters c =
+    let a = c.args in
+    let at = c.reporters in
+    let from = c.coming_at-coming.result.from in
+    omega (arith, share_most (eqb (get_or a.plans.now (from + at.r) 0) a.p) 1 c.plan_share-claimers.result c.plan_share-claimers.ensures)
+
+pub reporters-preserved : goal.reporters-preserved
+reporters-preserved c =
+    let a = c.args in
+    let at = c.reporters in
+    let from = c.coming_at-coming.result.from in
+    let share = share_most (eqb (get_or a.plans.now (from + at.r) 0) a.p) 1 c.plan_share-claimers.result c.plan_share-claimers.ensures in (
+      omega arith,
+      omega (arith, share),
+      count_step a.plans.now from at.r a.p _ at.claimers c.plan_share-claimers.result at.invariant.2 c.plan_share-claimers.ensures,
+      at.invariant.3,
+      at.invariant.4,
+      at.invariant.5,
+    )
+
+-- Where a view is tried, who comes in there, what the walk begins with, and the view itself.
+abbrev tried : After-is_blocking the-invariant-reporters the-decreases-reporters the-invariant-views the-decreases-views → After-coming_at-coming the-invariant-reporters the-decreases-reporters the-invariant-views the-decreases-views
+tried c = c.before.before.before.before.before
+
+abbrev entry : After-is_blocking the-invariant-reporters the-decreases-reporters the-invariant-views the-decreases-views → Start the-invariant-reporters the-decreases-reporters the-invariant-views the-decreases-views
+entry c = (tried c).before.before.before.before.before
+
+abbrev view : After-is_blocking the-invariant-reporters the-decreases-reporters the-invariant-views the-decreases-views → ℕ
+view c = (tried c).before.before.views.end - 1
+
+-- All who come in there are counted.
+comes : (c : After-is_blocking the-invariant-reporters the-decreases-reporters the-invariant-views the-decreases-views) → let a = (entry c).args in
+    c.before.before.reporters.claimers ≡ (tried c).before.before.views.claimers + coming_for a.plans.now (coming_at a.c (view c)) a.p
+comes c =
+    let a = (entry c).args in
+    let t = (tried c).coming-at.result in
+    let at = c.before.before.reporters in
+    let was = (tried c).before.before.views.claimers in
+    let all : at.r ≡ t.some = c.before.if2.true in
+    let sum : at.claimers ≡ was + coming_for a.plans.now t a.p
+    = omega (arith, at.invariant.2, c.before.before.before.before.others-for.ensures, ap (λ (k : ℕ). count_of a.plans.now t.from k a.p) all) in
+    sum ∙ ap (λ (t : Coming). was + coming_for a.plans.now t a.p) (tried c).coming-at.ensures
+
+-- What the walk finds below a view.
+abbrev serves : After-is_blocking the-invariant-reporters the-decreases-reporters the-invariant-views the-decreases-views → ℕ → ℕ
+serves c end = let a = (entry c).args in serving_view (claimed_in a.plans.now a.c a.p) a.low a.c.v end
+
+pub views-preserved : goal.views-preserved
+views-preserved c =
+    let b = c.before.before in let a = (entry b).args in
+    let last = (tried b).before.before.views in
+    let (below, two, most') = end_bounds a.c.u a.c.v (entry b).requires.1 in
+    let few = sym c.is_blocking.ensures ∙ c.if-is_blocking.false in (
+      last.inv.0,
+      omega (arith, last.inv.1),
+      omega (
+        arith,
+        last.inv.1,
+        last.inv.2,
+        (tried b).before.if1.false,
+        c.reporters.invariant.0,
+        c.reporters.invariant.1,
+        (fits (tried b)).0,
+        (fits (tried b)).3,
+        most b.before.before.before,
+      ),
+      walk_on a.plans.now a.c a.low a.p last.end (view b) last.claimers _ last.inv.3 (tried b).before.if1.false refl (comes b)
+          below two few,
+    )
+
+pub returns-then-end-low : goal.returns-then-end-low
+returns-then-end-low c =
+    let a = c.args in
+    let last = c.views in
+    walk_over a.plans.now a.c a.low a.p last.end last.claimers last.invariant.3 c.if-end-low.true
+
+pub returns-then-is_blocking : goal.returns-then-is_blocking
+returns-then-is_blocking c =
+    let b = c.before.before in let a = (entry b).args in
+    let last = (tried b).before.before.views in
+    sym (walk_step a.plans.now a.c a.low a.p last.end (view b) last.claimers _ last.inv.3 (tried b).before.if1.false refl (comes b) true
+    (sym c.is_blocking.ensures ∙ c.if-is_blocking.true))

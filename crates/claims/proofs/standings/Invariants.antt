@@ -1,0 +1,19 @@
+-- `claims::standings` meets its contract.
+-- The first r places tell where the first r vaults stand, and `spans_more` writes one more.
+-- Assumes nothing.
+use Prim.Native.Nat.{◌-◌, ◌≤◌, ◌<◌}
+use mathlib.Core.Path.{◌≡◌}
+use native.Mathlib.Omega.{arith}
+use lib.ListN.{length, length-set}
+use borrow.Author.Rules.{rules}
+use Rattle.claims.proofs.Spans.{spans_more}
+use Rattle.claims.specs.inside.Spans.{AreSpans}
+use Rattle.claims.specs.inside.Walk.{standing}
+use Rattle.claims.specs.Table.{column}
+use Rattle.claims.proofs.standings.Given as goal
+
+abbrev pub invariant-loop-r : goal.invariant-loop-r
+invariant-loop-r l = (l.r ≤ l.n) × (length l.found ≡ column) × AreSpans l.found l.r (standing l.table l.u l.end)
+
+abbrev pub decreases-loop-r : goal.decreases-loop-r
+decreases-loop-r l = l.n - l.r

@@ -1,0 +1,33 @@
+-- `layout::put_fresh` meets its contract: zeros, then the settings and the starting plan.
+-- Assumes nothing.
+use Prim.Native.Nat.{ℕ, ◌<◌}
+use mathlib.Core.Path.{◌≡◌, ap, sym, subst, ◌∙◌}
+use mathlib.Core.List.{List}
+use native.Mathlib.Omega.{arith}
+use lib.ListN.{length, get_or, length-set}
+use Rattle.record.specs.inside.Slots.{fresh_slots}
+use Rattle.record.specs.inside.Layout.{HoldsRecord}
+use Rattle.record.proofs.Bytes.{zeros_at}
+use Rattle.record.proofs.Laws.{holds_fresh}
+use borrow.Author.Rules.{rules}
+use Rattle.record.proofs.put_fresh.Goals as goal
+
+pub bounds-rec-3 : goal.bounds-rec-3
+bounds-rec-3 c =
+    let l : 3 < length c.clear.new.rec = omega (arith, c.clear.auto.rec) in
+    simp length-set l
+
+pub put-requires : goal.put-requires
+put-requires c = simp length-set (omega (arith, c.clear.auto.rec))
+
+pub shape_of-rec : goal.shape_of-rec
+shape_of-rec c =
+    c.put.auto.out ∙ simp length-set c.clear.auto.rec
+
+pub returns : goal.returns
+returns c =
+    let z = c.clear.new.rec in
+    let zeros : (k : ℕ) → get_or z k 0 ≡ 0 =
+    λ (k : ℕ). ap (λ (l : List ℕ). get_or l k 0) c.clear.ensures ∙ zeros_at (length c.args.rec.now) k in
+    subst (λ (l : List ℕ). HoldsRecord l (fresh_slots c.args.set c.args.plan)) (sym c.put.ensures)
+    (holds_fresh z c.args.set c.args.plan (c.clear.auto.rec ∙ c.requires) zeros (search rules))
