@@ -14,7 +14,7 @@ overflow_add-next c =
 pub returns : goal.returns
 returns c =
     let a = c.args in (
-      c.write_row-c.ensures.0,
-      standing_told a.table.now a.n a.u a.end c.requires.3 _ c.standings-c.ensures _ _ _ _ c.write_row-c.ensures.1 _ _
+      c.write_row-row.ensures.0,
+      standing_told a.table.now a.n a.u a.end c.requires.3 _ c.standings-found.ensures _ _ _ _ c.write_row-row.ensures.1 _ _
           c.count_at.ensures c.count_at-2.ensures,
     )

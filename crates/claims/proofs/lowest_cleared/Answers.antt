@@ -13,7 +13,7 @@ use Rattle.claims.proofs.Spans.{highest_low, locks_first, locks_more, locks_foun
 use Rattle.rules.specs.Sets.{weigh}
 use Rattle.rules.proofs.Quorums.{weigh_none, weigh_most, share_most}
 use Rattle.claims.proofs.lowest_cleared.Goals as goal
-use Rattle.claims.proofs.lowest_cleared.Goals.{After-is_blocking, At-views, Start}
+use Rattle.claims.proofs.lowest_cleared.Goals.{After-is_blocking}
 
 pub views-init : goal.views-init
 views-init c =
@@ -30,13 +30,13 @@ reporters-init c =
 
 pub overflow_add-locks : goal.overflow_add-locks
 overflow_add-locks c =
-    let at = c.before.before.before.before in let a = c.args in
+    let a = c.args in
     let share = c.share_at-locks in
     omega (arith, share_most (stands_at a.spans.now c.views.t c.reporters.r) 1 share.result share.ensures)
 
 pub reporters-preserved : goal.reporters-preserved
 reporters-preserved c =
-    let at = c.before.before.before.before in let a = c.args in
+    let a = c.args in
     let t = c.views.t in
     let locks = c.views.locks in
     let share = c.share_at-locks in
@@ -53,26 +53,19 @@ views-smaller c =
     let a = c.args in
     omega (arith, c.highest_to-t-in-views.ensures, highest_low a.spans.now a.n a.f (c.views.t - 1) a.n)
 
--- Where a candidate is tried, and what the search begins with.
-abbrev tried : After-is_blocking the-invariant-reporters the-decreases-reporters the-invariant-views the-decreases-views → At-views the-invariant-reporters the-decreases-reporters the-invariant-views the-decreases-views
-tried c = c.before.before.before.before
-
-abbrev entry : After-is_blocking the-invariant-reporters the-decreases-reporters the-invariant-views the-decreases-views → Start the-invariant-reporters the-decreases-reporters the-invariant-views the-decreases-views
-entry c = (tried c).before.before.before
-
 -- All whose span ends at the candidate have come in.
-counted : (c : After-is_blocking the-invariant-reporters the-decreases-reporters the-invariant-views the-decreases-views)
-    → c.before.before.reporters.locks ≡ (tried c).views.locks + weigh (λ i. 1) (stands_at (entry c).args.spans.now (tried c).views.t) (entry c).args.n
+counted : (c : After-is_blocking)
+    → c.reporters.locks ≡ c.views.locks + weigh (λ i. 1) (stands_at c.args.spans.now c.views.t) c.args.n
 counted c =
-    let last = c.before.before.reporters in
-    last.invariant.2 ∙ ap (λ (k : ℕ). (tried c).views.locks + weigh (λ i. 1) (stands_at (entry c).args.spans.now (tried c).views.t) k) c.before.if2.true
+    let last = c.reporters in
+    last.invariant.2 ∙ ap (λ (k : ℕ). c.views.locks + weigh (λ i. 1) (stands_at c.args.spans.now c.views.t) k) c.if-r-n.true
 
 pub views-preserved : goal.views-preserved
 views-preserved c =
-    let asked = c.before.before.before in let a = (entry asked).args in
-    let at = (tried asked).views in
+    let a = c.args in
+    let at = c.views in
     let few = sym c.is_blocking.ensures ∙ c.if-is_blocking.false in
-    locks_next a.spans.now a.n a.f a.v at.t at.locks at.inv (omega arith) c.reporters.locks (counted asked) few
+    locks_next a.spans.now a.n a.f a.v at.t at.locks at.inv (omega arith) c.reporters.locks (counted (goal.at.views-preserved c).After-is_blocking) few
     c.highest_to-t-in-views.result c.highest_to-t-in-views.ensures
 
 pub returns-then-t-eq0 : goal.returns-then-t-eq0
@@ -82,7 +75,7 @@ returns-then-t-eq0 c =
 
 pub returns-then-is_blocking : goal.returns-then-is_blocking
 returns-then-is_blocking c =
-    let asked = c.before.before in let a = (entry asked).args in
-    let at = (tried asked).views in
+    let a = c.args in
+    let at = c.views in
     let enough = sym c.is_blocking.ensures ∙ c.if-is_blocking.true in
-    locks_found a.spans.now a.n a.f a.v at.t at.locks at.inv (omega arith) c.reporters.locks (counted asked) enough
+    locks_found a.spans.now a.n a.f a.v at.t at.locks at.inv (omega arith) c.reporters.locks (counted (goal.at.returns-then-is_blocking c).After-is_blocking) enough

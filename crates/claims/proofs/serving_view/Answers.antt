@@ -17,7 +17,7 @@ use Rattle.claims.specs.inside.Walk.{coming_for, FitsComing, coming_at, claimed_
 use Rattle.claims.specs.Table.{column}
 use Rattle.rules.proofs.Quorums.{share_most}
 use Rattle.claims.proofs.serving_view.Goals as goal
-use Rattle.claims.proofs.serving_view.Goals.{After-coming_at-coming, After-is_blocking, After-struct_known-1, Start}
+use Rattle.claims.proofs.serving_view.Goals.{After-coming_at-coming, After-is_blocking, After-struct_known-1}
 
 pub views-init : goal.views-init
 views-init c =
@@ -27,29 +27,28 @@ views-init c =
     (refl, omega arith, omega arith, begins)
 
 -- Who comes in at a view has a place in the row.
-fits : (c : After-coming_at-coming the-invariant-reporters the-decreases-reporters the-invariant-views the-decreases-views) → FitsComing c.coming-at.result
+fits : (c : After-coming_at-coming) → FitsComing c.coming_at-coming.result
 fits c =
-    let entry = c.before.before.before.before.before in
-    let w = c.before.before.views.end - 1 in
-    coming_fits entry.args.c w c.coming-at.result c.coming-at.ensures entry.requires.2 entry.requires.3
+    let w = c.views.end - 1 in
+    coming_fits c.args.c w c.coming_at-coming.result c.coming_at-coming.ensures c.requires.2 c.requires.3
 
 pub others_for-requires : goal.others_for-requires
 others_for-requires c = (c.requires.0, omega (arith, (fits c).1))
 
 -- Of the others no more come in than there are.
-most : (c : After-struct_known-1 the-invariant-reporters the-decreases-reporters the-invariant-views the-decreases-views) → c.before.others-for.result ≤ column
-most c = others_bound _ _ _ _ c.before.others-for.ensures (omega (arith, (fits c.before.before).1))
+most : (c : After-struct_known-1) → c.others_for.result ≤ column
+most c = others_bound _ _ _ _ c.others_for.ensures (omega (arith, (fits c.before.before).1))
 
 pub overflow_add-claimers : goal.overflow_add-claimers
-overflow_add-claimers c = omega (arith, most c, (fits c.before.before).0)
+overflow_add-claimers c = omega (arith, most c, (fits (goal.at.overflow_add-claimers c).After-coming_at-coming).0)
 
 pub overflow_add-claimers-in-views : goal.overflow_add-claimers-in-views
-overflow_add-claimers-in-views c = omega (arith, most c, (fits c.before.before).0, c.views.invariant.2)
+overflow_add-claimers-in-views c = omega (arith, most c, (fits (goal.at.overflow_add-claimers-in-views c).After-coming_at-coming).0, c.views.invariant.2)
 
 pub reporters-init : goal.reporters-init
 reporters-init c =
     let a = c.args in
-    let (every, others, from, some) = fits c.before.before in (
+    let (every, others, from, some) = fits (goal.at.reporters-init c).After-coming_at-coming in (
       omega arith,
       omega arith,
       omega (arith, count_none a.plans.now c.coming_at-coming.result.from a.p),
@@ -88,38 +87,31 @@ reporters-preserved c =
       at.invariant.5,
     )
 
--- Where a view is tried, who comes in there, what the walk begins with, and the view itself.
-abbrev tried : After-is_blocking the-invariant-reporters the-decreases-reporters the-invariant-views the-decreases-views → After-coming_at-coming the-invariant-reporters the-decreases-reporters the-invariant-views the-decreases-views
-tried c = c.before.before.before.before.before
-
-abbrev entry : After-is_blocking the-invariant-reporters the-decreases-reporters the-invariant-views the-decreases-views → Start the-invariant-reporters the-decreases-reporters the-invariant-views the-decreases-views
-entry c = (tried c).before.before.before.before.before
-
-abbrev view : After-is_blocking the-invariant-reporters the-decreases-reporters the-invariant-views the-decreases-views → ℕ
-view c = (tried c).before.before.views.end - 1
+abbrev view : After-is_blocking → ℕ
+view c = c.views.end - 1
 
 -- All who come in there are counted.
-comes : (c : After-is_blocking the-invariant-reporters the-decreases-reporters the-invariant-views the-decreases-views) → let a = (entry c).args in
-    c.before.before.reporters.claimers ≡ (tried c).before.before.views.claimers + coming_for a.plans.now (coming_at a.c (view c)) a.p
+comes : (c : After-is_blocking) → let a = c.args in
+    c.reporters.claimers ≡ c.views.claimers + coming_for a.plans.now (coming_at a.c (view c)) a.p
 comes c =
-    let a = (entry c).args in
-    let t = (tried c).coming-at.result in
-    let at = c.before.before.reporters in
-    let was = (tried c).before.before.views.claimers in
-    let all : at.r ≡ t.some = c.before.if2.true in
+    let a = c.args in
+    let t = c.coming_at-coming.result in
+    let at = c.reporters in
+    let was = c.views.claimers in
+    let all : at.r ≡ t.some = c.if-r-some.true in
     let sum : at.claimers ≡ was + coming_for a.plans.now t a.p
-    = omega (arith, at.invariant.2, c.before.before.before.before.others-for.ensures, ap (λ (k : ℕ). count_of a.plans.now t.from k a.p) all) in
-    sum ∙ ap (λ (t : Coming). was + coming_for a.plans.now t a.p) (tried c).coming-at.ensures
+    = omega (arith, at.invariant.2, c.others_for.ensures, ap (λ (k : ℕ). count_of a.plans.now t.from k a.p) all) in
+    sum ∙ ap (λ (t : Coming). was + coming_for a.plans.now t a.p) c.coming_at-coming.ensures
 
 -- What the walk finds below a view.
-abbrev serves : After-is_blocking the-invariant-reporters the-decreases-reporters the-invariant-views the-decreases-views → ℕ → ℕ
-serves c end = let a = (entry c).args in serving_view (claimed_in a.plans.now a.c a.p) a.low a.c.v end
+abbrev serves : After-is_blocking → ℕ → ℕ
+serves c end = let a = c.args in serving_view (claimed_in a.plans.now a.c a.p) a.low a.c.v end
 
 pub views-preserved : goal.views-preserved
 views-preserved c =
-    let b = c.before.before in let a = (entry b).args in
-    let last = (tried b).before.before.views in
-    let (below, two, most') = end_bounds a.c.u a.c.v (entry b).requires.1 in
+    let a = c.args in
+    let last = c.views in
+    let (below, two, most') = end_bounds a.c.u a.c.v c.requires.1 in
     let few = sym c.is_blocking.ensures ∙ c.if-is_blocking.false in (
       last.inv.0,
       omega (arith, last.inv.1),
@@ -127,14 +119,14 @@ views-preserved c =
         arith,
         last.inv.1,
         last.inv.2,
-        (tried b).before.if1.false,
+        c.if-end-low.false,
         c.reporters.invariant.0,
         c.reporters.invariant.1,
-        (fits (tried b)).0,
-        (fits (tried b)).3,
-        most b.before.before.before,
+        (fits (goal.at.views-preserved c).After-coming_at-coming).0,
+        (fits (goal.at.views-preserved c).After-coming_at-coming).3,
+        most (goal.at.views-preserved c).After-struct_known-1,
       ),
-      walk_on a.plans.now a.c a.low a.p last.end (view b) last.claimers _ last.inv.3 (tried b).before.if1.false refl (comes b)
+      walk_on a.plans.now a.c a.low a.p last.end (view (goal.at.views-preserved c).After-is_blocking) last.claimers _ last.inv.3 c.if-end-low.false refl (comes (goal.at.views-preserved c).After-is_blocking)
           below two few,
     )
 
@@ -146,7 +138,7 @@ returns-then-end-low c =
 
 pub returns-then-is_blocking : goal.returns-then-is_blocking
 returns-then-is_blocking c =
-    let b = c.before.before in let a = (entry b).args in
-    let last = (tried b).before.before.views in
-    sym (walk_step a.plans.now a.c a.low a.p last.end (view b) last.claimers _ last.inv.3 (tried b).before.if1.false refl (comes b) true
+    let a = c.args in
+    let last = c.views in
+    sym (walk_step a.plans.now a.c a.low a.p last.end (view (goal.at.returns-then-is_blocking c).After-is_blocking) last.claimers _ last.inv.3 c.if-end-low.false refl (comes (goal.at.returns-then-is_blocking c).After-is_blocking) true
     (sym c.is_blocking.ensures ∙ c.if-is_blocking.true))

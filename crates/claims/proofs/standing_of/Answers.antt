@@ -13,13 +13,11 @@ use Rattle.claims.proofs.standing_of.Goals.{After-views_from-others}
 -- The vault's level for its own plan, and for every other, is 2 at most.
 levels : (c : After-views_from-others) → (c.views_from-own.result ≤ 2) × (c.views_from-others.result ≤ 2)
 levels c =
-    let first = c.before.before.before in
-    let entry = first.before.before.before.before in
-    let a = entry.args in
+    let a = c.args in
     let own = end_most (voted_in a.table.now a.r) a.end (reports_in_table a.table.now a.r) in
     let others = end_most c.other_plan.result a.end (reports_in_table a.table.now a.r) in (
-      omega (arith, own, first.views-from.ensures, first.before.claim-end.ensures, entry.requires.2),
-      omega (arith, others, c.views_from-others.ensures, c.claim_end-2.ensures, entry.requires.2),
+      omega (arith, own, c.views_from-own.ensures, c.claim_end.ensures, c.requires.2),
+      omega (arith, others, c.views_from-others.ensures, c.claim_end-2.ensures, c.requires.2),
     )
 
 pub overflow_add-result : goal.overflow_add-result

@@ -5,7 +5,6 @@ use native.Mathlib.Omega.{arith}
 use borrow.Author.Rules.{rules}
 use Rattle.claims.proofs.Walk.{listed_most, two_most, in_order}
 use Rattle.claims.proofs.write_row.Goals as goal
-use Rattle.claims.proofs.write_row.Goals.{After-list_at-arg-3-1, After-list_at-both, After-list_at-only}
 
 pub list_at-only-requires : goal.list_at-only-requires
 list_at-only-requires c =
@@ -13,26 +12,19 @@ list_at-only-requires c =
     let pre = c.requires in
     (pre.0, pre.1, pre.2, five.0, omega (arith, pre.2, listed_most _ _ _ _ _ _ _ five.2))
 
--- The first two lists.
-abbrev second : After-list_at-arg-3-1 → After-list_at-only
-second c = c.before.before.before
-
-abbrev first : After-list_at-arg-3-1 → After-list_at-both
-first c = (second c).before.before.before.before
-
 pub overflow_add-both : goal.overflow_add-both
 overflow_add-both c =
-    let pre = (first c).before.before.before.before.before.requires in
-    omega (arith, pre.2, two_most (first c).list_at.ensures.2 (second c).list-at2.ensures.2)
+    let pre = c.requires in
+    omega (arith, pre.2, two_most c.list_at-both.ensures.2 c.list_at-only.ensures.2)
 
 pub list_at-here-requires : goal.list_at-here-requires
 list_at-here-requires c =
-    let four = (second c).list-at2.ensures in
-    let pre = (first c).before.before.before.before.before.requires in
-    (pre.0, pre.1, pre.2, four.0, omega (arith, pre.2, two_most (first c).list_at.ensures.2 four.2))
+    let four = c.list_at-only.ensures in
+    let pre = c.requires in
+    (pre.0, pre.1, pre.2, four.0, omega (arith, pre.2, two_most c.list_at-both.ensures.2 four.2))
 
 pub returns : goal.returns
 returns c =
-    let at = c.before.before.before.before in let two = c.list_at-here.ensures in
-    let four = (second at).list-at2.ensures in
-    (two.0, in_order (first at).list_at.ensures.2 four.1 four.2 two.1 two.2)
+    let two = c.list_at-here.ensures in
+    let four = c.list_at-only.ensures in
+    (two.0, in_order c.list_at-both.ensures.2 four.1 four.2 two.1 two.2)

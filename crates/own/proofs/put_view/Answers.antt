@@ -1,0 +1,16 @@
+-- `own::put_view` meets its contract: four bytes of the head.
+-- Assumes nothing.
+use Prim.Native.Nat.{ℕ}
+use mathlib.Core.Path.{sym, subst}
+use mathlib.Core.List.{List}
+use Rattle.record.specs.inside.Slots.{with_view}
+use Rattle.own.specs.inside.Own.{Changes}
+use Rattle.own.proofs.Changes.{view_changes}
+use borrow.Author.Rules.{rules}
+use Rattle.own.proofs.put_view.Goals as goal
+
+pub returns : goal.returns
+returns c =
+    let o = c.args.own.now in
+    let w = c.args.w in
+    subst (λ (l : List ℕ). Changes (λ r. with_view r w) o l) (sym c.put.ensures) (view_changes o c.requires w (search rules))
