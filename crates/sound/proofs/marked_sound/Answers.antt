@@ -28,9 +28,8 @@ returns-then-plan_at-ne0 c =
 
 pub returns-then-head-eq-VIEW_CHANGE : goal.returns-then-head-eq-VIEW_CHANGE
 returns-then-head-eq-VIEW_CHANGE c =
-    let s = start (goal.at.returns-then-head-eq-VIEW_CHANGE c).After-plan_at in
     let six = c.if-head-eq-VIEW_CHANGE.true in
-    sym (kept_bare _ _ _ _ s.pre.3 six (sym (plan_read (goal.at.returns-then-head-eq-VIEW_CHANGE c).After-plan_at) ∙ c.if-plan_at-ne0.false) ∙ bare_rows _ _ _ six s.pre.1)
+    sym (kept_bare _ _ _ _ c.requires.3 six (sym (plan_read (goal.at.returns-then-head-eq-VIEW_CHANGE c).After-plan_at) ∙ c.if-plan_at-ne0.false) ∙ bare_rows _ _ _ six c.requires.1)
 
 pub returns : goal.returns
 returns c =
