@@ -8,7 +8,7 @@ use mathlib.Core.Bool.{Bool, true, false, not, ◌&&◌, cond}
 use mathlib.Core.List.{List, ◌++◌}
 use native.Mathlib.Nat.{le_of_suc-le-suc, not-suc-le-zero, eq-or-lt_of_le}
 use native.Mathlib.Numerals.{add-one}
-use borrow.Author.Tests.{eq-eqb, ne_eqb, lt-ltb, le-ltb, not-true, not-false}
+use borrow.Author.Tests.{eq-eqb, ne_eqb, lt-ltb, le-ltb}
 use lib.ListN.{length}
 use Rattle.frame.specs.declared.Report.{Report}
 use Rattle.frame.specs.declared.Frame.{Frame}
@@ -26,12 +26,12 @@ use Rattle.sound.specs.declared.Lent.TheVariants.{Blank, Unsound, Sound}
 -- ---- flags
 
 -- what a call ensures of its flag, where `if !flag` was taken, and where it was passed
-pub off : {b x : Bool} → b ≡ x → not b ≡ true → x ≡ false
-off {b} p q = sym p ∙ not-true b q
+pub off : {b x : Bool} → b ≡ x → b ≡ false → x ≡ false
+off p q = sym p ∙ q
 
 -- the same where `if !flag` was passed: the flag held
-pub on : {b x : Bool} → b ≡ x → not b ≡ false → x ≡ true
-on {b} p q = sym p ∙ not-false b q
+pub on : {b x : Bool} → b ≡ x → b ≡ true → x ≡ true
+on p q = sym p ∙ q
 
 -- a test denied twice is the test
 not_not : (b : Bool) → not (not b) ≡ b

@@ -65,7 +65,7 @@ views-preserved c =
     let a = c.args in
     let at = c.views in
     let few = sym c.is_blocking.ensures ∙ c.if-is_blocking.false in
-    locks_next a.spans.now a.n a.f a.v at.t at.locks at.inv (omega arith) c.reporters.locks (counted (goal.at.views-preserved c).After-is_blocking) few
+    locks_next a.spans.now a.n a.f a.v at.t at.locks at.invariant (omega arith) c.reporters.locks (counted (goal.at.views-preserved c).After-is_blocking) few
     c.highest_to-t-in-views.result c.highest_to-t-in-views.ensures
 
 pub returns-then-t-eq0 : goal.returns-then-t-eq0
@@ -78,4 +78,4 @@ returns-then-is_blocking c =
     let a = c.args in
     let at = c.views in
     let enough = sym c.is_blocking.ensures ∙ c.if-is_blocking.true in
-    locks_found a.spans.now a.n a.f a.v at.t at.locks at.inv (omega arith) c.reporters.locks (counted (goal.at.returns-then-is_blocking c).After-is_blocking) enough
+    locks_found a.spans.now a.n a.f a.v at.t at.locks at.invariant (omega arith) c.reporters.locks (counted (goal.at.returns-then-is_blocking c).After-is_blocking) enough

@@ -17,38 +17,40 @@ use Rattle.claims.specs.inside.Walk.{coming_for, FitsComing, coming_at, claimed_
 use Rattle.claims.specs.Table.{column}
 use Rattle.rules.proofs.Quorums.{share_most}
 use Rattle.claims.proofs.serving_view.Goals as goal
-use Rattle.claims.proofs.serving_view.Goals.{After-coming_at-coming, After-is_blocking, After-struct_known-1}
+use Rattle.claims.proofs.serving_view.Goals.{After-is_blocking, After-struct_known-1}
 
 pub views-init : goal.views-init
 views-init c =
     let a = c.args in
-    let begins : Walked a.plans.now a.c a.low a.p c.end_of_lem.result 0
-    = walk_begins a.plans.now a.c a.low a.p c.end_of_lem.result c.end_of_lem.ensures in
+    let begins : Walked a.plans.now a.c a.low a.p c.end_of-end.result 0
+    = walk_begins a.plans.now a.c a.low a.p c.end_of-end.result c.end_of-end.ensures in
     (refl, omega arith, omega arith, begins)
 
+pub others_for-requires : goal.others_for-requires
+others_for-requires c =
+    let w = c.views.end - 1 in
+    (c.requires.0, omega (arith, (coming_fits c.args.c w c.coming_at-coming.result c.coming_at-coming.ensures c.requires.2 c.requires.3).1))
+
 -- Who comes in at a view has a place in the row.
-fits : (c : After-coming_at-coming) → FitsComing c.coming_at-coming.result
+fits : (c : After-struct_known-1) → FitsComing c.coming_at-coming.result
 fits c =
     let w = c.views.end - 1 in
     coming_fits c.args.c w c.coming_at-coming.result c.coming_at-coming.ensures c.requires.2 c.requires.3
 
-pub others_for-requires : goal.others_for-requires
-others_for-requires c = (c.requires.0, omega (arith, (fits c).1))
-
 -- Of the others no more come in than there are.
 most : (c : After-struct_known-1) → c.others_for.result ≤ column
-most c = others_bound _ _ _ _ c.others_for.ensures (omega (arith, (fits c.before.before).1))
+most c = others_bound _ _ _ _ c.others_for.ensures (omega (arith, (fits c).1))
 
 pub overflow_add-claimers : goal.overflow_add-claimers
-overflow_add-claimers c = omega (arith, most c, (fits (goal.at.overflow_add-claimers c).After-coming_at-coming).0)
+overflow_add-claimers c = omega (arith, most c, (fits c).0)
 
 pub overflow_add-claimers-in-views : goal.overflow_add-claimers-in-views
-overflow_add-claimers-in-views c = omega (arith, most c, (fits (goal.at.overflow_add-claimers-in-views c).After-coming_at-coming).0, c.views.invariant.2)
+overflow_add-claimers-in-views c = omega (arith, most c, (fits c).0, c.views.invariant.2)
 
 pub reporters-init : goal.reporters-init
 reporters-init c =
     let a = c.args in
-    let (every, others, from, some) = fits (goal.at.reporters-init c).After-coming_at-coming in (
+    let (every, others, from, some) = fits c in (
       omega arith,
       omega arith,
       omega (arith, count_none a.plans.now c.coming_at-coming.result.from a.p),
@@ -113,20 +115,20 @@ views-preserved c =
     let last = c.views in
     let (below, two, most') = end_bounds a.c.u a.c.v c.requires.1 in
     let few = sym c.is_blocking.ensures ∙ c.if-is_blocking.false in (
-      last.inv.0,
-      omega (arith, last.inv.1),
+      last.invariant.0,
+      omega (arith, last.invariant.1),
       omega (
         arith,
-        last.inv.1,
-        last.inv.2,
+        last.invariant.1,
+        last.invariant.2,
         c.if-end-low.false,
         c.reporters.invariant.0,
         c.reporters.invariant.1,
-        (fits (goal.at.views-preserved c).After-coming_at-coming).0,
-        (fits (goal.at.views-preserved c).After-coming_at-coming).3,
+        (fits (goal.at.views-preserved c).After-struct_known-1).0,
+        (fits (goal.at.views-preserved c).After-struct_known-1).3,
         most (goal.at.views-preserved c).After-struct_known-1,
       ),
-      walk_on a.plans.now a.c a.low a.p last.end (view (goal.at.views-preserved c).After-is_blocking) last.claimers _ last.inv.3 c.if-end-low.false refl (comes (goal.at.views-preserved c).After-is_blocking)
+      walk_on a.plans.now a.c a.low a.p last.end (view (goal.at.views-preserved c).After-is_blocking) last.claimers _ last.invariant.3 c.if-end-low.false refl (comes (goal.at.views-preserved c).After-is_blocking)
           below two few,
     )
 
@@ -140,5 +142,5 @@ pub returns-then-is_blocking : goal.returns-then-is_blocking
 returns-then-is_blocking c =
     let a = c.args in
     let last = c.views in
-    sym (walk_step a.plans.now a.c a.low a.p last.end (view (goal.at.returns-then-is_blocking c).After-is_blocking) last.claimers _ last.inv.3 c.if-end-low.false refl (comes (goal.at.returns-then-is_blocking c).After-is_blocking) true
+    sym (walk_step a.plans.now a.c a.low a.p last.end (view (goal.at.returns-then-is_blocking c).After-is_blocking) last.claimers _ last.invariant.3 c.if-end-low.false refl (comes (goal.at.returns-then-is_blocking c).After-is_blocking) true
     (sym c.is_blocking.ensures ∙ c.if-is_blocking.true))

@@ -28,4 +28,4 @@ overflow_add-result-2 c = omega (arith, levels c)
 
 pub returns : goal.returns
 unfolding standing
-returns c = cc
+returns c = simp (c.views_from-own.ensures, c.views_from-others.ensures, c.claim_end.ensures, c.claim_end-2.ensures, c.other_plan.ensures) (λ i. standing c.args.table.now c.args.u c.args.end c.args.r)

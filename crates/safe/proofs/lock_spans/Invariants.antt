@@ -1,0 +1,19 @@
+-- `safe::lock_spans` meets its contract.
+-- The first r places hold the spans of the first r reports, and `spans_more` writes one more.
+-- Assumes nothing.
+use Prim.Native.Nat.{◌-◌, ◌≤◌, ◌<◌}
+use mathlib.Core.Path.{◌≡◌}
+use native.Mathlib.Omega.{arith}
+use lib.ListN.{length, length-set}
+use borrow.Author.Rules.{rules}
+use Rattle.claims.proofs.Spans.{spans_more}
+use Rattle.claims.specs.inside.Spans.{AreSpans}
+use Rattle.claims.specs.Table.{column, reports_in_table}
+use Rattle.rules.specs.inside.Views.{lock_span}
+use Rattle.safe.proofs.lock_spans.Given as goal
+
+abbrev pub invariant-loop-r : goal.invariant-loop-r
+invariant-loop-r l = (l.r ≤ l.n) × (length l.spans ≡ column) × AreSpans l.spans l.r (λ i. lock_span l.v (reports_in_table l.table i))
+
+abbrev pub decreases-loop-r : goal.decreases-loop-r
+decreases-loop-r l = l.n - l.r

@@ -1,0 +1,28 @@
+-- `safe::prepare` meets its contract.
+-- The row of locks is written behind the row of claims, which stays (`prepares`).
+-- Assumes nothing.
+use mathlib.Core.Path.{refl}
+use native.Mathlib.Omega.{arith}
+use borrow.Author.Rules.{rules}
+use Rattle.claims.proofs.Walk.{end_bounds}
+use Rattle.claims.specs.Table.{reports_in_table}
+use Rattle.safe.proofs.Searches.{prepares}
+use Rattle.safe.proofs.prepare.Goals as goal
+
+pub claims_from-coming-requires : goal.claims_from-coming-requires
+claims_from-coming-requires c =
+    let (low, few, most) = end_bounds c.args.u c.args.v c.requires.3 in
+    (c.requires.0, c.requires.1, search rules, omega (arith, few, c.end_of-end.ensures))
+
+pub returns : goal.returns
+returns c =
+    let a = c.args in
+    let rs = reports_in_table a.table.now in
+    let told = c.claims_from-coming.ensures.1 in
+    let locks = c.locks_at-locks.ensures in (
+      prepares rs _ _ _ _ c.requires.1 c.requires.2 c.requires.3 locks.0 c.end_of-end.ensures told locks.1 locks.2,
+      refl,
+      refl,
+      refl,
+      refl,
+    )

@@ -1,0 +1,18 @@
+-- `sound::places_sound` meets its contract. The invariant: every sender passed is sound.
+-- Assumes nothing.
+use Prim.Native.Nat.{ℕ, ◌-◌, ◌≤◌}
+use mathlib.Core.Path.{◌≡◌, ap, sym, ◌∙◌}
+use mathlib.Core.Bool.{Bool, true}
+use native.Mathlib.Omega.{arith}
+use Rattle.record.specs.Slots.{slot_of}
+use Rattle.record.specs.Layout.{decode_record}
+use Rattle.sound.specs.inside.Sound.{all, place_sound}
+use Rattle.sound.proofs.Laws.{off, on, all_none, all_more, all_stop}
+use borrow.Author.Rules.{rules}
+use Rattle.sound.proofs.places_sound.Given as goal
+
+abbrev pub invariant-loop-sender : goal.invariant-loop-sender
+invariant-loop-sender l = (l.sender ≤ l.set.n) × (all (place_sound (slot_of (decode_record l.rec)) l.set l.view l.kind) l.sender ≡ true)
+
+abbrev pub decreases-loop-sender : goal.decreases-loop-sender
+decreases-loop-sender l = l.set.n - l.sender

@@ -1,0 +1,18 @@
+-- `sound::rows_sound` meets its contract. The invariant: every kind passed is sound.
+-- Assumes nothing.
+use Prim.Native.Nat.{ℕ, ◌+◌, ◌-◌, ◌≤◌}
+use mathlib.Core.Path.{◌≡◌, sym}
+use mathlib.Core.Bool.{Bool, true}
+use native.Mathlib.Omega.{arith}
+use Rattle.record.specs.Slots.{kinds, slot_of}
+use Rattle.record.specs.Layout.{decode_record}
+use Rattle.sound.specs.inside.Sound.{all, kind_sound, rows_sound}
+use Rattle.sound.proofs.Laws.{off, on, all_none, all_more, all_stop}
+use borrow.Author.Rules.{rules}
+use Rattle.sound.proofs.rows_sound.Given as goal
+
+abbrev pub invariant-loop-k : goal.invariant-loop-k
+invariant-loop-k l = (l.k ≤ kinds) × (all (λ j. kind_sound (slot_of (decode_record l.rec)) l.set l.view (j + 1)) l.k ≡ true)
+
+abbrev pub decreases-loop-k : goal.decreases-loop-k
+decreases-loop-k l = kinds - l.k
