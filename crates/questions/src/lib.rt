@@ -86,7 +86,9 @@ fn put(out: &mut [u8], text: &[u8]) -> usize
     if out.len() < text.len() {
         return 0;
     }
-    bytes::copy(text, out)
+    let count = text.len();
+    out[..count].copy_from_slice(text);
+    count
 }
 
 // The sentences of a call's way in, and of a start.
