@@ -1,6 +1,7 @@
 // What a host may ask besides the calls. Of a stored record, when it comes back: the view, the timer of it, and the decision, which may
 // have been stored and not yet acted on. Of a refusal: its sentence.
 #![tactic(auto)]
+
 ghost use Rattle.std.specs.Prelude.{◌≡◌, ◌<◌, length};
 ghost use Rattle.sound.specs.declared.Lent.TheVariants.{Sound};
 ghost use Rattle.sound.specs.inside.Sound.{lent_is};

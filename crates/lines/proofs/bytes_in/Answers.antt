@@ -1,11 +1,9 @@
 -- `lines::bytes_in` meets its contract: 'not an even count of lower-case hex digits', or more than the limit; else the bytes that the
 -- digits spell. The invariant is `SpelledTo`; the measure is what is left of the count.
 -- Assumes nothing.
-use Prim.Native.Nat.{◌*◌, ◌-◌, ◌≤◌}
-use lib.ListN.{length}
 use mathlib.Core.Path.{refl}
 use native.Mathlib.Omega.{arith}
-use Rattle.lines.proofs.Spelled.{SpelledTo, long_spells_none, odd_spells_none, high_spells_none, low_spells_none, spelled_more, spelled_all, spelled_first}
+use Rattle.lines.proofs.Spelled.{long_spells_none, odd_spells_none, high_spells_none, low_spells_none, spelled_more, spelled_all, spelled_first}
 use Rattle.lines.proofs.bytes_in.Goals as goal
 
 pub returns-then-limit-text : goal.returns-then-limit-text

@@ -3,9 +3,7 @@
 -- Assumes nothing.
 use Prim.Native.Nat.{◌*◌, ◌-◌, ◌≤◌}
 use lib.ListN.{length}
-use mathlib.Core.Path.{refl}
-use native.Mathlib.Omega.{arith}
-use Rattle.lines.proofs.Spelled.{SpelledTo, long_spells_none, odd_spells_none, high_spells_none, low_spells_none, spelled_more, spelled_all, spelled_first}
+use Rattle.lines.proofs.Spelled.{SpelledTo}
 use Rattle.lines.proofs.bytes_in.Given as goal
 
 abbrev pub invariant-loop-i : goal.invariant-loop-i

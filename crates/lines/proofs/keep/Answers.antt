@@ -1,6 +1,5 @@
 -- `lines::keep` meets its contract: the byte is stored where there is room.
 -- Assumes nothing.
-use borrow.Author.Rules.{rules}
 use Rattle.lines.proofs.Taking.{kept_stored, kept_full}
 use Rattle.lines.proofs.keep.Goals as goal
 

@@ -1,13 +1,9 @@
 -- `lines::put_digits` meets its contract: two digits for each byte; 'Output digits are lower-case'.
 -- The invariant: the digits of the rest, put on what is there, give what is to come out.
 -- Assumes nothing.
-use Prim.Native.Nat.{◌+◌, ◌*◌, ◌-◌, ◌≤◌}
-use mathlib.Core.Path.{◌≡◌, refl, ◌∙◌}
+use mathlib.Core.Path.{refl, ◌∙◌}
 use native.Mathlib.Omega.{arith}
-use borrow.Author.Rules.{rules}
-use lib.ListN.{length, drop, length-set}
-use Rattle.wire.specs.Placed.{placed}
-use Rattle.lines.specs.inside.Steps.{digits_of}
+use lib.ListN.{length-set}
 use Rattle.lines.proofs.Digits.{digits_step, digits_done, length_digits_of}
 use Rattle.lines.proofs.put_digits.Goals as goal
 

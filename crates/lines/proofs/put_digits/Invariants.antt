@@ -2,13 +2,10 @@
 -- The invariant: the digits of the rest, put on what is there, give what is to come out.
 -- Assumes nothing.
 use Prim.Native.Nat.{◌+◌, ◌*◌, ◌-◌, ◌≤◌}
-use mathlib.Core.Path.{◌≡◌, refl, ◌∙◌}
-use native.Mathlib.Omega.{arith}
-use borrow.Author.Rules.{rules}
-use lib.ListN.{length, drop, length-set}
+use mathlib.Core.Path.{◌≡◌}
+use lib.ListN.{length, drop}
 use Rattle.wire.specs.Placed.{placed}
 use Rattle.lines.specs.inside.Steps.{digits_of}
-use Rattle.lines.proofs.Digits.{digits_step, digits_done, length_digits_of}
 use Rattle.lines.proofs.put_digits.Given as goal
 
 abbrev pub invariant-loop-i : goal.invariant-loop-i

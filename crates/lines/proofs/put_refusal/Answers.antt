@@ -1,7 +1,6 @@
 -- `lines::put_refusal` meets its contract: 'fd and the refusal number as one byte', on a line.
 -- Assumes nothing.
 use mathlib.Core.List.{[], ◌∷◌}
-use borrow.Author.Rules.{rules}
 use Rattle.lines.specs.Digits.{line_of}
 use Rattle.lines.specs.inside.Steps.{OnPage}
 use Rattle.lines.proofs.put_refusal.Goals as goal

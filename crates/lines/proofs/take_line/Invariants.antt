@@ -1,10 +1,8 @@
 -- `lines::take_line` meets its contract: 'A line ends at byte 0a'. The invariant is `TakenTo`; the measure is what is left of the piece.
 -- Assumes nothing.
 use Prim.Native.Nat.{◌-◌}
-use mathlib.Core.Path.{◌≡◌}
-use native.Mathlib.Omega.{arith}
-use lib.ListN.{length, get_or}
-use Rattle.lines.proofs.Taking.{TakenTo, taken_none, taken_more, taken_end, taken_all}
+use lib.ListN.{length}
+use Rattle.lines.proofs.Taking.{TakenTo}
 use Rattle.lines.proofs.take_line.Given as goal
 
 abbrev pub invariant-loop-i : goal.invariant-loop-i

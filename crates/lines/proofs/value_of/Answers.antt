@@ -2,7 +2,6 @@
 -- Assumes nothing.
 use mathlib.Core.Path.{sym}
 use native.Mathlib.Omega.{arith}
-use borrow.Author.Rules.{rules}
 use Rattle.lines.proofs.Digits.{value_decimal, value_letter, value_low, value_between, value_high}
 use Rattle.lines.proofs.value_of.Goals as goal
 
