@@ -12,7 +12,7 @@ use Rattle.safe.proofs.prepare.Goals as goal
 pub claims_from-coming-requires : goal.claims_from-coming-requires
 claims_from-coming-requires c =
     let (low, few, most) = end_bounds c.args.u c.args.v c.requires.3 in
-    (c.requires.0, c.requires.1, search rules, omega (arith, few, c.end_of_lem.ensures))
+    (c.requires.0, c.requires.1, search rules, omega (arith, few, c.end_of-end.ensures))
 
 pub returns : goal.returns
 returns c =
@@ -20,7 +20,7 @@ returns c =
     let rs = reports_in_table a.table.now in
     let told = c.claims_from-coming.ensures.1 in
     let locks = c.locks_at-locks.ensures in (
-      prepares rs _ _ _ _ c.requires.1 c.requires.2 c.requires.3 locks.0 c.end_of_lem.ensures told locks.1 locks.2,
+      prepares rs _ _ _ _ c.requires.1 c.requires.2 c.requires.3 locks.0 c.end_of-end.ensures told locks.1 locks.2,
       refl,
       refl,
       refl,

@@ -19,7 +19,7 @@ begin-s-requires c =
 pub safe_three-requires : goal.safe_three-requires
 safe_three-requires c =
     let b = c.begin-s.ensures in
-    let pre = rows.before.before.before.before.before.before.before.before.requires in
+    let pre = c.requires in
     (pre.0, omega (arith, b.is_n, pre.1), b.ready, b.lowest)
 
 pub returns-then-three : goal.returns-then-three
@@ -27,7 +27,7 @@ returns-then-three c =
     by_rule _ _ _ _ _ true _ c.if-three.true (three_same c.begin-s.ensures _ _ c.safe_three.ensures)
 
 pub safe_one-requires : goal.safe_one-requires
-safe_one-requires c = c.begin.ensures.ready.laid
+safe_one-requires c = c.begin-s.ensures.ready.laid
 
 pub returns-then-u-v : goal.returns-then-u-v
 returns-then-u-v c =

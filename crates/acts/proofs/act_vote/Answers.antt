@@ -1,0 +1,32 @@
+-- `acts::act_vote` meets its contract: the vote was sent, or the plan that a quorum is for is voted for.
+-- Assumes nothing.
+use Prim.Native.Nat.{ℕ, ◌+◌}
+use mathlib.Core.Path.{◌≡◌, sym, ◌∙◌, ap}
+use mathlib.Core.Option.{Option, none, some}
+use Rattle.safe.specs.Choices.{chosen}
+use Rattle.protocol.specs.Record.{Record, each}
+use Rattle.protocol.specs.Pass.{cast, act_vote}
+use Rattle.contents.specs.Contents.{contents_in}
+use Rattle.acts.proofs.Agreed.{vote_sent, vote_acts}
+use borrow.Author.Rules.{rules}
+use Rattle.acts.proofs.act_vote.Goals as goal
+use Rattle.acts.proofs.act_vote.Goals.{After-agreed_plan}
+
+pub returns-then-sent : goal.returns-then-sent
+returns-then-sent c =
+    let r = c.requires.0 in
+    vote_sent _ _ r c.args.k c.requires.2 _ c.sent.ensures c.if-sent.true ∙ ap (λ (x : Record). act_vote x c.args.k) r.spelt
+
+-- The count has told which plan a quorum is for.
+told : (c : After-agreed_plan) (o : Option ℕ) → chosen c.agreed_plan.result ≡ o
+    → each o (λ p. some (cast (c.args.k + 1) p)) ≡ act_vote (contents_in c.args.rec.now) c.args.k
+told c o is =
+    let r = c.requires.0 in
+    vote_acts _ _ r c.args.k c.requires.2 _ c.sent.ensures c.if-sent.false _ c.vote_place.ensures.0 o (sym is ∙ c.agreed_plan.ensures)
+    ∙ ap (λ (x : Record). act_vote x c.args.k) r.spelt
+
+pub returns-in-Plan : goal.returns-in-Plan
+returns-in-Plan c = told (goal.at.returns-in-Plan c).After-agreed_plan (some c.in-Plan.p) (ap chosen c.in-Plan.is)
+
+pub returns-in-Nothing : goal.returns-in-Nothing
+returns-in-Nothing c = told (goal.at.returns-in-Nothing c).After-agreed_plan none (ap chosen c.in-Nothing.is)

@@ -1,0 +1,12 @@
+-- `steps::keep_told` meets its contract: the frame and its three reports, slot by slot.
+-- Assumes nothing.
+use mathlib.Core.Path.{refl}
+use Rattle.steps.proofs.Steps.{put_as, keeps_told}
+use borrow.Author.Rules.{rules}
+use Rattle.steps.proofs.keep_told.Goals as goal
+
+pub returns : goal.returns
+returns c =
+    keeps_told c.args.t c.requires.1 c.requires.2 refl c.present.ensures
+    (put_as _ c.slot_of_kind.ensures c.put_in.ensures)
+    c.put_in-2.ensures c.put_in-3.ensures c.put_in-4.ensures

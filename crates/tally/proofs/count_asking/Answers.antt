@@ -1,0 +1,38 @@
+-- `tally::count_asking` meets its contract. The invariant: of the views passed as many ask for w as were counted.
+-- Assumes nothing.
+use Prim.Native.Nat.{ℕ, ◌-◌, ◌≤◌}
+use mathlib.Core.Path.{◌≡◌, sym, ◌∙◌, ap}
+use lib.Dec.{leb}
+use lib.ListN.{length, get_or}
+use Rattle.rules.proofs.Quorums.{share_most, weigh_none}
+use Rattle.tally.specs.inside.Changes.{asking}
+use Rattle.tally.proofs.Changes.{asking_step}
+use borrow.Author.Rules.{rules}
+use native.Mathlib.Omega.{arith}
+use Rattle.tally.proofs.count_asking.Goals as goal
+
+pub loop-j-init : goal.loop-j-init
+loop-j-init c = (omega arith, sym (weigh_none (λ i. 1) (λ j. leb c.args.w (get_or c.args.views.now j 0))), omega arith)
+
+pub overflow_add-count : goal.overflow_add-count
+overflow_add-count c =
+    let a = c.args in
+    omega (arith, share_most (leb a.w (get_or a.views.now c.loop-j.j 0)) 1 c.share_asking-count.result c.share_asking-count.ensures)
+
+pub loop-j-preserved : goal.loop-j-preserved
+loop-j-preserved c =
+    let a = c.args in
+    let at = c.loop-j in
+    let m = c.share_asking-count in
+    let little : m.result ≤ 1 = share_most (leb a.w (get_or a.views.now at.j 0)) 1 m.result m.ensures in
+    (omega arith, asking_step a.views.now at.j a.w at.count m.result at.invariant.1 m.ensures, omega arith)
+
+pub overflow_cast-result : goal.overflow_cast-result
+overflow_cast-result c = omega arith
+
+pub returns : goal.returns
+returns c =
+    let a = c.args in
+    let at = c.loop-j in
+    let e : at.j ≡ length a.views.now = omega arith in
+    at.invariant.1 ∙ ap (λ (k : ℕ). asking a.views.now k a.w) e

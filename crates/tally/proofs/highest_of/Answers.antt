@@ -1,0 +1,31 @@
+-- `tally::highest_of` meets its contract. The invariant: best is the highest of the views tried that enough ask for.
+-- Assumes nothing.
+use Prim.Native.Nat.{ℕ, ◌+◌, ◌-◌, ◌≤◌}
+use mathlib.Core.Path.{◌≡◌, sym, subst}
+use lib.ListN.{length}
+use Rattle.tally.proofs.Changes.{Searched, search_none, search_more, search_done, search_few}
+use borrow.Author.Rules.{rules}
+use native.Mathlib.Omega.{arith}
+use Rattle.tally.proofs.highest_of.Goals as goal
+
+pub returns-then-views-need : goal.returns-then-views-need
+returns-then-views-need c =
+    let a = c.args in
+    search_few a.views.now a.need a.low c.if-views-need.true
+
+pub loop-i-init : goal.loop-i-init
+loop-i-init c = (omega arith, search_none _ _ _)
+
+pub loop-i-preserved : goal.loop-i-preserved
+loop-i-preserved c =
+    let a = c.args in
+    let at = c.loop-i in
+    let next = search_more a.views.now a.need a.low at.i at.best at.invariant.1 in
+    (omega arith, subst (λ (b : ℕ). Searched a.views.now a.need a.low (at.i + 1) b) (sym c.raised-best.ensures) next)
+
+pub returns : goal.returns
+returns c =
+    let a = c.args in
+    let at = c.loop-i in
+    let all : at.i ≡ length a.views.now = omega arith in
+    search_done a.views.now a.need a.low at.i at.best at.invariant.1 c.requires.1 all

@@ -1,0 +1,15 @@
+-- `tally::lead_of` meets its contract. The invariant: b leads among the votes passed.
+-- Assumes nothing.
+use Prim.Native.Nat.{◌-◌, ◌≤◌}
+use mathlib.Core.Path.{◌≡◌}
+use Rattle.tally.specs.inside.Votes.{row_votes, leading}
+use Rattle.tally.proofs.Votes.{lead_none, lead_more, lead_low, lead_all, lead_few}
+use borrow.Author.Rules.{rules}
+use native.Mathlib.Omega.{arith}
+use Rattle.tally.proofs.lead_of.Given as goal
+
+abbrev pub invariant-loop-j : goal.invariant-loop-j
+invariant-loop-j l = (l.j ≤ l.n) × (l.b ≡ leading (row_votes l.block l.v l.from) l.j)
+
+abbrev pub decreases-loop-j : goal.decreases-loop-j
+decreases-loop-j l = l.n - l.j

@@ -1,0 +1,18 @@
+-- `tally::views_above` meets its contract. The invariant: the views gathered are those of the senders passed.
+-- Assumes nothing.
+use Prim.Native.Nat.{◌<◌, ◌-◌, ◌≤◌}
+use mathlib.Core.Path.{◌≡◌, sym, ◌∙◌}
+use lib.Dec.{ltb}
+use lib.ListN.{length, length-set}
+use Rattle.rules.proofs.Quorums.{share_most}
+use Rattle.tally.specs.inside.Changes.{change_in}
+use Rattle.tally.proofs.Changes.{Passed, pass_none, pass_more, gathered, gathered_few}
+use borrow.Author.Rules.{rules}
+use native.Mathlib.Omega.{arith}
+use Rattle.tally.proofs.views_above.Given as goal
+
+abbrev pub invariant-loop-j : goal.invariant-loop-j
+invariant-loop-j l = (l.j ≤ l.n) × Passed (change_in l.shared) l.j l.low l.views l.count × (length l.views ≡ 64)
+
+abbrev pub decreases-loop-j : goal.decreases-loop-j
+decreases-loop-j l = l.n - l.j
