@@ -5,6 +5,7 @@ ghost use Rattle.frame.specs.inside.Reading.{refusal_of};
 
 use crate::words::{end_line, end_with_number, say, say_byte, say_number};
 use frame::{Body, Frame, Reading, Report, Reports, numbers};
+use std::io;
 
 // The frame that bytes say, or refusal 9 or 10.
 pub(crate) fn frame_in(s: &[u8]) -> Reading
@@ -17,17 +18,18 @@ pub(crate) fn frame_in(s: &[u8]) -> Reading
     Reading::Accepted(frame::reader::parse(s))
 }
 
-pub(crate) fn say_kind(kind: u8) {
+pub(crate) fn say_kind(rt: &impl Print, kind: u8) -> io::Result<()> {
     match kind {
-        numbers::PROPOSAL => say(b"proposal"),
+        numbers::PROPOSAL => say(rt, b"proposal"),
         numbers::VOTE_1..=numbers::VOTE_4 => say_number(
+            rt,
             b"vote-",
             (kind - numbers::PROPOSAL) as u64,
         ),
-        numbers::VIEW_CHANGE => say(b"view-change"),
-        numbers::SUGGEST => say(b"suggest"),
-        numbers::PROOF => say(b"proof"),
-        _ => say(b"frame"),
+        numbers::VIEW_CHANGE => say(rt, b"view-change"),
+        numbers::SUGGEST => say(rt, b"suggest"),
+        numbers::PROOF => say(rt, b"proof"),
+        _ => say(rt, b"frame"),
     }
 }
 
@@ -44,9 +46,9 @@ pub(crate) fn lock_of(kind: u8) -> u8
     if kind == numbers::SUGGEST { 3 } else { 4 }
 }
 
-fn say_place(view: u32, plan: u64) {
-    say_number(b"view ", view as u64);
-    end_with_number(b", plan ", plan);
+fn say_place(rt: &impl Print, view: u32, plan: u64) -> io::Result<()> {
+    say_number(rt, b"view ", view as u64)?;
+    end_with_number(rt, b", plan ", plan)
 }
 
 fn is_none(r: Report) -> bool {
@@ -60,90 +62,91 @@ fn is_none(r: Report) -> bool {
 }
 
 // A report: the vote, or none; where its mark fits neither, all of it.
-fn say_report(name: &[u8], vote: u8, r: Report) {
-    say_number(name, vote as u64);
-    say(b": ");
+fn say_report(rt: &impl Print, name: &[u8], vote: u8, r: Report) -> io::Result<()> {
+    say_number(rt, name, vote as u64)?;
+    say(rt, b": ")?;
     if is_none(r) {
-        say(b"none\n");
-        return;
+        return say(rt, b"none\n");
     }
     if r.mark != numbers::PRESENT {
-        say_number(b"mark ", r.mark as u64);
-        say(b", ");
+        say_number(rt, b"mark ", r.mark as u64)?;
+        say(rt, b", ")?;
     }
-    say_place(r.view, r.plan);
+    say_place(rt, r.view, r.plan)
 }
 
-fn say_reports(kind: u8, r: Reports) {
+fn say_reports(rt: &impl Print, kind: u8, r: Reports) -> io::Result<()> {
     let highest = r.highest;
     let previous = r.previous;
     let lock = r.lock;
-    say_report(b"        highest vote-", vote_of(kind), highest);
-    say_report(b"        previous vote-", vote_of(kind), previous);
-    say_report(b"        highest vote-", lock_of(kind), lock);
+    say_report(rt, b"        highest vote-", vote_of(kind), highest)?;
+    say_report(rt, b"        previous vote-", vote_of(kind), previous)?;
+    say_report(rt, b"        highest vote-", lock_of(kind), lock)
 }
 
-fn say_body(f: Frame) {
+fn say_body(rt: &impl Print, f: Frame) -> io::Result<()> {
     let body = f.body;
     match body {
         Body::Plan(plan) => {
-            say(b", ");
-            say_place(f.view, plan);
+            say(rt, b", ")?;
+            say_place(rt, f.view, plan)
         }
-        Body::Empty => end_with_number(b" for view ", f.view as u64),
+        Body::Empty => end_with_number(rt, b" for view ", f.view as u64),
         Body::Told(r) => {
-            end_with_number(b", view ", f.view as u64);
-            say_reports(f.kind, r);
+            end_with_number(rt, b", view ", f.view as u64)?;
+            say_reports(rt, f.kind, r)
         }
     }
 }
 
 // Kind, sender and what the frame holds: 'vote-2 of vault 1, view 0, plan 7'.
-pub(crate) fn say_frame(f: Frame) {
-    say_kind(f.kind);
-    say_number(b" of vault ", f.sender as u64);
-    say_body(f);
+pub(crate) fn say_frame(rt: &impl Print, f: Frame) -> io::Result<()> {
+    say_kind(rt, f.kind)?;
+    say_number(rt, b" of vault ", f.sender as u64)?;
+    say_body(rt, f)
 }
 
 // ---- bytes that are no frame
 
 // Where a line or a frame has another length than its kind.
-pub(crate) fn say_length(words: &[u8], count: usize, wanted: usize) {
-    say(words);
-    say_number(b" of ", count as u64);
-    end_with_number(b" bytes; it has to have ", wanted as u64);
+pub(crate) fn say_length(
+    rt: &impl Print,
+    words: &[u8],
+    count: usize,
+    wanted: usize,
+) -> io::Result<()> {
+    say(rt, words)?;
+    say_number(rt, b" of ", count as u64)?;
+    end_with_number(rt, b" bytes; it has to have ", wanted as u64)
 }
 
-pub(crate) fn say_no_kind(words: &[u8], kind: u8) {
-    say_byte(words, kind);
-    end_line();
+pub(crate) fn say_no_kind(rt: &impl Print, words: &[u8], kind: u8) -> io::Result<()> {
+    say_byte(rt, words, kind)?;
+    end_line(rt)
 }
 
 // Why bytes are no frame, where there are any.
-pub(crate) fn say_unformed(s: &[u8]) {
+pub(crate) fn say_unformed(rt: &impl Print, s: &[u8]) -> io::Result<()> {
     if s.len() == 0 {
-        return;
+        return Ok(());
     }
     let size = frame::length_of(s[0]);
     if size == 0 {
-        say_no_kind(b"there is no kind ", s[0]);
-        return;
+        return say_no_kind(rt, b"there is no kind ", s[0]);
     }
-    say(b"a ");
-    say_kind(s[0]);
-    say_length(b"", s.len(), size);
+    say(rt, b"a ")?;
+    say_kind(rt, s[0])?;
+    say_length(rt, b"", s.len(), size)
 }
 
 // What the vaults read in bytes: a frame, or why they are none.
-pub(crate) fn say_bytes(s: &[u8]) {
+pub(crate) fn say_bytes(rt: &impl Print, s: &[u8]) -> io::Result<()> {
     if s.len() == 0 {
-        say(b"an empty frame\n");
-        return;
+        return say(rt, b"an empty frame\n");
     }
     let Reading::Accepted(f) = frame_in(s) else {
-        say(b"no frame: ");
-        say_unformed(s);
-        return;
+        say(rt, b"no frame: ")?;
+        return say_unformed(rt, s);
     };
-    say_frame(f);
+    say_frame(rt, f)
 }

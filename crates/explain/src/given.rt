@@ -2,6 +2,7 @@
 use crate::frames::{frame_in, say_frame, say_length, say_unformed};
 use crate::words::{end_with_number, say, say_number};
 use frame::Reading;
+use std::io;
 
 pub(crate) const START: u8 = 0;
 
@@ -11,57 +12,52 @@ pub(crate) const START_LENGTH: usize = 13;
 
 pub(crate) const TIMER_LENGTH: usize = 5;
 
-fn say_settings(n: u8, f: u8, id: u8, class: u8) {
-    say_number(b"    start: ", n as u64);
-    say_number(b" vaults of which ", f as u64);
-    say_number(b" may lie, this one is vault ", id as u64);
-    say_number(b", link class ", class as u64);
+fn say_settings(rt: &impl Print, n: u8, f: u8, id: u8, class: u8) -> io::Result<()> {
+    say_number(rt, b"    start: ", n as u64)?;
+    say_number(rt, b" vaults of which ", f as u64)?;
+    say_number(rt, b" may lie, this one is vault ", id as u64)?;
+    say_number(rt, b", link class ", class as u64)
 }
 
-fn say_start(s: &[u8]) {
+fn say_start(rt: &impl Print, s: &[u8]) -> io::Result<()> {
     if s.len() != START_LENGTH {
-        say_length(b"    a start", s.len(), START_LENGTH);
-        return;
+        return say_length(rt, b"    a start", s.len(), START_LENGTH);
     }
-    say_settings(s[1], s[2], s[3], s[4]);
-    end_with_number(b", starting plan ", wire::number64(s, 5));
+    say_settings(rt, s[1], s[2], s[3], s[4])?;
+    end_with_number(rt, b", starting plan ", wire::number64(s, 5))
 }
 
-fn say_timer(s: &[u8]) {
+fn say_timer(rt: &impl Print, s: &[u8]) -> io::Result<()> {
     if s.len() != TIMER_LENGTH {
-        say_length(b"    a timer", s.len(), TIMER_LENGTH);
-        return;
+        return say_length(rt, b"    a timer", s.len(), TIMER_LENGTH);
     }
-    say_number(b"    the timer of view ", wire::number32(s, 1) as u64);
-    say(b" ran out\n");
+    say_number(rt, b"    the timer of view ", wire::number32(s, 1) as u64)?;
+    say(rt, b" ran out\n")
 }
 
-fn say_malformed(s: &[u8]) {
+fn say_malformed(rt: &impl Print, s: &[u8]) -> io::Result<()> {
     if s.len() == 0 {
-        say(b"    an empty line: an empty frame\n");
-        return;
+        return say(rt, b"    an empty line: an empty frame\n");
     }
-    say(b"    ");
-    say_unformed(s);
+    say(rt, b"    ")?;
+    say_unformed(rt, s)
 }
 
-fn say_came(s: &[u8]) {
+fn say_came(rt: &impl Print, s: &[u8]) -> io::Result<()> {
     let Reading::Accepted(f) = frame_in(s) else {
-        say_malformed(s);
-        return;
+        return say_malformed(rt, s);
     };
-    say(b"    came: ");
-    say_frame(f);
+    say(rt, b"    came: ")?;
+    say_frame(rt, f)
 }
 
-pub(crate) fn say_given(s: &[u8]) {
+pub(crate) fn say_given(rt: &impl Print, s: &[u8]) -> io::Result<()> {
     if s.len() == 0 {
-        say_malformed(s);
-        return;
+        return say_malformed(rt, s);
     }
     match s[0] {
-        START => say_start(s),
-        TIMER => say_timer(s),
-        _ => say_came(s),
+        START => say_start(rt, s),
+        TIMER => say_timer(rt, s),
+        _ => say_came(rt, s),
     }
 }

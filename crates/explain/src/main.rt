@@ -2,6 +2,7 @@
 //
 // Proved: it ends, and touches only what it is lent. Digits are read by crate lines and frames by crate frame; the sentences are tested.
 #![tactic(auto)]
+
 mod frames;
 mod given;
 mod printed;
@@ -11,13 +12,14 @@ mod rehearsal;
 mod text;
 mod words;
 
-ghost use Rattle.std.specs.Prelude.{◌≡◌, ◌≤◌, length};
+ghost use Rattle.std.specs.Prelude.{◌≡◌, ◌≤◌, length, IfOk};
 ghost use Rattle.explain.specs.inside.Sizes.{line_most, text_kept};
 
 use given::say_given;
 use printed::{is_printed, say_printed};
 use programs::{NO_PROGRAM, REHEARSAL, VAULTLINES, say_turn};
 use rehearsal::say_rehearsed;
+use std::io::{self, Read};
 use text::{Line, TEXT, Writing, say_digits, say_writing};
 
 const PIECE: usize = 4096;
@@ -80,60 +82,60 @@ fn was_printed(mark: u8, program: u8, s: &[u8]) -> bool {
     }
 }
 
-fn say_taken(program: u8, s: &[u8]) {
+fn say_taken(rt: &impl Print, program: u8, s: &[u8]) -> io::Result<()> {
     match program {
-        REHEARSAL => say_rehearsed(s),
-        _ => say_given(s),
+        REHEARSAL => say_rehearsed(rt, s),
+        _ => say_given(rt, s),
     }
 }
 
 // Explains a line that could be read. Answers the line that is then waiting for what it leads to.
-fn explain_read(mark: u8, line: Line, before: Line) -> Line
+fn explain_read(rt: &impl Print, mark: u8, line: Line, before: Line) -> io::Result<Line>
     requires { (line.count ≤ line_most) × (before.count ≤ line_most) }
-    ensures { result.count ≤ line_most }
+    ensures { IfOk result (λ line. line.count ≤ line_most) }
 {
     let program = line.program;
     let bytes = line.bytes;
     let count = line.count;
     let s = &bytes[0..count];
     if was_printed(mark, program, s) {
-        say_printed(s, before);
-        return no_line(program);
+        say_printed(rt, s, before)?;
+        return Ok(no_line(program));
     }
-    say_digits(program, line.writing);
-    say_taken(program, s);
-    line
+    say_digits(rt, program, line.writing)?;
+    say_taken(rt, program, s)?;
+    Ok(line)
 }
 
 // Explains a line's text behind its mark. It is of the same program as the line given before it.
-fn explain_text(mark: u8, text: &[u8], before: Line) -> Line
+fn explain_text(rt: &impl Print, mark: u8, text: &[u8], before: Line) -> io::Result<Line>
     requires { before.count ≤ line_most }
-    ensures { result.count ≤ line_most }
+    ensures { IfOk result (λ line. line.count ≤ line_most) }
 {
     let program = before.program;
     let line = text::read(text, program);
-    say_writing(program, line.writing);
+    say_writing(rt, program, line.writing)?;
     if line.is_read {
-        return explain_read(mark, line, before);
+        return explain_read(rt, mark, line, before);
     }
-    say_digits(program, line.writing);
-    line
+    say_digits(rt, program, line.writing)?;
+    Ok(line)
 }
 
 // Explains a line, where another was given before it.
-fn explain_line(text: &[u8], before: Line) -> Line
+fn explain_line(rt: &impl Print, text: &[u8], before: Line) -> io::Result<Line>
     requires { before.count ≤ line_most }
-    ensures { result.count ≤ line_most }
+    ensures { IfOk result (λ line. line.count ≤ line_most) }
 {
-    text::show(text);
+    text::show(rt, text)?;
     let mark = mark_of(text);
     let from = after_mark(text, mark);
     let program = text::program_in(&text[from..]);
     if program != NO_PROGRAM {
-        say_turn(program);
-        return no_line(program);
+        say_turn(rt, program)?;
+        return Ok(no_line(program));
     }
-    explain_text(mark, &text[from..], before)
+    explain_text(rt, mark, &text[from..], before)
 }
 
 // ---- the input, in pieces
@@ -147,9 +149,9 @@ struct Place {
 }
 
 // A piece of input. The first len bytes of text are what is kept of the line that has begun.
-fn feed(text: &mut [u8], place: Place, piece: &[u8]) -> Place
+fn feed(rt: &impl Print, text: &mut [u8], place: Place, piece: &[u8]) -> io::Result<Place>
     requires { (length text.old ≡ text_kept) × (place.len ≤ text_kept) × (place.given.count ≤ line_most) }
-    ensures { (result.len ≤ text_kept) × (result.given.count ≤ line_most) }
+    ensures { IfOk result (λ place. (place.len ≤ text_kept) × (place.given.count ≤ line_most)) }
 {
     let mut len = place.len;
     let mut given = place.given;
@@ -159,56 +161,55 @@ fn feed(text: &mut [u8], place: Place, piece: &[u8]) -> Place
         let to = taken.len;
         let end = taken.next;
         if end == piece.len() {
-            return Place {
+            return Ok(Place {
                 len: to,
                 given,
                 is_over: false,
-            };
+            });
         }
-        given = explain_line(&text[0..to], given);
+        given = explain_line(rt, &text[0..to], given)?;
         len = 0;
         i = end + 1;
     }
-    Place {
+    Ok(Place {
         len,
         given,
         is_over: false,
-    }
+    })
 }
 
 // The input's end: the line that has not ended is explained too.
-fn finish(text: &[u8], place: Place) -> Place
+fn finish(rt: &impl Print, text: &[u8], place: Place) -> io::Result<Place>
     requires { (length text.now ≡ text_kept) × (place.len ≤ text_kept) × (place.given.count ≤ line_most) }
-    ensures { (result.len ≤ text_kept) × (result.given.count ≤ line_most) }
+    ensures { IfOk result (λ place. (place.len ≤ text_kept) × (place.given.count ≤ line_most)) }
 {
     let len = place.len;
     if len != 0 {
         let given = place.given;
-        explain_line(&text[0..len], given);
+        explain_line(rt, &text[0..len], given)?;
     }
-    Place {
+    Ok(Place {
         len: 0,
         given: no_line(VAULTLINES),
         is_over: true,
-    }
+    })
 }
 
 // Reads once, and explains the lines that end in what came.
-fn explain_some(text: &mut [u8], place: Place) -> Place
+fn explain_some(rt: &(impl Input + Print), text: &mut [u8], place: Place) -> io::Result<Place>
     requires { (length text.old ≡ text_kept) × (place.len ≤ text_kept) × (place.given.count ≤ line_most) }
-    ensures { (result.len ≤ text_kept) × (result.given.count ≤ line_most) }
+    ensures { IfOk result (λ place. (place.len ≤ text_kept) × (place.given.count ≤ line_most)) }
 {
     let mut piece = [0u8; PIECE];
-    let got = libc::read(libc::STDIN_FILENO, &mut piece);
-    if got <= 0 {
-        return finish(text, place);
+    let count = rt.reader().read(&mut piece)?;
+    if count == 0 {
+        return finish(rt, text, place);
     }
-    let count = io::count(got, &piece);
-    feed(text, place, &piece[..count])
+    feed(rt, text, place, &piece[..count])
 }
 
-// A proved loop has to end, and nothing says that the input does: the loop counts its turns down, from a number that no run uses up.
-fn explain_all(text: &mut [u8])
+// A proved loop has to end, and nothing says that the input does: the loop takes so many turns that no run uses them up.
+fn explain_all(rt: &(impl Input + Print), text: &mut [u8]) -> io::Result<()>
     requires { length text.old ≡ text_kept }
 {
     let mut place = Place {
@@ -216,17 +217,16 @@ fn explain_all(text: &mut [u8])
         given: no_line(VAULTLINES),
         is_over: false,
     };
-    let mut turns = u64::MAX;
-    while turns > 0 {
-        place = explain_some(text, place);
+    for _ in 0..u64::MAX {
+        place = explain_some(rt, text, place)?;
         if place.is_over {
-            return;
+            return Ok(());
         }
-        turns -= 1;
     }
+    Ok(())
 }
 
-fn main() {
+fn main(rt: HostRuntime) -> io::Result<()> {
     let mut text = [0u8; TEXT];
-    explain_all(&mut text);
+    explain_all(&rt, &mut text)
 }

@@ -9,6 +9,7 @@ use crate::refusals::say_refusal;
 use crate::text::Line;
 use crate::words::{end_with_number, say, say_number};
 use frame::{Reading, numbers};
+use std::io;
 
 // Where its entry begins: behind fc and the number, or behind fb.
 const AFTER_NUMBER: usize = 2;
@@ -79,112 +80,103 @@ pub(crate) fn is_printed(program: u8, s: &[u8]) -> bool {
 
 // ---- what they say
 
-fn say_unknown(program: u8) {
-    say(b"    nothing that ");
-    say_program(program);
-    say(b" prints\n");
+fn say_unknown(rt: &impl Print, program: u8) -> io::Result<()> {
+    say(rt, b"    nothing that ")?;
+    say_program(rt, program)?;
+    say(rt, b" prints\n")
 }
 
-fn say_timer(s: &[u8])
+fn say_timer(rt: &impl Print, s: &[u8]) -> io::Result<()>
     requires { 10 ≤ length s.now }
 {
-    say_number(b"    set a timer: view ", wire::number32(s, 2) as u64);
-    say_number(b", ", wire::number32(s, 6) as u64);
-    say(b" milliseconds\n");
+    say_number(rt, b"    set a timer: view ", wire::number32(s, 2) as u64)?;
+    say_number(rt, b", ", wire::number32(s, 6) as u64)?;
+    say(rt, b" milliseconds\n")
 }
 
-fn say_decision(s: &[u8])
+fn say_decision(rt: &impl Print, s: &[u8]) -> io::Result<()>
     requires { 14 ≤ length s.now }
 {
-    say_number(b"    decided: view ", wire::number32(s, 2) as u64);
-    end_with_number(b", plan ", wire::number64(s, 6));
+    say_number(rt, b"    decided: view ", wire::number32(s, 2) as u64)?;
+    end_with_number(rt, b", plan ", wire::number64(s, 6))
 }
 
-fn say_host(program: u8, s: &[u8]) {
+fn say_host(rt: &impl Print, program: u8, s: &[u8]) -> io::Result<()> {
     if !is_host_entry(s) {
-        say_unknown(program);
-        return;
+        return say_unknown(rt, program);
     }
     match s.len() {
-        TIMER_LENGTH => say_timer(s),
-        DECISION_LENGTH => say_decision(s),
-        _ => (),
+        TIMER_LENGTH => say_timer(rt, s),
+        DECISION_LENGTH => say_decision(rt, s),
+        _ => Ok(()),
     }
 }
 
-fn say_recipient(to: u8) {
+fn say_recipient(rt: &impl Print, to: u8) -> io::Result<()> {
     if to == numbers::TO_ALL {
-        say(b"to all: ");
-        return;
+        return say(rt, b"to all: ");
     }
-    say_number(b"to vault ", to as u64);
-    say(b": ");
+    say_number(rt, b"to vault ", to as u64)?;
+    say(rt, b": ")
 }
 
 // A rehearsal prints no entry of a frame with nothing before it.
-fn say_entry(program: u8, s: &[u8]) {
+fn say_entry(rt: &impl Print, program: u8, s: &[u8]) -> io::Result<()> {
     if program == REHEARSAL {
-        say_unknown(program);
-        return;
+        return say_unknown(rt, program);
     }
     if s.len() == 0 {
-        say_unknown(program);
-        return;
+        return say_unknown(rt, program);
     }
     let Reading::Accepted(f) = frame_in(&s[1..]) else {
-        say_unknown(program);
-        return;
+        return say_unknown(rt, program);
     };
-    say(b"    ");
-    say_recipient(s[0]);
-    say_frame(f);
+    say(rt, b"    ")?;
+    say_recipient(rt, s[0])?;
+    say_frame(rt, f)
 }
 
-fn say_waiting(program: u8, s: &[u8]) {
+fn say_waiting(rt: &impl Print, program: u8, s: &[u8]) -> io::Result<()> {
     if s.len() <= AFTER_NUMBER {
-        say_unknown(program);
-        return;
+        return say_unknown(rt, program);
     }
-    say_number(b"    frame ", wire::wide(s[1]));
-    say(b" waits, ");
-    say_recipient(s[AFTER_NUMBER]);
-    say_bytes(&s[AFTER_NUMBER + 1..]);
+    say_number(rt, b"    frame ", wire::wide(s[1]))?;
+    say(rt, b" waits, ")?;
+    say_recipient(rt, s[AFTER_NUMBER])?;
+    say_bytes(rt, &s[AFTER_NUMBER + 1..])
 }
 
-fn say_lost(program: u8, s: &[u8]) {
+fn say_lost(rt: &impl Print, program: u8, s: &[u8]) -> io::Result<()> {
     if s.len() <= AFTER_LOST {
-        say_unknown(program);
-        return;
+        return say_unknown(rt, program);
     }
-    say(b"    lost, as 256 frames wait, ");
-    say_recipient(s[AFTER_LOST]);
-    say_bytes(&s[AFTER_LOST + 1..]);
+    say(rt, b"    lost, as 256 frames wait, ")?;
+    say_recipient(rt, s[AFTER_LOST])?;
+    say_bytes(rt, &s[AFTER_LOST + 1..])
 }
 
-fn say_refused(s: &[u8], given: Line)
+fn say_refused(rt: &impl Print, s: &[u8], given: Line) -> io::Result<()>
     requires { given.count ≤ line_most }
 {
     if s.len() != REFUSAL_LENGTH {
-        say_unknown(given.program);
-        return;
+        return say_unknown(rt, given.program);
     }
-    say_refusal(s[1], given);
+    say_refusal(rt, s[1], given)
 }
 
 // The line given before it is told for a refusal.
-pub(crate) fn say_printed(s: &[u8], given: Line)
+pub(crate) fn say_printed(rt: &impl Print, s: &[u8], given: Line) -> io::Result<()>
     requires { given.count ≤ line_most }
 {
     let program = given.program;
     if s.len() == 0 {
-        say_unknown(program);
-        return;
+        return say_unknown(rt, program);
     }
     match s[0] {
-        lines::REFUSED => say_refused(s, given),
-        numbers::TO_HOST => say_host(program, s),
-        stage::WAITS => say_waiting(program, s),
-        stage::LOST => say_lost(program, s),
-        _ => say_entry(program, s),
+        lines::REFUSED => say_refused(rt, s, given),
+        numbers::TO_HOST => say_host(rt, program, s),
+        stage::WAITS => say_waiting(rt, program, s),
+        stage::LOST => say_lost(rt, program, s),
+        _ => say_entry(rt, program, s),
     }
 }

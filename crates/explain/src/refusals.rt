@@ -10,6 +10,7 @@ use crate::rehearsal::line_fault;
 use crate::text::{Line, say_digits, say_writing};
 use crate::words::{end_line, end_with_number, say, say_byte, say_number};
 use frame::{Body, Frame, Reading, Report, Reports, numbers};
+use std::io;
 
 // No sentence is longer.
 const LONGEST: usize = 120;
@@ -17,84 +18,84 @@ const LONGEST: usize = 120;
 // ---- sentences
 
 // The library's own sentence, as hosts get it.
-fn say_library_reason(number: u8) {
+fn say_library_reason(rt: &impl Print, number: u8) -> io::Result<()> {
     let mut text = [0u8; LONGEST];
     let count = questions::refusal_text(number as u32, &mut text);
     if count == 0 {
-        say(b"there is no refusal of this number");
-        return;
+        return say(rt, b"there is no refusal of this number");
     }
     if count <= LONGEST {
-        say(&text[0..count]);
+        say(rt, &text[0..count])?;
     }
+    Ok(())
 }
 
 // A rehearsal has a refusal of its own, and another limit for 20.
-fn say_reason(program: u8, number: u8) {
+fn say_reason(rt: &impl Print, program: u8, number: u8) -> io::Result<()> {
     if program == REHEARSAL && number == stage::REFUSED_NAME {
-        say(
+        return say(
+            rt,
             b"no such frame waits, a vault above 3, a second liar, or a frame made up for a vault not declared",
         );
-        return;
     }
-    say_library_reason(number);
+    say_library_reason(rt, number)?;
     if program == REHEARSAL && number == numbers::REFUSED_LINE {
-        say_number(b"; a rehearsal takes ", stage::DIGITS as u64);
+        say_number(rt, b"; a rehearsal takes ", stage::DIGITS as u64)?;
     }
+    Ok(())
 }
 
 // ---- parts at fault
 
-pub(crate) fn say_part(words: &[u8], n: u64) {
-    say(b"        at fault: ");
-    end_with_number(words, n);
+pub(crate) fn say_part(rt: &impl Print, words: &[u8], n: u64) -> io::Result<()> {
+    say(rt, b"        at fault: ")?;
+    end_with_number(rt, words, n)
 }
 
-fn say_two_parts(first: &[u8], a: u64, second: &[u8], b: u64) {
-    say(b"        at fault: ");
-    say_number(first, a);
-    end_with_number(second, b);
+fn say_two_parts(rt: &impl Print, first: &[u8], a: u64, second: &[u8], b: u64) -> io::Result<()> {
+    say(rt, b"        at fault: ")?;
+    say_number(rt, first, a)?;
+    end_with_number(rt, second, b)
 }
 
-fn with_n_fault(words: &[u8], x: u8, n: u8) {
-    say_two_parts(words, x as u64, b", with n, byte 1: ", n as u64);
+fn with_n_fault(rt: &impl Print, words: &[u8], x: u8, n: u8) -> io::Result<()> {
+    say_two_parts(rt, words, x as u64, b", with n, byte 1: ", n as u64)
 }
 
-fn settings_fault(number: u8, n: u8, f: u8, id: u8, class: u8) {
+fn settings_fault(rt: &impl Print, number: u8, n: u8, f: u8, id: u8, class: u8) -> io::Result<()> {
     match number {
-        numbers::REFUSED_N => say_part(b"n, byte 1: ", n as u64),
-        numbers::REFUSED_F => with_n_fault(b"f, byte 2: ", f, n),
-        numbers::REFUSED_ID => with_n_fault(b"the vault's number, byte 3: ", id, n),
-        numbers::REFUSED_CLASS => say_part(b"the link class, byte 4: ", class as u64),
-        _ => (),
+        numbers::REFUSED_N => say_part(rt, b"n, byte 1: ", n as u64),
+        numbers::REFUSED_F => with_n_fault(rt, b"f, byte 2: ", f, n),
+        numbers::REFUSED_ID => with_n_fault(rt, b"the vault's number, byte 3: ", id, n),
+        numbers::REFUSED_CLASS => say_part(rt, b"the link class, byte 4: ", class as u64),
+        _ => Ok(()),
     }
 }
 
-fn start_fault(number: u8, s: &[u8]) {
+fn start_fault(rt: &impl Print, number: u8, s: &[u8]) -> io::Result<()> {
     if s.len() != START_LENGTH {
-        return;
+        return Ok(());
     }
-    settings_fault(number, s[1], s[2], s[3], s[4]);
+    settings_fault(rt, number, s[1], s[2], s[3], s[4])
 }
 
-fn timer_fault(s: &[u8]) {
+fn timer_fault(rt: &impl Print, s: &[u8]) -> io::Result<()> {
     if s.len() != TIMER_LENGTH {
-        return;
+        return Ok(());
     }
-    say_part(b"the view, bytes 1 to 4: ", wire::number32(s, 1) as u64);
+    say_part(rt, b"the view, bytes 1 to 4: ", wire::number32(s, 1) as u64)
 }
 
-pub(crate) fn length_fault(s: &[u8]) {
-    say_part(b"the length in bytes: ", s.len() as u64);
+pub(crate) fn length_fault(rt: &impl Print, s: &[u8]) -> io::Result<()> {
+    say_part(rt, b"the length in bytes: ", s.len() as u64)
 }
 
-pub(crate) fn kind_fault(s: &[u8]) {
+pub(crate) fn kind_fault(rt: &impl Print, s: &[u8]) -> io::Result<()> {
     if s.len() == 0 {
-        say(b"        at fault: the line is empty\n");
-        return;
+        return say(rt, b"        at fault: the line is empty\n");
     }
-    say_byte(b"        at fault: the kind, byte 0: ", s[0]);
-    end_line();
+    say_byte(rt, b"        at fault: the kind, byte 0: ", s[0])?;
+    end_line(rt)
 }
 
 // ---- reports at fault
@@ -164,150 +165,158 @@ fn previous_fault(highest: Report, previous: Report) -> u8
     NOTHING
 }
 
-fn say_wrong(why: u8) {
+fn say_wrong(rt: &impl Print, why: u8) -> io::Result<()> {
     match why {
-        BAD_MARK => say(b": its mark is neither 0 nor 1\n"),
-        NOT_ALL_ZERO => say(b": it is absent, and not all of it is 0\n"),
-        VIEW_TOO_HIGH => say(b": its view is not below the frame's\n"),
-        NO_HIGHEST => say(b": there is no highest one\n"),
-        NOT_BELOW_HIGHEST => say(b": its view is not below the highest one's\n"),
-        _ => say(b": it is for the highest one's plan\n"),
+        BAD_MARK => say(rt, b": its mark is neither 0 nor 1\n"),
+        NOT_ALL_ZERO => say(rt, b": it is absent, and not all of it is 0\n"),
+        VIEW_TOO_HIGH => say(rt, b": its view is not below the frame's\n"),
+        NO_HIGHEST => say(rt, b": there is no highest one\n"),
+        NOT_BELOW_HIGHEST => say(rt, b": its view is not below the highest one's\n"),
+        _ => say(rt, b": it is for the highest one's plan\n"),
     }
 }
 
-fn report_fault(name: &[u8], vote: u8, why: u8) {
+fn report_fault(rt: &impl Print, name: &[u8], vote: u8, why: u8) -> io::Result<()> {
     if why == NOTHING {
-        return;
+        return Ok(());
     }
-    say_number(name, vote as u64);
-    say_wrong(why);
+    say_number(rt, name, vote as u64)?;
+    say_wrong(rt, why)
 }
 
 // The reports that 14 and 21 are given for: each that has the fault.
-fn reports_fault(number: u8, kind: u8, view: u32, r: Reports) {
+fn reports_fault(rt: &impl Print, number: u8, kind: u8, view: u32, r: Reports) -> io::Result<()> {
     let highest = r.highest;
     let previous = r.previous;
     let lock = r.lock;
     let vote = vote_of(kind);
     report_fault(
+        rt,
         b"        at fault: highest vote-",
         vote,
         report_alone(number, view, highest),
-    );
+    )?;
     report_fault(
+        rt,
         b"        at fault: previous vote-",
         vote,
         report_alone(number, view, previous),
-    );
+    )?;
     report_fault(
+        rt,
         b"        at fault: highest vote-",
         lock_of(kind),
         report_alone(number, view, lock),
-    );
+    )
 }
 
 // ---- frames at fault
 
-fn body_fault(number: u8, f: Frame) {
+fn body_fault(rt: &impl Print, number: u8, f: Frame) -> io::Result<()> {
     let body = f.body;
     let Body::Told(r) = body else {
-        return;
+        return Ok(());
     };
     if number == numbers::REFUSED_PREVIOUS {
         report_fault(
+            rt,
             b"        at fault: previous vote-",
             vote_of(f.kind),
             previous_fault(r.highest, r.previous),
-        );
-        return;
+        )?;
+        return Ok(());
     }
-    reports_fault(number, f.kind, f.view, r);
+    reports_fault(rt, number, f.kind, f.view, r)
 }
 
 // A frame that was refused for what came before it: what it says of itself.
-fn say_repeat(f: Frame) {
-    say(b"        at fault: a ");
-    say_kind(f.kind);
-    say_number(b" of vault ", f.sender as u64);
-    say_number(b" for view ", f.view as u64);
-    say(b" or a later one came before\n");
+fn say_repeat(rt: &impl Print, f: Frame) -> io::Result<()> {
+    say(rt, b"        at fault: a ")?;
+    say_kind(rt, f.kind)?;
+    say_number(rt, b" of vault ", f.sender as u64)?;
+    say_number(rt, b" for view ", f.view as u64)?;
+    say(rt, b" or a later one came before\n")
 }
 
-fn sender_and_view(f: Frame) {
+fn sender_and_view(rt: &impl Print, f: Frame) -> io::Result<()> {
     say_two_parts(
+        rt,
         b"the sender, byte 1: ",
         f.sender as u64,
         b", with the view, bytes 2 to 5: ",
         f.view as u64,
-    );
+    )
 }
 
-fn frame_fault(number: u8, s: &[u8]) {
+fn frame_fault(rt: &impl Print, number: u8, s: &[u8]) -> io::Result<()> {
     let Reading::Accepted(f) = frame_in(s) else {
-        return;
+        return Ok(());
     };
     match number {
         numbers::REFUSED_LINK | numbers::REFUSED_SENDER => say_part(
+            rt,
             b"the sender, byte 1: ",
             f.sender as u64,
         ),
         numbers::REFUSED_VIEW_0 | numbers::REFUSED_OVER => say_part(
+            rt,
             b"the view, bytes 2 to 5: ",
             f.view as u64,
         ),
         numbers::REFUSED_REPORT | numbers::REFUSED_REPORT_VIEW | numbers::REFUSED_PREVIOUS =>
-            body_fault(number, f),
-        numbers::REFUSED_LEADER => sender_and_view(f),
-        numbers::REFUSED_KEPT => say_repeat(f),
-        _ => (),
+            body_fault(rt, number, f),
+        numbers::REFUSED_LEADER => sender_and_view(rt, f),
+        numbers::REFUSED_KEPT => say_repeat(rt, f),
+        _ => Ok(()),
     }
 }
 
 // ---- a refusal
 
-fn bytes_fault(number: u8, s: &[u8]) {
+fn bytes_fault(rt: &impl Print, number: u8, s: &[u8]) -> io::Result<()> {
     match number {
-        numbers::REFUSED_N..=numbers::REFUSED_CLASS => start_fault(number, s),
-        numbers::REFUSED_KIND => kind_fault(s),
-        numbers::REFUSED_LENGTH => length_fault(s),
+        numbers::REFUSED_N..=numbers::REFUSED_CLASS => start_fault(rt, number, s),
+        numbers::REFUSED_KIND => kind_fault(rt, s),
+        numbers::REFUSED_LENGTH => length_fault(rt, s),
         numbers::REFUSED_LINK..=numbers::REFUSED_KEPT
         | numbers::REFUSED_REPORT_VIEW
-        | numbers::REFUSED_PREVIOUS => frame_fault(number, s),
-        numbers::REFUSED_TIMER | numbers::REFUSED_LAST_VIEW => timer_fault(s),
-        _ => (),
+        | numbers::REFUSED_PREVIOUS => frame_fault(rt, number, s),
+        numbers::REFUSED_TIMER | numbers::REFUSED_LAST_VIEW => timer_fault(rt, s),
+        _ => Ok(()),
     }
 }
 
 // The part at fault of a line of a program.
-fn say_fault_in(program: u8, number: u8, s: &[u8]) {
+fn say_fault_in(rt: &impl Print, program: u8, number: u8, s: &[u8]) -> io::Result<()> {
     match program {
-        REHEARSAL => line_fault(number, s),
-        _ => bytes_fault(number, s),
+        REHEARSAL => line_fault(rt, number, s),
+        _ => bytes_fault(rt, number, s),
     }
 }
 
 // The part at fault, where a line was given before the refusal.
-fn say_fault(number: u8, given: Line)
+fn say_fault(rt: &impl Print, number: u8, given: Line) -> io::Result<()>
     requires { given.count ≤ line_most }
 {
     let program = given.program;
     if number == numbers::REFUSED_LINE {
-        say_writing(program, given.writing);
-        say_digits(program, given.writing);
+        say_writing(rt, program, given.writing)?;
+        say_digits(rt, program, given.writing)?;
     }
     if given.is_read {
         let bytes = given.bytes;
         let count = given.count;
-        say_fault_in(program, number, &bytes[0..count]);
+        say_fault_in(rt, program, number, &bytes[0..count])?;
     }
+    Ok(())
 }
 
-pub(crate) fn say_refusal(number: u8, given: Line)
+pub(crate) fn say_refusal(rt: &impl Print, number: u8, given: Line) -> io::Result<()>
     requires { given.count ≤ line_most }
 {
-    say_number(b"    refused with ", number as u64);
-    say(b": ");
-    say_reason(given.program, number);
-    end_line();
-    say_fault(number, given);
+    say_number(rt, b"    refused with ", number as u64)?;
+    say(rt, b": ")?;
+    say_reason(rt, given.program, number)?;
+    end_line(rt)?;
+    say_fault(rt, number, given)
 }

@@ -6,6 +6,7 @@ ghost use Rattle.explain.specs.inside.Sizes.{line_most};
 use crate::programs::{NO_PROGRAM, REHEARSAL, VAULTLINES, say_program};
 use crate::words::{end_line, say, say_number};
 use lines::Spelling;
+use std::io;
 
 // So much is kept of a line. A text that fills it has been cut, and is not read.
 pub(crate) const TEXT: usize = 256;
@@ -152,11 +153,11 @@ fn copy(way: u8, text: &[u8], out: &mut [u8]) -> usize
 }
 
 // Writes a line as it was read.
-pub(crate) fn show(text: &[u8]) {
+pub(crate) fn show(rt: &impl Print, text: &[u8]) -> io::Result<()> {
     let mut out = [0u8; TEXT];
     let count = copy(SHOWN, text, &mut out);
-    say(&out[0..count]);
-    end_line();
+    say(rt, &out[0..count])?;
+    end_line(rt)
 }
 
 fn writing_of(text: &[u8], digits: usize) -> Writing
@@ -209,10 +210,10 @@ pub(crate) fn program_in(text: &[u8]) -> u8
 {
     let mut word = [0u8; TEXT];
     let count = copy(MENDED, text, &mut word);
-    if check::same(&word[0..count], b"vaultlines") {
+    if &word[0..count] == b"vaultlines".as_slice() {
         return VAULTLINES;
     }
-    if check::same(&word[0..count], b"rehearsal") {
+    if &word[0..count] == b"rehearsal".as_slice() {
         return REHEARSAL;
     }
     NO_PROGRAM
@@ -233,30 +234,31 @@ pub(crate) fn read(text: &[u8], program: u8) -> Line
 
 // ---- what is told of it
 
-fn end_with_refused(program: u8) {
-    say(b", which ");
-    say_program(program);
-    say(b" refuses with 20\n");
+fn end_with_refused(rt: &impl Print, program: u8) -> io::Result<()> {
+    say(rt, b", which ")?;
+    say_program(rt, program)?;
+    say(rt, b" refuses with 20\n")
 }
 
 // Characters that are no lower-case digits, where there are any.
-fn say_written(program: u8, count: usize, sort: &[u8]) {
+fn say_written(rt: &impl Print, program: u8, count: usize, sort: &[u8]) -> io::Result<()> {
     if count != 0 {
-        say(b"    written with ");
-        say(sort);
-        end_with_refused(program);
+        say(rt, b"    written with ")?;
+        say(rt, sort)?;
+        end_with_refused(rt, program)?;
     }
+    Ok(())
 }
 
 // What is wrong with the characters.
-pub(crate) fn say_writing(program: u8, w: Writing) {
+pub(crate) fn say_writing(rt: &impl Print, program: u8, w: Writing) -> io::Result<()> {
     if w.is_cut {
-        say(b"    256 characters or more\n");
+        say(rt, b"    256 characters or more\n")?;
     }
-    say_written(program, w.capitals, b"capital letters");
-    say_written(program, w.blanks, b"blanks");
-    say_written(program, w.returns, b"a carriage return");
-    say_written(program, w.strange, b"characters that are no digits");
+    say_written(rt, program, w.capitals, b"capital letters")?;
+    say_written(rt, program, w.blanks, b"blanks")?;
+    say_written(rt, program, w.returns, b"a carriage return")?;
+    say_written(rt, program, w.strange, b"characters that are no digits")
 }
 
 // How many digits a program takes in a line.
@@ -270,18 +272,19 @@ fn most_digits(program: u8) -> usize
 }
 
 // What is wrong with the count of digits of a line that is given.
-pub(crate) fn say_digits(program: u8, w: Writing) {
+pub(crate) fn say_digits(rt: &impl Print, program: u8, w: Writing) -> io::Result<()> {
     if w.digits % 2 != 0 {
-        say_count(b"    an odd count of digits, ", program, w.digits);
+        say_count(rt, b"    an odd count of digits, ", program, w.digits)?;
     }
     let most = most_digits(program);
     if most < w.digits {
-        say_number(b"    more than ", most as u64);
-        say_count(b" digits, ", program, w.digits);
+        say_number(rt, b"    more than ", most as u64)?;
+        say_count(rt, b" digits, ", program, w.digits)?;
     }
+    Ok(())
 }
 
-fn say_count(words: &[u8], program: u8, count: usize) {
-    say_number(words, count as u64);
-    end_with_refused(program);
+fn say_count(rt: &impl Print, words: &[u8], program: u8, count: usize) -> io::Result<()> {
+    say_number(rt, words, count as u64)?;
+    end_with_refused(rt, program)
 }

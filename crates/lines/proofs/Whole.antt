@@ -1,7 +1,7 @@
 -- However an input is split into pieces, feeding them one after the other is feeding it whole; with the last line answered, the pages are
 -- what the program prints for it (`AnySplit`).
 -- Assumes nothing.
-use Prim.Native.Nat.{ℕ, suc, ◌≤◌}
+use Prim.Native.Nat.{ℕ, suc}
 use mathlib.Core.Path.{◌≡◌, refl, sym, ap, ◌∙◌}
 use mathlib.Core.List.{List, [], ◌++◌}
 use native.Mathlib.Omega.{arith}

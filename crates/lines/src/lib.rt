@@ -1,6 +1,7 @@
 // Lines of hexadecimal digits, for programs that read and print them: the bytes that a text spells, bytes put on a page as digits, and
 // lines taken from pieces of input. What a line is for, and how many digits it may have, the program says.
 #![tactic(auto)]
+
 ghost use Rattle.std.specs.Prelude.{◌≡◌, [], ◌∷◌, ◌++◌, ◌+◌, ◌*◌, ◌≤◌, ◌<◌, length, take, drop};
 ghost use Rattle.lines.specs.Digits.{value_of, digit_of, line_of, refusal_line, bytes_of};
 ghost use Rattle.lines.specs.inside.Lines.{first_line};

@@ -1,6 +1,7 @@
 // What a host may ask besides the calls. Of a stored record, when it comes back: the view, the timer of it, and the decision, which may
 // have been stored and not yet acted on. Of a refusal: its sentence.
 #![tactic(auto)]
+
 ghost use Rattle.std.specs.Prelude.{◌≡◌, ◌<◌, length};
 ghost use Rattle.sound.specs.declared.Lent.TheVariants.{Sound};
 ghost use Rattle.sound.specs.inside.Sound.{lent_is};
@@ -86,7 +87,9 @@ fn put(out: &mut [u8], text: &[u8]) -> usize
     if out.len() < text.len() {
         return 0;
     }
-    bytes::copy(text, out)
+    let count = text.len();
+    out[..count].copy_from_slice(text);
+    count
 }
 
 // The sentences of a call's way in, and of a start.

@@ -2,9 +2,10 @@
 //
 // What it prints for a whole input is a definition, `rehearsal_prints` (crate stage, specs/Lines). The input is read and fed in pieces, and the
 // pages are what `rehearsal_prints` says however it is split (`WholeInput`, crate obey, specs/Steps).
-// There the proof stops, at the input and output calls: no contract can say what `libc::read` reads and `io::write_all` writes.
+// There the proof stops, at the input and output calls: no contract can say what the runtime reads and writes.
 #![tactic(auto)]
-ghost use Rattle.std.specs.Prelude.{◌≡◌, ◌≤◌, length};
+ghost use Rattle.std.specs.Prelude.{◌≡◌, ◌≤◌, ℕ, length, IfOk, OnErr};
+ghost use Rattle.lines.specs.declared.Ended.TheVariants.{Dry};
 ghost use Rattle.lines.specs.inside.Reading.{EndedWell};
 ghost use Rattle.stage.specs.Stage.{stage_size};
 ghost use Rattle.stage.specs.Lines.{rehearsal};
@@ -12,56 +13,54 @@ ghost use Rattle.obey.specs.Steps.{kept_size};
 ghost use Rattle.obey.specs.inside.Sizes.{page_size};
 
 use lines::Ended;
+use std::io::{self, Read};
 
 // Writes out what is on the page.
-fn flush(page: &[u8], at: usize)
+fn flush(rt: &impl Print, page: &[u8], at: usize) -> io::Result<()>
     requires { at ≤ length page.now }
 {
-    io::write_all(libc::STDOUT_FILENO, &page[0..at]);
+    rt.write_all(&page[0..at])
 }
 
 // Reads the input, piece by piece; what a piece prints is written out before more is awaited.
-// A proved loop has to end, and nothing says that the input does: the loop counts its turns down, from a number that no run uses up.
-fn read_all(stage: &mut [u8], text: &mut [u8], page: &mut [u8]) -> Ended
+// Where a read or a write fails, whole pieces were fed up to there.
+// A proved loop has to end, and nothing says that the input does: the loop takes so many turns that no run uses them up.
+fn read_all(rt: &(impl Input + Print), stage: &mut [u8], text: &mut [u8], page: &mut [u8]) -> io::Result<Ended>
     requires { (length stage.old ≡ stage_size) × (length text.old ≡ kept_size) × (length page.old ≡ page_size) }
-    ensures { EndedWell rehearsal kept_size stage.old result stage.new text.new }
+    ensures ok { IfOk result (λ ended. EndedWell rehearsal kept_size stage.old ended stage.new text.new) }
+    ensures err { OnErr result ((len : ℕ) × EndedWell rehearsal kept_size stage.old (Dry len) stage.new text.new) }
 {
+    let mut input = rt.reader();
     let mut piece = [0u8; obey::PIECE];
     let mut len = 0;
-    let mut turns = u64::MAX;
-    while turns > 0 {
-        let got = libc::read(libc::STDIN_FILENO, &mut piece);
-        if got < 0 {
-            return Ended::Failed;
+    for _ in 0..u64::MAX {
+        let count = input.read(&mut piece)?;
+        if count == 0 {
+            return Ok(Ended::Dry(len));
         }
-        if got == 0 {
-            return Ended::Dry(len);
-        }
-        let count = io::count(got, &piece);
         let place = obey::feed(stage, text, len, page, &piece[0..count]);
-        flush(page, place.at);
+        flush(rt, page, place.at)?;
         len = place.len;
-        turns -= 1;
     }
-    Ended::Failed
+    Ok(Ended::Failed)
 }
 
 // The input is read, and then its last line obeyed.
-fn run(stage: &mut [u8], text: &mut [u8], page: &mut [u8])
+fn run(rt: &(impl Input + Print), stage: &mut [u8], text: &mut [u8], page: &mut [u8]) -> io::Result<()>
     requires { (length stage.old ≡ stage_size) × (length text.old ≡ kept_size) × (length page.old ≡ page_size) }
 {
-    let ended = read_all(stage, text, page);
+    let ended = read_all(rt, stage, text, page)?;
     let Ended::Dry(len) = ended else {
-        return;
+        return Ok(());
     };
     let at = obey::finish(stage, text, len, page);
-    flush(page, at);
+    flush(rt, page, at)
 }
 
 // The stage is empty at first: all is zero (`empty_stage`, crate stage).
-fn main() {
+fn main(rt: HostRuntime) -> io::Result<()> {
     let mut stage = [0u8; stage::places::SIZE];
     let mut text = [0u8; obey::KEPT];
     let mut page = [0u8; obey::PAGE];
-    run(&mut stage, &mut text, &mut page);
+    run(&rt, &mut stage, &mut text, &mut page)
 }

@@ -97,7 +97,7 @@ pub fn put_waiting(stage: &mut [u8], k: usize, way: Way, frame: &[u8])
     stage[at + 1] = way.writer;
     stage[at + 2] = way.to;
     let from = at + HEAD;
-    let count = bytes::copy(frame, &mut stage[from..]);
+    stage[from..from + frame.len()].copy_from_slice(frame);
 }
 
 // 'a dropped one frees its number'
@@ -138,5 +138,6 @@ pub fn copy_frame(stage: &[u8], k: usize, bytes: &mut [u8]) -> usize
     let at = PLACE * k;
     let len = held_length(stage[at]);
     let from = at + HEAD;
-    bytes::copy(&stage[from..from + len], bytes)
+    bytes[..len].copy_from_slice(&stage[from..from + len]);
+    len
 }

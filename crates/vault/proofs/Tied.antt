@@ -5,6 +5,7 @@ use Prim.Native.Nat.{ℕ}
 use mathlib.Core.Path.{◌≡◌}
 use mathlib.Core.List.{List}
 use contract.Lifetimes.{Lfts}
+use denote.Bor.{Bor}
 use denote.Ref.{MutBor, at_last}
 use Rattle.settings.specs.declared.Settings.{Settings}
 use Rattle.contents.specs.Calls.{start_left, frame_left, timer_left}
@@ -25,11 +26,11 @@ start_said : (κs : Lfts 2) (r o : MutBor (List ℕ)) (set : Settings) (plan : �
 start_said κs r o set plan a rec out learnt = learnt
 
 -- So does frame.
-frame_takes : (κs : Lfts 3) (r s o : MutBor (List ℕ)) (link : ℕ) → of_frame.Asked κs (r, (link, (s, (o, tt))))
+frame_takes : (κs : Lfts 3) (r : MutBor (List ℕ)) (s : Bor (List ℕ)) (o : MutBor (List ℕ)) (link : ℕ) → of_frame.Asked κs (r, (link, (s, (o, tt))))
 frame_takes κs r s o link = tt
 
 -- What frame's caller learns.
-frame_said : (κs : Lfts 3) (r s o : MutBor (List ℕ)) (link : ℕ) (a : Answer) (rec out : List ℕ)
+frame_said : (κs : Lfts 3) (r : MutBor (List ℕ)) (s : Bor (List ℕ)) (o : MutBor (List ℕ)) (link : ℕ) (a : Answer) (rec out : List ℕ)
     → of_frame.Learnt κs (r, (link, (s, (o, tt)))) a (at_last r rec, (link, (s, (at_last o out, tt))))
     → left_by a rec out ≡ frame_left r.now link s.now o.now
 frame_said κs r s o link a rec out learnt = learnt

@@ -1,0 +1,91 @@
+-- `lines::bytes_in` meets its contract: 'not an even count of lower-case hex digits', or more than the limit; else the bytes that the
+-- digits spell. The invariant is `SpelledTo`; the measure is what is left of the count.
+-- Assumes nothing.
+use mathlib.Core.Path.{refl}
+use native.Mathlib.Omega.{arith}
+use Rattle.lines.proofs.Spelled.{long_spells_none, odd_spells_none, high_spells_none, low_spells_none, spelled_more, spelled_all, spelled_first}
+use Rattle.lines.proofs.bytes_in.Goals as goal
+
+pub returns-then-limit-text : goal.returns-then-limit-text
+returns-then-limit-text c = (let a = c.args in long_spells_none a.limit a.text.now (omega arith), omega arith)
+
+pub returns-then-text-ne0 : goal.returns-then-text-ne0
+returns-then-text-ne0 c = (let a = c.args in odd_spells_none a.limit a.text.now (omega arith), omega arith)
+
+pub loop-i-init : goal.loop-i-init
+loop-i-init c =
+    (c.requires, spelled_first c.args.limit c.args.text.now c.args.bytes.now _ refl (omega arith) (omega arith) c.requires)
+
+pub overflow_mul-i : goal.overflow_mul-i
+overflow_mul-i c = omega arith
+
+pub bounds-text-i : goal.bounds-text-i
+bounds-text-i c = omega arith
+
+pub value_of-high-requires : goal.value_of-high-requires
+value_of-high-requires c = tt
+
+pub overflow_mul-i-in-loop-i : goal.overflow_mul-i-in-loop-i
+overflow_mul-i-in-loop-i c = omega arith
+
+pub overflow_add-i : goal.overflow_add-i
+overflow_add-i c = omega arith
+
+pub bounds-text-i-in-loop-i : goal.bounds-text-i-in-loop-i
+bounds-text-i-in-loop-i c = omega arith
+
+pub value_of-low-requires : goal.value_of-low-requires
+value_of-low-requires c = tt
+
+pub shape_of-bytes-then-high-gt15 : goal.shape_of-bytes-then-high-gt15
+shape_of-bytes-then-high-gt15 c = omega arith
+
+pub returns-then-high-gt15 : goal.returns-then-high-gt15
+returns-then-high-gt15 c =
+    let l = c.loop-i in (
+      high_spells_none _ _ l.bytes _ _ l.i l.invariant.1 c.loop-i-test.true _ _
+          c.value_of-high.ensures c.value_of-low.ensures c.if-high-gt15.true,
+      omega arith,
+    )
+
+pub shape_of-bytes-then-low-gt15 : goal.shape_of-bytes-then-low-gt15
+shape_of-bytes-then-low-gt15 c = omega arith
+
+pub returns-then-low-gt15 : goal.returns-then-low-gt15
+returns-then-low-gt15 c =
+    let l = c.loop-i in (
+      low_spells_none _ _ l.bytes _ _ l.i l.invariant.1 c.loop-i-test.true _ _
+          c.value_of-high.ensures c.value_of-low.ensures c.if-high-gt15.false c.if-low-gt15.true,
+      omega arith,
+    )
+
+pub overflow_mul-bytes : goal.overflow_mul-bytes
+overflow_mul-bytes c = omega arith
+
+pub overflow_add-bytes : goal.overflow_add-bytes
+overflow_add-bytes c = omega arith
+
+pub bounds-bytes-i : goal.bounds-bytes-i
+bounds-bytes-i c = omega arith
+
+pub overflow_add-i-in-loop-i : goal.overflow_add-i-in-loop-i
+overflow_add-i-in-loop-i c = omega arith
+
+pub loop-i-smaller : goal.loop-i-smaller
+loop-i-smaller c = omega arith
+
+pub loop-i-preserved : goal.loop-i-preserved
+loop-i-preserved c =
+    let l = c.loop-i in (
+      l.invariant.0,
+      spelled_more _ _ l.bytes _ _ l.i l.invariant.1 c.loop-i-test.true _ _
+          c.value_of-high.ensures c.value_of-low.ensures c.if-high-gt15.false c.if-low-gt15.false,
+    )
+
+pub shape_of-bytes : goal.shape_of-bytes
+shape_of-bytes c = omega arith
+
+pub returns : goal.returns
+returns c =
+    let l = c.loop-i in
+    (spelled_all _ _ l.bytes _ _ l.i l.invariant.1 c.loop-i-test.false, l.invariant.1.few)
