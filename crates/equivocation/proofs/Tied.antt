@@ -6,6 +6,7 @@ use mathlib.Core.Path.{◌≡◌, sym}
 use mathlib.Core.Logic.{◌↔◌}
 use mathlib.Core.List.{List, Memᴰ}
 use contract.Lifetimes.{Lfts}
+use denote.Bor.{Bor}
 use denote.Ref.{MutBor, at_last}
 use lib.ListN.{take}
 use Rattle.vault.specs.declared.Answer.{Answer}
@@ -17,17 +18,17 @@ use Rattle.equivocation.proofs.Sentences.{named_iff}
 use Rattle.equivocation.proofs.equivocators.Reads as of_equivocators
 
 -- The call asks for nothing of what it is lent.
-equivocators_takes : (κs : Lfts 3) (r l o : MutBor (List ℕ)) → of_equivocators.Asked κs (r, (l, (o, tt)))
+equivocators_takes : (κs : Lfts 3) (r l : Bor (List ℕ)) (o : MutBor (List ℕ)) → of_equivocators.Asked κs (r, (l, (o, tt)))
 equivocators_takes κs r l o = tt
 
 -- What its caller learns: the answer, and every byte of the output.
-equivocators_said : (κs : Lfts 3) (r l o : MutBor (List ℕ)) (a : Answer) (out : List ℕ)
+equivocators_said : (κs : Lfts 3) (r l : Bor (List ℕ)) (o : MutBor (List ℕ)) (a : Answer) (out : List ℕ)
     → of_equivocators.Learnt κs (r, (l, (o, tt))) a (r, (l, (at_last o out, tt)))
     → left_by a r.now out ≡ equivocators_left r.now l.now o.now
 equivocators_said κs r l o a out learnt = learnt
 
 -- So the bytes that it wrote name just those that spoke twice in the records handed in.
-equivocators_named : (κs : Lfts 3) (r l o : MutBor (List ℕ)) (count : ℕ) (out : List ℕ)
+equivocators_named : (κs : Lfts 3) (r l : Bor (List ℕ)) (o : MutBor (List ℕ)) (count : ℕ) (out : List ℕ)
     → of_equivocators.Learnt κs (r, (l, (o, tt))) (Written count) (r, (l, (at_last o out, tt)))
     → (s : ℕ) → Memᴰ s (take count out) ↔ Twice (handed_in l.now r.now) s
 equivocators_named κs r l o count out learnt s = named_iff r.now l.now o.now out count s (sym learnt)

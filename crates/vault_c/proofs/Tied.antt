@@ -5,6 +5,7 @@ use Prim.Native.Nat.{ℕ}
 use mathlib.Core.Path.{◌≡◌}
 use mathlib.Core.List.{List}
 use contract.Lifetimes.{Lfts}
+use denote.Bor.{Bor}
 use denote.Ref.{MutBor, at_last}
 use Rattle.contents.specs.Calls.{start_left, frame_left, timer_left}
 use Rattle.contents.specs.Remnant.{remnant_left, restart_left}
@@ -31,11 +32,11 @@ start_said : (κs : Lfts 2) (r o : MutBor (List ℕ)) (n f id class plan number 
 start_said κs r o n f id class plan number rec out learnt = learnt
 
 -- So does frame.
-frame_takes : (κs : Lfts 3) (r s o : MutBor (List ℕ)) (link : ℕ) → of_frame.Asked κs (r, (link, (s, (o, tt))))
+frame_takes : (κs : Lfts 3) (r : MutBor (List ℕ)) (s : Bor (List ℕ)) (o : MutBor (List ℕ)) (link : ℕ) → of_frame.Asked κs (r, (link, (s, (o, tt))))
 frame_takes κs r s o link = tt
 
 -- What the caller of frame's export learns.
-frame_said : (κs : Lfts 3) (r s o : MutBor (List ℕ)) (link number : ℕ) (rec out : List ℕ)
+frame_said : (κs : Lfts 3) (r : MutBor (List ℕ)) (s : Bor (List ℕ)) (o : MutBor (List ℕ)) (link number : ℕ) (rec out : List ℕ)
     → of_frame.Learnt κs (r, (link, (s, (o, tt)))) number (at_last r rec, (link, (s, (at_last o out, tt))))
     → seen number rec out ≡ numbered (frame_left r.now link s.now o.now)
 frame_said κs r s o link number rec out learnt = learnt
@@ -51,38 +52,38 @@ timer_said : (κs : Lfts 2) (r o : MutBor (List ℕ)) (view number : ℕ) (rec o
 timer_said κs r o view number rec out learnt = learnt
 
 -- So does the call that names vaults.
-equivocators_takes : (κs : Lfts 3) (r l o : MutBor (List ℕ)) → of_equivocators.Asked κs (r, (l, (o, tt)))
+equivocators_takes : (κs : Lfts 3) (r l : Bor (List ℕ)) (o : MutBor (List ℕ)) → of_equivocators.Asked κs (r, (l, (o, tt)))
 equivocators_takes κs r l o = tt
 
 -- What the caller of its export learns.
-equivocators_said : (κs : Lfts 3) (r l o : MutBor (List ℕ)) (number : ℕ) (out : List ℕ)
+equivocators_said : (κs : Lfts 3) (r l : Bor (List ℕ)) (o : MutBor (List ℕ)) (number : ℕ) (out : List ℕ)
     → of_equivocators.Learnt κs (r, (l, (o, tt))) number (r, (l, (at_last o out, tt)))
     → seen number r.now out ≡ numbered (equivocators_left r.now l.now o.now)
 equivocators_said κs r l o number out learnt = learnt
 
 -- So does the call that writes a remnant.
-write_takes : (κs : Lfts 2) (r o : MutBor (List ℕ)) → of_write.Asked κs (r, (o, tt))
+write_takes : (κs : Lfts 2) (r : Bor (List ℕ)) (o : MutBor (List ℕ)) → of_write.Asked κs (r, (o, tt))
 write_takes κs r o = tt
 
 -- What the caller of its export learns.
-write_said : (κs : Lfts 2) (r o : MutBor (List ℕ)) (number : ℕ) (out : List ℕ)
+write_said : (κs : Lfts 2) (r : Bor (List ℕ)) (o : MutBor (List ℕ)) (number : ℕ) (out : List ℕ)
     → of_write.Learnt κs (r, (o, tt)) number (r, (at_last o out, tt)) → seen number r.now out ≡ numbered (remnant_left r.now o.now)
 write_said κs r o number out learnt = learnt
 
 -- And a restart.
-restart_takes : (κs : Lfts 3) (r s o : MutBor (List ℕ)) → of_restart.Asked κs (r, (s, (o, tt)))
+restart_takes : (κs : Lfts 3) (r : MutBor (List ℕ)) (s : Bor (List ℕ)) (o : MutBor (List ℕ)) → of_restart.Asked κs (r, (s, (o, tt)))
 restart_takes κs r s o = tt
 
 -- What the caller of its export learns.
-restart_said : (κs : Lfts 3) (r s o : MutBor (List ℕ)) (number : ℕ) (rec out : List ℕ)
+restart_said : (κs : Lfts 3) (r : MutBor (List ℕ)) (s : Bor (List ℕ)) (o : MutBor (List ℕ)) (number : ℕ) (rec out : List ℕ)
     → of_restart.Learnt κs (r, (s, (o, tt))) number (at_last r rec, (s, (at_last o out, tt)))
     → seen number rec out ≡ numbered (restart_left r.now s.now o.now)
 restart_said κs r s o number rec out learnt = learnt
 
 -- And the call that says how high a claim reaches.
-reach_takes : (κs : Lfts 1) (s : MutBor (List ℕ)) (p : ℕ) → of_reach.Asked κs (s, (p, tt))
+reach_takes : (κs : Lfts 1) (s : Bor (List ℕ)) (p : ℕ) → of_reach.Asked κs (s, (p, tt))
 reach_takes κs s p = tt
 
 -- What the caller of its export learns: the number.
-reach_said : (κs : Lfts 1) (s : MutBor (List ℕ)) (p number : ℕ) → of_reach.Learnt κs (s, (p, tt)) number (s, (p, tt)) → number ≡ reach_number (claim_reach s.now p)
+reach_said : (κs : Lfts 1) (s : Bor (List ℕ)) (p number : ℕ) → of_reach.Learnt κs (s, (p, tt)) number (s, (p, tt)) → number ≡ reach_number (claim_reach s.now p)
 reach_said κs s p number learnt = learnt

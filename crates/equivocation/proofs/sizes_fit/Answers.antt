@@ -1,0 +1,35 @@
+-- `equivocation::sizes_fit` meets its contract. The invariant: every length passed is that of a record.
+-- Assumes nothing.
+use Prim.Native.Nat.{◌-◌, ◌≤◌}
+use mathlib.Core.Path.{◌≡◌, ap, sym, ◌∙◌}
+use mathlib.Core.Bool.{true}
+use lib.ListN.{length}
+use native.Mathlib.Omega.{arith}
+use borrow.Author.Tests.{eq-eqb, ne_eqb}
+use Rattle.sound.specs.inside.Sound.{all}
+use Rattle.sound.proofs.Laws.{all_none, all_more, all_stop}
+use Rattle.equivocation.specs.inside.Records.{size_fits}
+use borrow.Author.Rules.{rules}
+use Rattle.equivocation.proofs.sizes_fit.Goals as goal
+
+pub loop-i-init : goal.loop-i-init
+loop-i-init c = (omega arith, all_none _)
+
+pub returns-then-lengths-i-ne-LENGTH : goal.returns-then-lengths-i-ne-LENGTH
+returns-then-lengths-i-ne-LENGTH c =
+    let s = c.args.lengths.now in
+    let h = c.loop-i in
+    sym (all_stop (size_fits s) (length s) h.i c.loop-i-test.true (ne_eqb _ _ c.if-lengths-i-ne-LENGTH.true))
+
+pub loop-i-preserved : goal.loop-i-preserved
+loop-i-preserved c =
+    let s = c.args.lengths.now in
+    let h = c.loop-i in
+    (omega arith, all_more (size_fits s) h.i h.invariant.1 (eq-eqb _ _ c.if-lengths-i-ne-LENGTH.false))
+
+pub returns : goal.returns
+returns c =
+    let s = c.args.lengths.now in
+    let h = c.loop-i in
+    let e : h.i ≡ length s = omega arith in
+    sym h.invariant.1 ∙ ap (all (size_fits s)) e

@@ -1,0 +1,52 @@
+-- `remnant::restart` meets its contract: 1, 4, 25 and 26 in their order, else the record and its timer entry.
+-- Assumes nothing.
+use mathlib.Core.Path.{◌∙◌}
+use Rattle.sound.proofs.Laws.{off, on}
+use Rattle.remnant.specs.inside.Parts.{Fitting}
+use Rattle.remnant.proofs.Laws.{back_good, blank_by, restart_short, restart_length, restart_held, remnant_length, remnant_unsound, remnant_taken}
+use borrow.Author.Rules.{rules}
+use Rattle.remnant.proofs.restart.Goals as goal
+
+pub returns-then-out-lt-ROOM : goal.returns-then-out-lt-ROOM
+returns-then-out-lt-ROOM c =
+    let a = c.args in
+    restart_short a.rec.now a.remnant.now a.out.now c.if-out-lt-ROOM.true
+
+pub returns-then-rec-ne-SIZE : goal.returns-then-rec-ne-SIZE
+returns-then-rec-ne-SIZE c =
+    let a = c.args in
+    restart_length a.rec.now a.remnant.now a.out.now c.if-out-lt-ROOM.false c.if-rec-ne-SIZE.true
+
+pub returns-then-held-ne0 : goal.returns-then-held-ne0
+returns-then-held-ne0 c =
+    let a = c.args in
+    restart_held a.rec.now a.remnant.now a.out.now c.if-out-lt-ROOM.false c.if-rec-ne-SIZE.false c.settings_of-held.ensures c.if-held-ne0.true
+
+pub returns-then-remnant-ne-SIZE : goal.returns-then-remnant-ne-SIZE
+returns-then-remnant-ne-SIZE c =
+    let a = c.args in
+    let blank = blank_by a.rec.now c.if-rec-ne-SIZE.false c.settings_of-held.ensures c.if-held-ne0.false in
+    remnant_length a.rec.now a.remnant.now a.out.now c.if-out-lt-ROOM.false blank c.if-remnant-ne-SIZE.true
+
+pub returns-then-not-makes_sound : goal.returns-then-not-makes_sound
+returns-then-not-makes_sound c =
+    let a = c.args in
+    let blank = blank_by a.rec.now c.if-rec-ne-SIZE.false c.settings_of-held.ensures c.if-held-ne0.false in
+    remnant_unsound a.rec.now a.remnant.now a.out.now c.if-out-lt-ROOM.false blank c.if-remnant-ne-SIZE.false (off c.makes_sound.ensures c.if-not-makes_sound.true)
+
+pub come_back-count-requires : goal.come_back-count-requires
+come_back-count-requires c =
+    let a = c.args in
+    let fitting : Fitting a.remnant.now c.settings_in-set.result = record {
+      size = c.if-remnant-ne-SIZE.false;
+      is = c.settings_in-set.ensures;
+      good = back_good a.remnant.now c.settings_in-set.ensures (on c.makes_sound.ensures c.if-not-makes_sound.false);
+    } in
+    (c.if-rec-ne-SIZE.false, fitting, c.if-out-lt-ROOM.false)
+
+pub returns : goal.returns
+returns c =
+    let a = c.args in
+    let blank = blank_by a.rec.now c.if-rec-ne-SIZE.false c.settings_of-held.ensures c.if-held-ne0.false in
+    c.come_back-count.ensures
+    ∙ remnant_taken a.rec.now a.remnant.now a.out.now c.if-out-lt-ROOM.false blank c.if-remnant-ne-SIZE.false (on c.makes_sound.ensures c.if-not-makes_sound.false)

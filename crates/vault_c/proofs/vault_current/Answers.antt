@@ -1,0 +1,21 @@
+-- `vault_c::vault_current` meets its contract: refusal 1, or what the question on the record answers.
+-- Assumes nothing.
+use mathlib.Core.Path.{refl, sym, ap, ◌∙◌}
+use Rattle.vault_c.specs.Asked.{told}
+use Rattle.vault_c.proofs.Asked.{no_room, current_told, two_set}
+use borrow.Author.Rules.{rules}
+use Rattle.vault_c.proofs.vault_current.Goals as goal
+
+pub returns-then-out-lt2 : goal.returns-then-out-lt2
+returns-then-out-lt2 c = no_room c.args.out.now _ c.if-out-lt2.true
+
+pub returns-in-Entered : goal.returns-in-Entered
+returns-in-Entered c =
+    let out = c.args.out.now in
+    current_told out _ _ _ c.if-out-lt2.false (sym c.in-Entered.is ∙ c.current_of-current.ensures)
+    (ap (told 256) (two_set out _ _ c.if-out-lt2.false))
+
+pub returns-in-Refused : goal.returns-in-Refused
+returns-in-Refused c =
+    let out = c.args.out.now in
+    current_told out _ _ _ c.if-out-lt2.false (sym c.in-Refused.is ∙ c.current_of-current.ensures) refl

@@ -1,0 +1,15 @@
+-- `vault_c::vault_restart` meets its contract: the number of the answer that the call gives, and what that call leaves.
+-- Assumes nothing.
+use Rattle.vault_c.proofs.Small.{fits_restart, short_fits, seen_by}
+use borrow.Author.Rules.{rules}
+use Rattle.vault_c.proofs.vault_restart.Goals as goal
+
+pub number-requires : goal.number-requires
+number-requires c =
+    let call = c.restart-a in
+    short_fits call.result _ _ _ call.ensures (fits_restart _ _ _)
+
+pub returns : goal.returns
+returns c =
+    let call = c.restart-a in
+    seen_by _ call.result _ _ _ c.number.ensures call.ensures
