@@ -1,6 +1,7 @@
 // Safe plans (document 01, 'When a plan is safe'): Rule 1, Rule 3, and step C's choice, over a lent table of reports.
 // What a search needs is prepared once: who comes in for which plan at the next view and at view u, and whose lock allows which plan at view u.
 #![tactic(auto)]
+
 ghost use Rattle.std.specs.Prelude.{◌+◌, ◌-◌, ◌*◌, ◌≤◌, ◌<◌, ◌≡◌, cond, not, true, false, ◌&&◌, length, get_or};
 ghost use Rattle.rules.specs.Sets.{equals};
 ghost use Rattle.settings.specs.Vaults.{vaults_of};
