@@ -1,4 +1,4 @@
-/* A TetraBFT vault for hosts in C, C++ and Rust, and for the desk that helps them: the calls of libvault_c.a (`rt staticlib vault_c`).
+/* A TetraBFT vault for hosts in C, C++ and Rust, and for the desk that helps them: the calls of libvault_c.a (`bash scripts/build vault_c`).
  *
  * A host keeps one record of VAULT_RECORD_SIZE bytes for each vault, and lends it to every call together with an output of at least
  * VAULT_OUTPUT_SIZE bytes. A call keeps nothing between calls, allocates nothing, reads no clock and sends nothing: what is to be

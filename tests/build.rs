@@ -1,4 +1,4 @@
-// Links the archives that `rt staticlib` wrote for the crates of libraries.txt. scripts/test runs that first: cargo runs no rt.
+// Links the archives that `bash scripts/build` wrote for the names of libraries.txt. scripts/test runs that first: cargo runs no rt.
 use std::path::Path;
 
 fn main() {

@@ -1,7 +1,7 @@
 /* Four vaults in one process (n = 4, f = 1): frames are passed on from the output entries until all have decided. After the first round of
  * votes the power fails at one of them, and it comes back with what was stored.
  * Build and run at the repository's top:
- *   rt staticlib vault_c
+ *   bash scripts/build vault_c
  *   cc -std=c11 -Wall -Wextra -Iinclude examples/c/four_vaults.c target/staticlib/libvault_c.a -o target/four_vaults && target/four_vaults
  */
 #include "vault.h"

@@ -1,6 +1,6 @@
 /* A host: one vault a process, over UDP on localhost. Vault i has port PORT + i. The remnant is stored before anything is sent, so the
  * process may be killed at any moment and started again with `resume`. Build at the repository's top:
- *   rt staticlib vault_c
+ *   bash scripts/build vault_c
  *   cc -std=c11 -Wall -Wextra -Iinclude examples/udp/vault_udp.c target/staticlib/libvault_c.a -o target/vault_udp
  * `examples/udp/run SEED` starts four of them, and kills one.
  *

@@ -1,4 +1,4 @@
-// Links libvault_c.a, which `rt staticlib vault_c` or `scripts/install` wrote: cargo runs no rt.
+// Links libvault_c.a, which `bash scripts/build vault_c` or `scripts/install` wrote: cargo runs no rt.
 use std::env::{var, var_os};
 use std::path::{Path, PathBuf};
 
@@ -20,7 +20,7 @@ fn main() {
         println!("cargo::error=the vault's library is for Linux on x86-64 only");
     } else if !archive.is_file() {
         println!(
-            "cargo::error={} is missing: run `rt staticlib vault_c` at the top of the repository, or set VAULT_LIB_DIR to the folder that has it",
+            "cargo::error={} is missing: run `bash scripts/build vault_c` at the top of the repository, or set VAULT_LIB_DIR to the folder that has it",
             archive.display()
         );
     } else {

@@ -1,7 +1,7 @@
 -- Laws of a line's answer. Whatever call a line makes, the bytes that it writes are entries end to end (`call_well`), so they can be printed;
 -- what is printed of an answer is what is printed of what the call leaves, and has room.
 -- Assumes nothing.
-use Prim.Native.Nat.{ℕ, ◌+◌, ◌*◌, ◌-◌, ◌≤◌, ◌<◌}
+use Prim.Native.Nat.{ℕ, ◌+◌, ◌*◌, ◌-◌, ◌≤◌}
 use mathlib.Core.Path.{◌≡◌, refl, sym, ap, subst, ◌∙◌}
 use mathlib.Core.List.{List, [], ◌∷◌}
 use mathlib.Core.Option.{some}

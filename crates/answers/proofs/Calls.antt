@@ -2,7 +2,7 @@
 -- writes are entries end to end (`call_leaves_well` of crate runs). A frame without a byte 1 is refused before its sender is looked at, and
 -- a line of fewer than five bytes is refused (`short_refused`).
 -- Assumes nothing.
-use Prim.Native.Nat.{ℕ, ◌+◌, ◌<◌}
+use Prim.Native.Nat.{ℕ, ◌<◌}
 use mathlib.Core.Path.{◌≡◌, refl, sym, ap, subst, ◌∙◌}
 use mathlib.Core.Bool.{Bool, true, false, cond}
 use mathlib.Core.List.{List}
@@ -28,7 +28,7 @@ use Rattle.protocol.specs.Calls.{answer}
 use Rattle.contents.specs.Contents.{contents}
 use Rattle.contents.specs.Calls.{left_after, on_lent, called, start_left, frame_left, timer_left}
 use Rattle.contents.specs.Left.{Left, gave}
-use Rattle.runs.specs.Runs.{ByteCall, start, frame, timer, InWidth}
+use Rattle.runs.specs.Runs.{ByteCall, start, timer, InWidth}
 use Rattle.runs.specs.Left.{LeavesWell}
 use Rattle.runs.proofs.Left.{call_leaves_well}
 use Rattle.answers.specs.Lines.{is_kind, settings_in, start_of, timer_of, frame_of, call_of, call_left}

@@ -2,6 +2,7 @@
 //
 // What a line leaves and prints is a definition, `vault_lines` (specs/Lines); `answer_line` is exact.
 #![tactic(auto)]
+
 ghost use Rattle.std.specs.Prelude.{◌≡◌, [], ◌+◌, ◌*◌, ◌≤◌, ◌<◌, length, take};
 ghost use Rattle.entry.specs.Reading.{entries_of};
 ghost use Rattle.vault.specs.Answers.{left_by};

@@ -4,7 +4,8 @@ use Prim.Native.Nat.{ℕ}
 use mathlib.Core.Path.{◌≡◌, sym, ap, subst, ◌∙◌}
 use mathlib.Core.Logic.{⊎_elim}
 use mathlib.Core.List.{List, []}
-use denote.Ref.{Bor}
+use denote.Bor.{Bor}
+use denote.MutBor.{MutBor}
 use Rattle.vault.specs.declared.Answer.TheVariants.{Written, Refused}
 use Rattle.contents.specs.Left.{Left, wrote, gave}
 use Rattle.contents.specs.Remnant.{remnant_left}
@@ -30,9 +31,13 @@ demand3 = demand3_by contract_fixed
 
 -- ---- and back: what the paper fixes is what the contracts let be
 
--- A slice that is lent with these bytes.
+-- A slice that is lent with these bytes, to be read,
 unfoldable pub lent : List ℕ → Bor (List ℕ)
 lent xs = record { ref_ptr = (0, 0); now = xs }
+
+-- and one that is lent to be written.
+unfoldable pub lent_mut : List ℕ → MutBor (List ℕ)
+lent_mut xs = record { ref_ptr = (0, 0); ghost_name = 0; now = xs }
 
 -- Where a remnant is written, or that is refused, the record stays.
 pub writes_nothing : (rec out : List ℕ) (left : Left) → left ≡ remnant_left rec out → record_in left ≡ rec
@@ -40,31 +45,31 @@ writes_nothing rec out left e = ⊎_elim (λ (k, is). ap record_in (e ∙ is)) (
 
 -- Each answer of a call is one of crate vault's answers.
 fixed_contract : (rec : List ℕ) (a : HostCall) (out : List ℕ) (left : Left) → Fixed rec a out left → Contract rec a out left
-unfolding lent
-fixed_contract rec (call (start set plan)) out (wrote count rec' out') e = by_start ([], ([], tt)) (lent rec) (lent out) set plan (Written count) rec' out' e
-fixed_contract rec (call (start set plan)) out (gave number rec' out') e = by_start ([], ([], tt)) (lent rec) (lent out) set plan (Refused number) rec' out' e
+unfolding lent lent_mut
+fixed_contract rec (call (start set plan)) out (wrote count rec' out') e = by_start ([], ([], tt)) (lent_mut rec) (lent_mut out) set plan (Written count) rec' out' e
+fixed_contract rec (call (start set plan)) out (gave number rec' out') e = by_start ([], ([], tt)) (lent_mut rec) (lent_mut out) set plan (Refused number) rec' out' e
 fixed_contract rec (call (frame link bytes)) out (wrote count rec' out') e =
-    by_frame ([], ([], ([], tt))) (lent rec) (lent bytes) (lent out) link (Written count) rec' out' e
+    by_frame ([], ([], ([], tt))) (lent_mut rec) (lent bytes) (lent_mut out) link (Written count) rec' out' e
 fixed_contract rec (call (frame link bytes)) out (gave number rec' out') e =
-    by_frame ([], ([], ([], tt))) (lent rec) (lent bytes) (lent out) link (Refused number) rec' out' e
-fixed_contract rec (call (timer view)) out (wrote count rec' out') e = by_timer ([], ([], tt)) (lent rec) (lent out) view (Written count) rec' out' e
-fixed_contract rec (call (timer view)) out (gave number rec' out') e = by_timer ([], ([], tt)) (lent rec) (lent out) view (Refused number) rec' out' e
+    by_frame ([], ([], ([], tt))) (lent_mut rec) (lent bytes) (lent_mut out) link (Refused number) rec' out' e
+fixed_contract rec (call (timer view)) out (wrote count rec' out') e = by_timer ([], ([], tt)) (lent_mut rec) (lent_mut out) view (Written count) rec' out' e
+fixed_contract rec (call (timer view)) out (gave number rec' out') e = by_timer ([], ([], tt)) (lent_mut rec) (lent_mut out) view (Refused number) rec' out' e
 fixed_contract rec write out (wrote count rec' out') e =
     subst (λ (r : List ℕ). Contract rec write out (wrote count r out')) (sym same)
-    (by_write ([], ([], tt)) (lent rec) (lent out) (Written count) out' (ap (λ (r : List ℕ). wrote count r out') (sym same) ∙ e))
+    (by_write ([], ([], tt)) (lent rec) (lent_mut out) (Written count) out' (ap (λ (r : List ℕ). wrote count r out') (sym same) ∙ e))
   where
     same : rec' ≡ rec
     same = writes_nothing rec out (wrote count rec' out') e
 fixed_contract rec write out (gave number rec' out') e =
     subst (λ (r : List ℕ). Contract rec write out (gave number r out')) (sym same)
-    (by_write ([], ([], tt)) (lent rec) (lent out) (Refused number) out' (ap (λ (r : List ℕ). gave number r out') (sym same) ∙ e))
+    (by_write ([], ([], tt)) (lent rec) (lent_mut out) (Refused number) out' (ap (λ (r : List ℕ). gave number r out') (sym same) ∙ e))
   where
     same : rec' ≡ rec
     same = writes_nothing rec out (gave number rec' out') e
 fixed_contract rec (restart remnant) out (wrote count rec' out') e =
-    by_restart ([], ([], ([], tt))) (lent rec) (lent remnant) (lent out) (Written count) rec' out' e
+    by_restart ([], ([], ([], tt))) (lent_mut rec) (lent remnant) (lent_mut out) (Written count) rec' out' e
 fixed_contract rec (restart remnant) out (gave number rec' out') e =
-    by_restart ([], ([], ([], tt))) (lent rec) (lent remnant) (lent out) (Refused number) rec' out' e
+    by_restart ([], ([], ([], tt))) (lent_mut rec) (lent remnant) (lent_mut out) (Refused number) rec' out' e
 
 -- The calls by the contracts are the calls that the paper fixes.
 pub contract_as_fixed : AsFixed Contract

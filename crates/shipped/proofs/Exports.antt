@@ -33,7 +33,7 @@ use Rattle.runs.specs.Claim.{Demand3}
 use Rattle.runs.proofs.Demand.{demand3_by}
 use Rattle.shipped.specs.Sentences.{AsFixed, is_given, InTable, RefusalNumbers, NumbersTell}
 use Rattle.shipped.specs.Exports.{left_of, ExportContract, by_start, by_frame, by_timer, by_write, by_restart}
-use Rattle.shipped.proofs.Demand.{writes_nothing, lent}
+use Rattle.shipped.proofs.Demand.{writes_nothing, lent, lent_mut}
 
 -- ---- a number tells what the call gave
 
@@ -131,7 +131,7 @@ seen_left (gave number rec out) = refl
 
 -- Each answer of a call is one of the exports' numbers.
 fixed_export : (rec : List ℕ) (a : HostCall) (out : List ℕ) (left : Left) → Fixed rec a out left → ExportContract rec a out left
-unfolding lent
+unfolding lent lent_mut
 fixed_export rec a out left e =
     subst (ExportContract rec a out) (ap (λ (l : Left). left_of (numbered l)) e ∙ numbers_tell rec a out ∙ sym e) (by a (numbered left) (ap numbered e))
   where
@@ -140,13 +140,13 @@ fixed_export rec a out left e =
 
     by : (b : HostCall) (s : Seen) → s ≡ numbered (leaves_all rec b out) → ExportContract rec b out (left_of s)
     by (call (start set plan)) (seen number rec' out') is =
-        by_start ([], ([], tt)) (lent rec) (lent out) set.n set.f set.id set.class plan number rec' out' is
-    by (call (frame link bytes)) (seen number rec' out') is = by_frame ([], ([], ([], tt))) (lent rec) (lent bytes) (lent out) link number rec' out' is
-    by (call (timer view)) (seen number rec' out') is = by_timer ([], ([], tt)) (lent rec) (lent out) view number rec' out' is
+        by_start ([], ([], tt)) (lent_mut rec) (lent_mut out) set.n set.f set.id set.class plan number rec' out' is
+    by (call (frame link bytes)) (seen number rec' out') is = by_frame ([], ([], ([], tt))) (lent_mut rec) (lent bytes) (lent_mut out) link number rec' out' is
+    by (call (timer view)) (seen number rec' out') is = by_timer ([], ([], tt)) (lent_mut rec) (lent_mut out) view number rec' out' is
     by write (seen number rec' out') is =
         subst (λ (r : List ℕ). ExportContract rec write out (left_of (seen number r out'))) (sym (kept is))
-        (by_write ([], ([], tt)) (lent rec) (lent out) number out' (ap (λ (r : List ℕ). seen number r out') (sym (kept is)) ∙ is))
-    by (restart remnant) (seen number rec' out') is = by_restart ([], ([], ([], tt))) (lent rec) (lent remnant) (lent out) number rec' out' is
+        (by_write ([], ([], tt)) (lent rec) (lent_mut out) number out' (ap (λ (r : List ℕ). seen number r out') (sym (kept is)) ∙ is))
+    by (restart remnant) (seen number rec' out') is = by_restart ([], ([], ([], tt))) (lent_mut rec) (lent remnant) (lent_mut out) number rec' out' is
 
 -- The calls by the exports are the calls that the paper fixes.
 pub export_as_fixed : AsFixed ExportContract

@@ -9,11 +9,12 @@ use mir.Val.{Val}
 use base.Logic.{ent, sep, ex, via, mono_l, fst∗, snd∗}
 use prog.Memory.{Memory}
 use prog.Machine.{done}
-use prog.Routine.{Routine, any_name}
+use prog.Routine.{Callee, Env, Routine, step}
+use prog.Wired.{Code, Wired}
 use types.Logic.{sem}
 use contract.Monad.{fact}
-use contract.CodeStep.{c_tables}
-use contract.Running.{tables, tables_of}
+use contract.CodeStep.{c_Tables}
+use contract.Running.{strict, tables, tables_of, within}
 use contract.Adequate.{sat_weaken, sat_⇛, sat_ex∗, sat_fact}
 use denote.Triple.Bound.{passed}
 use denote.Triple.Statement.{Contract, Triple}
@@ -113,7 +114,7 @@ module _ (n : ℕ) (ps : List (ParamKind n)) (r : ResultKind n) (ρ : Routine) (
     left_owned : (v : Val) (a : Answer n ps r w x) (last : Last n ps r w x) → ended v a last ∗ F ⊢ given n ps r w x v a last ∗ F
     left_owned v a last = mono_l w.𝓤 F (mono_l w.𝓤 (handed v a) (fst∗ w.𝓤 (lastly last) (told a last)))
 
-    module _ (steps : ℕ) (v : Val) (after : Memory) (runs : ρ.step steps (passed w.𝓛 (sig_of n ps r) x) σ ≡ done (v, after)) where
+    module _ (steps : ℕ) (v : Val) (after : Memory) (runs : step ρ steps (passed w.𝓛 (sig_of n ps r) x) σ ≡ done (v, after)) where
       -- The run, at an answer and last values for which the contract's end is owned.
       ran_with : (a : Answer n ps r w x) (last : Last n ps r w x) → Owned n ps r w after (ended v a last) F → ∥ Ran n ps r w ρ Says x σ F ∥₁
       ran_with a last owned =
@@ -137,81 +138,89 @@ module _ (n : ℕ) (ps : List (ParamKind n)) (r : ResultKind n) (ρ : Routine) (
           (sat_⇛ w.𝓤 w.𝓛.H w.𝓜 after (ex w.𝓤 (λ (a : Answer n ps r w x). ex w.𝓤 (ended v a))) F owned)) ∥∥₁_prop (λ (a, some).
           ∥∥₁_elim (sat_ex∗ w.𝓤 w.𝓛.H w.𝓜 after (ended v a) F some) ∥∥₁_prop (λ (last, is). ran_with a last is))
 
-  -- What a caller knows ρ by: nothing is asked, and what is said holds at the end.
+  -- What a caller knows f by: nothing is asked, and what is said holds at the end.
   abbrev plain : (w : World) → Contract w.𝓤
   plain w = known_of w.𝓛 n ps r (λ κs a. Unit {0}) Says
 
-  -- A routine that is so known to its callers tells them what is said.
-  tells : ((w : World) → Triple w.𝓤 ((Over w.𝓛 w.𝓜 w.𝓡 (λ _. ρ)).C any_name) (plain w)) → Tells n ps r ρ Says
-  unfolding tables_of c_tables
-  tells known w x σ F owned =
-      ∥∥₁_elim (adequate w.𝓤 w.𝓛.H w.𝓜 (tables w.𝓤 w.𝓛.H w.𝓜 w.𝓡 (λ _. ρ)) any_name (plain w) (known w) (x, tt) σ F
-      (sat_weaken w.𝓤 w.𝓛.H w.𝓜 σ (mono_l w.𝓤 F (with_fact w.𝓤 (Unit {0}) (lent n ps r w x) tt)) owned)) ∥∥₁_prop
-      (λ (steps, v, after, runs, is). ran w x σ F steps v after runs is)
+-- The world w, with the machine's plain run for its run: nothing stops the process, and no other thread is beside it. Names mean what they mean in γ.
+abbrev alone : World → Env → World
+alone w γ = record { M = w.M; 𝓤 = w.𝓤; 𝓛 = w.𝓛; 𝓜 = w.𝓜; 𝓡 = within w.𝓤 w.𝓛.H w.𝓜 (strict w.𝓤 w.𝓛.H w.𝓜 w.𝓡) γ }
+
+-- What is known of f to its callers wherever its code is.
+abbrev KnownWhere : (n : ℕ) (ps : List (ParamKind n)) (r : ResultKind n) → Callee → Code → Out n ps r → Type 2
+KnownWhere n ps r f c Says =
+    (w : World) (γ : Env) → Wired γ c → Triple w.𝓤 ((Over w.𝓛 w.𝓜 (alone w γ).𝓡 γ).C f) (plain n ps r (γ f) Says w)
+
+-- A function that is so known to its callers tells them what is said.
+tells : (n : ℕ) (ps : List (ParamKind n)) (r : ResultKind n) (f : Callee) (c : Code) (Says : Out n ps r) → KnownWhere n ps r f c Says → Tells n ps r f c Says
+unfolding tables_of c_Tables
+tells n ps r f c Says known w γ wired x σ F owned =
+    ∥∥₁_elim (adequate w.𝓤 w.𝓛.H w.𝓜 (tables w.𝓤 w.𝓛.H w.𝓜 (alone w γ).𝓡 γ) (λ s none. none, tt) f (plain n ps r (γ f) Says w) (known w γ wired) (x, tt) σ F
+    (sat_weaken w.𝓤 w.𝓛.H w.𝓜 σ (mono_l w.𝓤 F (with_fact w.𝓤 (Unit {0}) (lent n ps r w x) tt)) owned)) ∥∥₁_prop
+    (λ (steps, v, after, runs, is). ran n ps r (γ f) Says w x σ F steps v after runs is)
 
 -- ---- the calls of crate vault
 
 -- `start` ends, and leaves what `start_left` says.
 pub start_tells : StartTells
 start_tells =
-    tells 2 start_kinds.ps start_kinds.r start.routine _
-    (λ w. read_start.known w (λ _. start.routine) any_name start.routine refl (met_start.met w.𝓤 w.𝓛 w.𝓜 w.𝓡))
+    tells 2 start_kinds.ps start_kinds.r start.name start.code _
+    (λ w γ wired. read_start.known (alone w γ) γ start.name (γ start.name) refl (met_start.met w.𝓤 w.𝓛 w.𝓜 (alone w γ).𝓡 wired))
 
 -- `frame` ends, and leaves what `frame_left` says.
 pub frame_tells : FrameTells
 frame_tells =
-    tells 3 frame_kinds.ps frame_kinds.r frame.routine _
-    (λ w. read_frame.known w (λ _. frame.routine) any_name frame.routine refl (met_frame.met w.𝓤 w.𝓛 w.𝓜 w.𝓡))
+    tells 3 frame_kinds.ps frame_kinds.r frame.name frame.code _
+    (λ w γ wired. read_frame.known (alone w γ) γ frame.name (γ frame.name) refl (met_frame.met w.𝓤 w.𝓛 w.𝓜 (alone w γ).𝓡 wired))
 
 -- `timer` ends, and leaves what `timer_left` says.
 pub timer_tells : TimerTells
 timer_tells =
-    tells 2 timer_kinds.ps timer_kinds.r timer.routine _
-    (λ w. read_timer.known w (λ _. timer.routine) any_name timer.routine refl (met_timer.met w.𝓤 w.𝓛 w.𝓜 w.𝓡))
+    tells 2 timer_kinds.ps timer_kinds.r timer.name timer.code _
+    (λ w γ wired. read_timer.known (alone w γ) γ timer.name (γ timer.name) refl (met_timer.met w.𝓤 w.𝓛 w.𝓜 (alone w γ).𝓡 wired))
 
 -- ---- the calls of crate remnant
 
 -- `write_remnant` ends, and leaves what `remnant_left` says.
 pub write_tells : WriteTells
 write_tells =
-    tells 2 write_kinds.ps write_kinds.r write.routine _
-    (λ w. read_write.known w (λ _. write.routine) any_name write.routine refl (met_write.met w.𝓤 w.𝓛 w.𝓜 w.𝓡))
+    tells 2 write_kinds.ps write_kinds.r write.name write.code _
+    (λ w γ wired. read_write.known (alone w γ) γ write.name (γ write.name) refl (met_write.met w.𝓤 w.𝓛 w.𝓜 (alone w γ).𝓡 wired))
 
 -- `restart` ends, and leaves what `restart_left` says.
 pub restart_tells : RestartTells
 restart_tells =
-    tells 3 restart_kinds.ps restart_kinds.r restart.routine _
-    (λ w. read_restart.known w (λ _. restart.routine) any_name restart.routine refl (met_restart.met w.𝓤 w.𝓛 w.𝓜 w.𝓡))
+    tells 3 restart_kinds.ps restart_kinds.r restart.name restart.code _
+    (λ w γ wired. read_restart.known (alone w γ) γ restart.name (γ restart.name) refl (met_restart.met w.𝓤 w.𝓛 w.𝓜 (alone w γ).𝓡 wired))
 
 -- ---- the exports of crate vault_c
 
 -- `vault_start` ends, and its number and bytes are those of what `start_left` says.
 pub export_start_tells : ExportStartTells
 export_start_tells =
-    tells 2 export_start_kinds.ps export_start_kinds.r export_start.routine _
-    (λ w. read_export_start.known w (λ _. export_start.routine) any_name export_start.routine refl (met_export_start.met w.𝓤 w.𝓛 w.𝓜 w.𝓡))
+    tells 2 export_start_kinds.ps export_start_kinds.r export_start.name export_start.code _
+    (λ w γ wired. read_export_start.known (alone w γ) γ export_start.name (γ export_start.name) refl (met_export_start.met w.𝓤 w.𝓛 w.𝓜 (alone w γ).𝓡 wired))
 
 -- `vault_frame` ends, and its number and bytes are those of what `frame_left` says.
 pub export_frame_tells : ExportFrameTells
 export_frame_tells =
-    tells 3 export_frame_kinds.ps export_frame_kinds.r export_frame.routine _
-    (λ w. read_export_frame.known w (λ _. export_frame.routine) any_name export_frame.routine refl (met_export_frame.met w.𝓤 w.𝓛 w.𝓜 w.𝓡))
+    tells 3 export_frame_kinds.ps export_frame_kinds.r export_frame.name export_frame.code _
+    (λ w γ wired. read_export_frame.known (alone w γ) γ export_frame.name (γ export_frame.name) refl (met_export_frame.met w.𝓤 w.𝓛 w.𝓜 (alone w γ).𝓡 wired))
 
 -- `vault_timer` ends, and its number and bytes are those of what `timer_left` says.
 pub export_timer_tells : ExportTimerTells
 export_timer_tells =
-    tells 2 export_timer_kinds.ps export_timer_kinds.r export_timer.routine _
-    (λ w. read_export_timer.known w (λ _. export_timer.routine) any_name export_timer.routine refl (met_export_timer.met w.𝓤 w.𝓛 w.𝓜 w.𝓡))
+    tells 2 export_timer_kinds.ps export_timer_kinds.r export_timer.name export_timer.code _
+    (λ w γ wired. read_export_timer.known (alone w γ) γ export_timer.name (γ export_timer.name) refl (met_export_timer.met w.𝓤 w.𝓛 w.𝓜 (alone w γ).𝓡 wired))
 
 -- `vault_write_remnant` ends, and its number and bytes are those of what `remnant_left` says.
 pub export_write_tells : ExportWriteTells
 export_write_tells =
-    tells 2 export_write_kinds.ps export_write_kinds.r export_write.routine _
-    (λ w. read_export_write.known w (λ _. export_write.routine) any_name export_write.routine refl (met_export_write.met w.𝓤 w.𝓛 w.𝓜 w.𝓡))
+    tells 2 export_write_kinds.ps export_write_kinds.r export_write.name export_write.code _
+    (λ w γ wired. read_export_write.known (alone w γ) γ export_write.name (γ export_write.name) refl (met_export_write.met w.𝓤 w.𝓛 w.𝓜 (alone w γ).𝓡 wired))
 
 -- `vault_restart` ends, and its number and bytes are those of what `restart_left` says.
 pub export_restart_tells : ExportRestartTells
 export_restart_tells =
-    tells 3 export_restart_kinds.ps export_restart_kinds.r export_restart.routine _
-    (λ w. read_export_restart.known w (λ _. export_restart.routine) any_name export_restart.routine refl
-    (met_export_restart.met w.𝓤 w.𝓛 w.𝓜 w.𝓡))
+    tells 3 export_restart_kinds.ps export_restart_kinds.r export_restart.name export_restart.code _
+    (λ w γ wired. read_export_restart.known (alone w γ) γ export_restart.name (γ export_restart.name) refl (met_export_restart.met w.𝓤 w.𝓛 w.𝓜 (alone w γ).𝓡 wired))

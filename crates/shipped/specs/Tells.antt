@@ -6,7 +6,8 @@ use mir.Val.{Val}
 use base.Logic.{sep}
 use prog.Memory.{Memory}
 use prog.Machine.{done}
-use prog.Routine.{Routine}
+use prog.Routine.{Callee, Env, Routine, step}
+use prog.Wired.{Code, Wired}
 use Rattle.std.specs.Borrow.{sem}
 use contract.Adequate.{Satisfies}
 use denote.Triple.Entry.{on_entry}
@@ -71,59 +72,61 @@ module _ (n : ℕ) (ps : List (ParamKind n)) (r : ResultKind n) (w : World) wher
     pub steps : ℕ
     pub value : Val
     pub after : Memory
-    pub runs : ρ.step steps (passed w.𝓛 (sig_of n ps r) x) σ ≡ done (value, after)
+    pub runs : step ρ steps (passed w.𝓛 (sig_of n ps r) x) σ ≡ done (value, after)
     pub answer : Answer x
     pub last : Last x
     pub says : Says x.0 x.3 answer (at_exit (ended_of n ps r) x.0 x.3 last)
     pub back : Owned after (given x value answer last) F
 
--- From every memory in which the arguments are lent, with nothing else asked, ρ ends and its caller learns what is said.
-abbrev pub Tells : (n : ℕ) (ps : List (ParamKind n)) (r : ResultKind n) → Routine → Out n ps r → Type 2
-Tells n ps r ρ Says =
-    (w : World) (x : Arguments n ps r w) (σ : Memory) (F : Pr w) → Owned n ps r w σ (lent n ps r w x) F → ∥ Ran n ps r w ρ Says x σ F ∥₁
+-- From every memory in which the arguments are lent, with nothing else asked, a call of f ends and its caller learns what is said: in whatever
+-- environment γ has the code c, in which f and all that it calls stand.
+abbrev pub Tells : (n : ℕ) (ps : List (ParamKind n)) (r : ResultKind n) → Callee → Code → Out n ps r → Type 2
+Tells n ps r f c Says =
+    (w : World) (γ : Env) → Wired γ c → (x : Arguments n ps r w) (σ : Memory) (F : Pr w) → Owned n ps r w σ (lent n ps r w x) F
+    → ∥ Ran n ps r w (γ f) Says x σ F ∥₁
 
 -- `start`, `frame` and `timer` of crate vault.
 abbrev pub StartTells : Type 2
-StartTells = Tells 2 start_kinds.ps start_kinds.r start.routine
+StartTells = Tells 2 start_kinds.ps start_kinds.r start.name start.code
     (λ κs (rec, (set, (plan, (out, _)))) a (rec', (_, (_, (out', _)))). left_by a rec'.now out'.now ≡ start_left rec.now set plan out.now)
 
 abbrev pub FrameTells : Type 2
-FrameTells = Tells 3 frame_kinds.ps frame_kinds.r frame.routine
+FrameTells = Tells 3 frame_kinds.ps frame_kinds.r frame.name frame.code
     (λ κs (rec, (link, (bytes, (out, _)))) a (rec', (_, (_, (out', _)))). left_by a rec'.now out'.now ≡ frame_left rec.now link bytes.now out.now)
 
 abbrev pub TimerTells : Type 2
-TimerTells = Tells 2 timer_kinds.ps timer_kinds.r timer.routine
+TimerTells = Tells 2 timer_kinds.ps timer_kinds.r timer.name timer.code
     (λ κs (rec, (view, (out, _))) a (rec', (_, (out', _))). left_by a rec'.now out'.now ≡ timer_left rec.now view out.now)
 
 -- `write_remnant` and `restart` of crate remnant.
 abbrev pub WriteTells : Type 2
-WriteTells = Tells 2 write_kinds.ps write_kinds.r write.routine
+WriteTells = Tells 2 write_kinds.ps write_kinds.r write.name write.code
     (λ κs (rec, (out, _)) a (_, (out', _)). left_by a rec.now out'.now ≡ remnant_left rec.now out.now)
 
 abbrev pub RestartTells : Type 2
-RestartTells = Tells 3 restart_kinds.ps restart_kinds.r restart.routine
+RestartTells = Tells 3 restart_kinds.ps restart_kinds.r restart.name restart.code
     (λ κs (rec, (remnant, (out, _))) a (rec', (_, (out', _))). left_by a rec'.now out'.now ≡ restart_left rec.now remnant.now out.now)
 
 -- The exports of crate vault_c.
 abbrev pub ExportStartTells : Type 2
-ExportStartTells = Tells 2 export_start_kinds.ps export_start_kinds.r export_start.routine
+ExportStartTells = Tells 2 export_start_kinds.ps export_start_kinds.r export_start.name export_start.code
     (λ κs (rec, (n, (f, (id, (class, (plan, (out, _))))))) number (rec', (_, (_, (_, (_, (_, (out', _))))))).
     seen number rec'.now out'.now ≡ numbered (start_left rec.now (record { n = n; f = f; id = id; class = class }) plan out.now))
 
 abbrev pub ExportFrameTells : Type 2
-ExportFrameTells = Tells 3 export_frame_kinds.ps export_frame_kinds.r export_frame.routine
+ExportFrameTells = Tells 3 export_frame_kinds.ps export_frame_kinds.r export_frame.name export_frame.code
     (λ κs (rec, (link, (bytes, (out, _)))) number (rec', (_, (_, (out', _)))).
     seen number rec'.now out'.now ≡ numbered (frame_left rec.now link bytes.now out.now))
 
 abbrev pub ExportTimerTells : Type 2
-ExportTimerTells = Tells 2 export_timer_kinds.ps export_timer_kinds.r export_timer.routine
+ExportTimerTells = Tells 2 export_timer_kinds.ps export_timer_kinds.r export_timer.name export_timer.code
     (λ κs (rec, (view, (out, _))) number (rec', (_, (out', _))). seen number rec'.now out'.now ≡ numbered (timer_left rec.now view out.now))
 
 abbrev pub ExportWriteTells : Type 2
-ExportWriteTells = Tells 2 export_write_kinds.ps export_write_kinds.r export_write.routine
+ExportWriteTells = Tells 2 export_write_kinds.ps export_write_kinds.r export_write.name export_write.code
     (λ κs (rec, (out, _)) number (_, (out', _)). seen number rec.now out'.now ≡ numbered (remnant_left rec.now out.now))
 
 abbrev pub ExportRestartTells : Type 2
-ExportRestartTells = Tells 3 export_restart_kinds.ps export_restart_kinds.r export_restart.routine
+ExportRestartTells = Tells 3 export_restart_kinds.ps export_restart_kinds.r export_restart.name export_restart.code
     (λ κs (rec, (remnant, (out, _))) number (rec', (_, (out', _))).
     seen number rec'.now out'.now ≡ numbered (restart_left rec.now remnant.now out.now))

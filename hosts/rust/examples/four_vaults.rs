@@ -1,6 +1,6 @@
 //! Four vaults in one process (n = 4, f = 1) with one vault's frames lost in view 0: the timers run out, and the vaults decide in a later view.
 //! Meanwhile the power fails at another vault, and it comes back with what was stored.
-//! At the repository's top: rt staticlib vault_c && cargo run --release --offline --manifest-path hosts/rust/Cargo.toml --example four_vaults
+//! At the repository's top: bash scripts/build vault_c && cargo run --release --offline --manifest-path hosts/rust/Cargo.toml --example four_vaults
 use std::collections::VecDeque;
 use std::convert::Infallible;
 

@@ -50,7 +50,7 @@
 //!
 //! # What is needed
 //!
-//! Linux on x86-64, and the archive: `rt staticlib vault_c` at the repository's top writes it where this crate looks for it; an installed one is
+//! Linux on x86-64, and the archive: `bash scripts/build vault_c` at the repository's top writes it where this crate looks for it; an installed one is
 //! named by its folder in the variable `VAULT_LIB_DIR`. A call needs less than 16 KB of stack, and allocates nothing.
 #![warn(missing_docs)]
 
