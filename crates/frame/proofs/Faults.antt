@@ -2,7 +2,7 @@
 -- for the third'). Where 9 to 13 give nothing, the rows 14, 21, 22 and 15 are left, over four flags: each of the five answers is told apart from
 -- the others by its number. A frame that passes the rows on its content has none of the three faults.
 -- Assumes nothing.
-use Prim.Native.Nat.{ℕ, ◌≤◌}
+use Prim.Native.Nat.{ℕ}
 use mathlib.Core.Path.{◌≡◌, refl, sym, ap, ◌∙◌}
 use mathlib.Core.Logic.{inl, inr}
 use mathlib.Core.Bool.{Bool, true, false, cond, true≢false}
@@ -13,7 +13,7 @@ use lib.ListN.{get_or}
 use Rattle.frame.specs.declared.Frame.{Frame}
 use Rattle.frame.specs.declared.Reading.{Reading}
 use Rattle.frame.specs.declared.Reading.TheVariants.{Accepted, Refused}
-use Rattle.frame.specs.Format.{three_reports, reports_at, reports_of, body_as, decode}
+use Rattle.frame.specs.Format.{three_reports, reports_at, reports_of, decode}
 use Rattle.frame.specs.Refusal.{first, any, bad_form, too_high, bad_previous_of, view_missing, misled}
 use Rattle.frame.specs.Refusal.{form_rows, link_rows, report_rows, content_rows, leader_rows, refusal, read_frame}
 use Rattle.frame.specs.Sentences.{FaultsTell, FaultsAreTold, Faultless}

@@ -2,7 +2,7 @@
 -- of four forms (a plan, nothing, reports, unknown), and each definition over the kind computes to one value on each form. A table
 -- in two parts gives what its first part gives, unless that is 0. So every proof goes over the form, and none over the eight kinds.
 -- Assumes nothing.
-use Prim.Native.Nat.{ℕ, ◌+◌, ◌≤◌, ◌<◌}
+use Prim.Native.Nat.{ℕ, ◌≤◌, ◌<◌}
 use mathlib.Core.Path.{◌≡◌, refl, sym, ◌∙◌}
 use mathlib.Core.Bool.{Bool, true, false, not, ◌&&◌, ◌||◌, cond, or-false}
 use mathlib.Core.List.{List, [], ◌∷◌, ◌++◌}

@@ -2,7 +2,7 @@
 -- as the same frame, and accepted bytes are the only spelling of their frame: a frame's fields and its bytes determine each other
 -- (`Spelling`), and an accepted reading is one where each of the four groups of rows gives nothing (`Laws`).
 -- Assumes nothing.
-use Prim.Native.Nat.{ℕ, ◌+◌, ◌≤◌}
+use Prim.Native.Nat.{ℕ, ◌≤◌}
 use mathlib.Core.Path.{◌≡◌, refl, sym, ap, subst, ◌∙◌}
 use mathlib.Core.Bool.{Bool, true, false, cond}
 use mathlib.Core.List.{List, ◌∷◌, ◌++◌}

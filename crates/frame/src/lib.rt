@@ -1,5 +1,6 @@
 // Frames by value, and the tests of refusals 9 to 15, 21 and 22 in the four groups that callers use apart.
 #![tactic(auto)]
+
 ghost use Rattle.std.specs.Prelude.{◌≡◌, false, ◌||◌, ◌++◌, ◌<◌};
 ghost use Rattle.frame.specs.Format.{length_of, three_reports};
 ghost use Rattle.frame.specs.Refusal.{bad_form, too_high, bad_previous, view_missing, misled, first, any, form_rows, link_rows, report_rows, content_rows, leader_rows};

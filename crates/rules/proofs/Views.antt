@@ -2,7 +2,7 @@
 -- What backs a plan falls with the view and what allows it rises. Below the lowest view u with a quorum that has no lock above it no
 -- plan is allowed; above u every plan is. So a plan is safe exactly if u serves it or, where locks at u stand against it, the next view.
 -- Assumes nothing.
-use Prim.Native.Nat.{ℕ, zero, suc, ◌+◌, ◌-◌, ◌≤◌, ◌<◌, min}
+use Prim.Native.Nat.{ℕ, zero, suc, ◌+◌, ◌≤◌, ◌<◌, min}
 use mathlib.Core.Path.{◌≡◌, refl, sym, ◌∙◌, ap}
 use mathlib.Core.Logic.{◌≢◌, ◌⊎◌, inl, inr, ⊎_elim, ◌↔◌}
 use mathlib.Core.Bool.{Bool, true, false, cond, not, ◌&&◌}

@@ -1,5 +1,6 @@
 // A vault's settings: the refusals 5 to 8 of the place 'start', and the delay that the link class gives.
 #![tactic(auto)]
+
 ghost use Rattle.std.specs.Prelude.{◌≡◌, ◌*◌};
 ghost use Rattle.frame.specs.Refusal.{first};
 ghost use Rattle.settings.specs.Settings.{setting_rows, delay_of};

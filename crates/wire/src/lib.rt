@@ -1,5 +1,6 @@
 // Big-endian numbers in byte slices: one reader and one writer for every width up to eight bytes.
 #![tactic(auto)]
+
 ghost use Rattle.std.specs.Prelude.{◌≡◌, ◌+◌, ◌≤◌, ◌<◌, length};
 ghost use Rattle.wire.specs.Digits.{number_at, digits};
 ghost use Rattle.wire.specs.inside.Reversed.{Reversed};

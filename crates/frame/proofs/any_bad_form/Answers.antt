@@ -3,7 +3,6 @@
 -- Assumes nothing.
 use mathlib.Core.Path.{◌∙◌}
 use mathlib.Core.Bool.{false, ◌||◌}
-use borrow.Author.Rules.{rules}
 use Rattle.frame.proofs.any_bad_form.Goals as goal
 
 pub returns : goal.returns

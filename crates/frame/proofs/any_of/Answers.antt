@@ -2,7 +2,6 @@
 -- Where two flags are false, the third is left.
 -- Assumes nothing.
 use mathlib.Core.Bool.{or-false}
-use borrow.Author.Rules.{rules}
 use Rattle.frame.proofs.any_of.Goals as goal
 
 pub returns : goal.returns

@@ -2,7 +2,6 @@
 -- Row 13 by the flag, the rows on the reports by the call; a body without reports gives none.
 -- Assumes nothing.
 use Rattle.frame.proofs.Laws.{told}
-use borrow.Author.Rules.{rules}
 use Rattle.frame.proofs.content_refusal.Goals as goal
 
 pub returns-then-view_missing : goal.returns-then-view_missing

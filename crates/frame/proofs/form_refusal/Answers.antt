@@ -4,7 +4,6 @@
 use mathlib.Core.Path.{sym, ◌∙◌}
 use borrow.Author.Tests.{eq-eqb, ne_eqb}
 use Rattle.frame.proofs.Laws.{told, unknown, known}
-use borrow.Author.Rules.{rules}
 use Rattle.frame.proofs.form_refusal.Goals as goal
 
 pub returns-then-s-eq0 : goal.returns-then-s-eq0

@@ -5,7 +5,6 @@ use mathlib.Core.Path.{sym, ◌∙◌}
 use native.Mathlib.Omega.{arith}
 use Rattle.frame.proofs.Laws.{told, first_some, first_none}
 use Rattle.frame.specs.Refusal.{content_rows, leader_rows}
-use borrow.Author.Rules.{rules}
 use Rattle.frame.proofs.frame_refusal.Goals as goal
 
 pub returns-then-why-ne0 : goal.returns-then-why-ne0

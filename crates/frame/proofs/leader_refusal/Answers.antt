@@ -2,7 +2,6 @@
 -- The one row is given by the flag.
 -- Assumes nothing.
 use Rattle.frame.proofs.Laws.{told}
-use borrow.Author.Rules.{rules}
 use Rattle.frame.proofs.leader_refusal.Goals as goal
 
 pub returns-then-led_wrong : goal.returns-then-led_wrong

@@ -5,7 +5,6 @@ use mathlib.Core.Path.{◌≡◌}
 use native.Mathlib.Omega.{arith}
 use Rattle.frame.proofs.Laws.{tests}
 use Rattle.frame.specs.Refusal.{misled}
-use borrow.Author.Rules.{rules}
 use Rattle.frame.proofs.led_wrong.Goals as goal
 
 pub returns-in-1 : goal.returns-in-1

@@ -4,7 +4,6 @@ use mathlib.Core.Path.{◌≡◌, refl, sym, ◌∙◌}
 use mathlib.Core.Bool.{cond}
 use Rattle.frame.specs.Format.{three_reports}
 use Rattle.frame.specs.Refusal.{first, report_rows}
-use borrow.Author.Rules.{rules}
 use Rattle.frame.proofs.reports_refusal.Goals as goal
 use Rattle.frame.proofs.reports_refusal.Goals.{Else-high}
 

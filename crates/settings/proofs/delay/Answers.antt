@@ -4,7 +4,6 @@ use Rattle.settings.specs.Settings.{delays, delay_of}
 use lib.ListN.{get_or-eq_default}
 use mathlib.Core.Path.{refl, sym}
 use native.Mathlib.Omega.{arith}
-use borrow.Author.Rules.{rules}
 use Rattle.settings.proofs.delay.Goals as goal
 
 pub returns-then-at-lt8 : goal.returns-then-at-lt8

@@ -3,7 +3,6 @@
 use Prim.Native.Nat.{◌*◌, ◌≤◌, ◌<◌}
 use native.Mathlib.Omega.{arith}
 use Rattle.frame.proofs.Laws.{tests}
-use borrow.Author.Rules.{rules}
 use Rattle.settings.proofs.settings_refusal.Goals as goal
 
 pub returns-then-s-lt4 : goal.returns-then-s-lt4

@@ -2,7 +2,6 @@
 -- Assumes nothing.
 use Rattle.settings.proofs.Delays.{delay_below}
 use native.Mathlib.Omega.{arith}
-use borrow.Author.Rules.{rules}
 use Rattle.settings.proofs.timer_millis.Goals as goal
 
 pub overflow_mul-result : goal.overflow_mul-result

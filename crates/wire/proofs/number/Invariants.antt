@@ -1,13 +1,9 @@
 -- `wire::number` meets its contract. 'Numbers are big-endian' (01, Frames).
 -- The invariant: n is the number that the first i bytes spell, and it has at most i digits, so one more byte fits in 64 bits.
 -- Assumes nothing.
-use Prim.Native.Nat.{◌≤◌, ◌<◌, ◌-◌, ◌+◌, ◌^◌}
-use mathlib.Core.Path.{◌≡◌, refl}
-use native.Mathlib.Omega.{arith}
-use native.Mathlib.Numerals.{add-one}
-use borrow.Author.Rules.{rules}
+use Prim.Native.Nat.{◌≤◌, ◌<◌, ◌-◌, ◌^◌}
+use mathlib.Core.Path.{◌≡◌}
 use Rattle.wire.specs.Digits.{number_at}
-use Rattle.wire.proofs.Laws.{room, more}
 use Rattle.wire.proofs.number.Given as goal
 
 abbrev pub invariant-loop-i : goal.invariant-loop-i

@@ -1,7 +1,6 @@
 -- `wire::number32` meets its contract. 'a view (4 bytes)' (01, Frames): four bytes read from the other end, and turned round.
 -- Assumes nothing.
 use Rattle.wire.proofs.Laws.{turned}
-use borrow.Author.Rules.{rules}
 use Rattle.wire.proofs.number32.Goals as goal
 
 pub returns : goal.returns

@@ -2,7 +2,6 @@
 -- Assumes nothing.
 use native.Mathlib.Omega.{arith}
 use Rattle.wire.proofs.Laws.{number_halves}
-use borrow.Author.Rules.{rules}
 use Rattle.wire.proofs.number64.Goals as goal
 
 pub returns : goal.returns

@@ -4,9 +4,7 @@
 use Prim.Native.Nat.{◌≤◌, ◌+◌}
 use mathlib.Core.Path.{◌≡◌, refl, ◌∙◌}
 use native.Mathlib.Omega.{arith}
-use borrow.Author.Rules.{rules}
 use lib.ListN.{length, length-set}
-use lib.Seq.{sets}
 use Rattle.wire.specs.Digits.{digits}
 use Rattle.wire.proofs.Laws.{length_digits}
 use Rattle.wire.proofs.Output.{put_step, placed_sets}

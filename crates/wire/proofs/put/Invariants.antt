@@ -1,15 +1,11 @@
 -- `wire::put` meets its contract. 'Numbers are big-endian' (01, Frames).
 -- The invariant: what is left to store, stored on what is there, gives what is to come out; at the end nothing is left.
 -- Assumes nothing.
-use Prim.Native.Nat.{◌≤◌, ◌+◌}
-use mathlib.Core.Path.{◌≡◌, refl, ◌∙◌}
-use native.Mathlib.Omega.{arith}
-use borrow.Author.Rules.{rules}
-use lib.ListN.{length, length-set}
+use Prim.Native.Nat.{◌≤◌}
+use mathlib.Core.Path.{◌≡◌}
+use lib.ListN.{length}
 use lib.Seq.{sets}
 use Rattle.wire.specs.Digits.{digits}
-use Rattle.wire.proofs.Laws.{length_digits}
-use Rattle.wire.proofs.Output.{put_step, placed_sets}
 use Rattle.wire.proofs.put.Given as goal
 
 abbrev pub invariant-loop-i : goal.invariant-loop-i

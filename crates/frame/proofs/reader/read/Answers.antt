@@ -7,7 +7,6 @@ use lib.ListN.{get_or}
 use Rattle.frame.specs.Refusal.{first, form_rows, link_rows}
 use Rattle.frame.proofs.Laws.{told, formed, head_is_there}
 use Rattle.frame.proofs.Steps.{by_form, by_link, by_the_frame, accepts, link_below}
-use borrow.Author.Rules.{rules}
 use Rattle.frame.proofs.reader.read.Goals as goal
 use Rattle.frame.proofs.reader.read.Goals.{Else-astray-ne0}
 

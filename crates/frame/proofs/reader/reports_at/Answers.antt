@@ -1,7 +1,6 @@
 -- `reader::reports_at` meets its contract. 'three reports' (01, Frames).
 -- Each report is what was read at its place, 13 bytes after the one before.
 -- Assumes nothing.
-use borrow.Author.Rules.{rules}
 use Rattle.frame.proofs.reader.reports_at.Goals as goal
 
 pub returns : goal.returns

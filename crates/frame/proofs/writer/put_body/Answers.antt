@@ -5,7 +5,6 @@ use mathlib.Core.Path.{refl, sym, ◌∙◌}
 use mathlib.Core.List.{append-nil}
 use native.Mathlib.Omega.{arith}
 use Rattle.wire.proofs.Output.{placed_none}
-use borrow.Author.Rules.{rules}
 use Rattle.frame.proofs.writer.put_body.Goals as goal
 
 pub put-requires : goal.put-requires

@@ -3,7 +3,6 @@
 -- Assumes nothing.
 use Rattle.frame.specs.Format.{head_fields}
 use Rattle.wire.proofs.Output.{puts_spell}
-use borrow.Author.Rules.{rules}
 use Rattle.frame.proofs.writer.put_head.Goals as goal
 
 pub returns : goal.returns

@@ -3,7 +3,6 @@
 -- Assumes nothing.
 use Rattle.frame.specs.Format.{report_fields}
 use Rattle.wire.proofs.Output.{puts_spell}
-use borrow.Author.Rules.{rules}
 use Rattle.frame.proofs.writer.put_report.Goals as goal
 
 pub returns : goal.returns

@@ -11,7 +11,6 @@ use Rattle.wire.specs.Fields.{spell}
 use Rattle.wire.specs.Placed.{placed}
 use Rattle.wire.proofs.Laws.{length_spell}
 use Rattle.wire.proofs.Output.{length_placed, placed_spell}
-use borrow.Author.Rules.{rules}
 use Rattle.frame.proofs.writer.put_reports.Goals as goal
 
 pub returns : goal.returns

@@ -5,7 +5,6 @@ use native.Mathlib.Omega.{arith}
 use Rattle.frame.specs.Format.{head_fields, body_fields, fields_of, encode}
 use Rattle.wire.proofs.Laws.{length_spell}
 use Rattle.wire.proofs.Output.{placed_spell}
-use borrow.Author.Rules.{rules}
 use Rattle.frame.proofs.writer.write.Goals as goal
 
 pub put_head-requires : goal.put_head-requires
