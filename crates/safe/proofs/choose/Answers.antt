@@ -3,7 +3,6 @@
 -- Assumes nothing.
 use mathlib.Core.Bool.{true, false}
 use mathlib.Core.Path.{sym, ◌∙◌}
-use borrow.Author.Rules.{rules}
 use Rattle.rules.specs.Rules.{rule1}
 use Rattle.safe.proofs.Searches.{safe_every, lowest_at, none_safe, choice_start, choice_none, one_same, start_fails, choice_same}
 use Rattle.safe.proofs.choose.Goals as goal

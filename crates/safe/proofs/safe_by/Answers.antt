@@ -4,7 +4,6 @@
 use mathlib.Core.Bool.{true, false}
 use mathlib.Core.Path.{sym, ◌∙◌}
 use native.Mathlib.Omega.{arith}
-use borrow.Author.Rules.{rules}
 use Rattle.safe.proofs.Searches.{safe_every, lowest_at, none_safe, by_rule, one_same, three_same}
 use Rattle.safe.proofs.safe_by.Goals as goal
 

@@ -4,7 +4,6 @@
 use Prim.Native.Nat.{◌+◌}
 use mathlib.Core.Path.{sym}
 use native.Mathlib.Omega.{arith}
-use borrow.Author.Rules.{rules}
 use Rattle.claims.specs.Table.{reports_in_table}
 use Rattle.rules.specs.Sets.{equals}
 use Rattle.rules.proofs.Views.{two_late}
