@@ -4,6 +4,7 @@
 // and the pages are what `program_prints` says however it is split (`WholeInput`, specs/Steps there).
 // There the proof stops, at the input and output calls: no contract can say what the runtime reads and writes.
 #![tactic(auto)]
+
 ghost use Rattle.std.specs.Prelude.{◌≡◌, ◌≤◌, ℕ, length, IfOk, OnErr};
 ghost use Rattle.lines.specs.declared.Ended.TheVariants.{Dry};
 ghost use Rattle.lines.specs.inside.Reading.{EndedWell};
@@ -23,7 +24,12 @@ fn flush(rt: &impl Print, page: &[u8], at: usize) -> io::Result<()>
 // Reads the input, piece by piece; what a piece prints is written out before more is awaited.
 // Where a read or a write fails, whole pieces were fed up to there.
 // A proved loop has to end, and nothing says that the input does: the loop takes so many turns that no run uses them up.
-fn read_all(rt: &(impl Input + Print), rec: &mut [u8], text: &mut [u8], page: &mut [u8]) -> io::Result<Ended>
+fn read_all(
+    rt: &(impl Input + Print),
+    rec: &mut [u8],
+    text: &mut [u8],
+    page: &mut [u8],
+) -> io::Result<Ended>
     requires { (length text.old ≡ kept_size) × (length page.old ≡ page_size) }
     ensures ok { IfOk result (λ ended. EndedWell vault_lines kept_size rec.old ended rec.new text.new) }
     ensures err { OnErr result ((len : ℕ) × EndedWell vault_lines kept_size rec.old (Dry len) rec.new text.new) }
@@ -44,7 +50,12 @@ fn read_all(rt: &(impl Input + Print), rec: &mut [u8], text: &mut [u8], page: &m
 }
 
 // The input is read, and then its last line answered.
-fn run(rt: &(impl Input + Print), rec: &mut [u8], text: &mut [u8], page: &mut [u8]) -> io::Result<()>
+fn run(
+    rt: &(impl Input + Print),
+    rec: &mut [u8],
+    text: &mut [u8],
+    page: &mut [u8],
+) -> io::Result<()>
     requires { (length text.old ≡ kept_size) × (length page.old ≡ page_size) }
 {
     let ended = read_all(rt, rec, text, page)?;
