@@ -1,6 +1,7 @@
 // When each step of document 01's pass acts ('One pass', A to H), read off a record's lent bytes: A and B are lent its shared part,
 // C to H the practice's block. The answer says what is to be done.
 #![tactic(auto)]
+
 ghost use Rattle.std.specs.Prelude.{◌≤◌, ◌<◌, ◌≡◌};
 ghost use Rattle.record.specs.Layout.{decode_record};
 ghost use Rattle.safe.specs.Choices.{chosen};

@@ -1,6 +1,7 @@
 // Claims: who claims which plan at a view (document 01, 'When a plan is safe'), from a lent table of reports, prepared in a row of plans.
 // A plan's walk goes down the candidate views with one count and ends at the first one that serves the plan. So does the lock search, by spans.
 #![tactic(auto)]
+
 ghost use Rattle.std.specs.Prelude.{◌+◌, ◌-◌, ◌*◌, ◌≤◌, ◌<◌, max, ◌≡◌, cond, not, leb, eqb, length, set};
 ghost use Rattle.rules.specs.Sets.{weigh};
 ghost use Rattle.claims.specs.inside.Rows.{rows_size, for_plan, FitsRow, added, SameBelow};

@@ -1,5 +1,6 @@
 // Output entries: written end to end, and walked one after the other.
 #![tactic(auto)]
+
 ghost use Rattle.std.specs.Prelude.{◌≡◌, ◌+◌, ◌≤◌, length, drop, ◌∷◌};
 ghost use Rattle.wire.specs.Fields.{spell};
 ghost use Rattle.wire.specs.inside.Widths.{widths, total_width};

@@ -1,6 +1,7 @@
 // Names the vaults that spoke twice: those that appear in the records handed in with two different plans for one view and one kind of vote.
 // The records are read where they lie, and nothing is kept of them.
 #![tactic(auto)]
+
 ghost use Rattle.std.specs.Prelude.{◌≡◌, not, ◌+◌, ◌*◌, ◌≤◌, ◌<◌, length};
 ghost use Rattle.record.specs.Slots.{rows, slot_count};
 ghost use Rattle.sound.specs.inside.Sound.{all};

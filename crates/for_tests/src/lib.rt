@@ -1,6 +1,7 @@
 // Exports for the Rust tests, apart from what ships: the reader with the entry writer, the search for safe plans, and what lent bytes are.
 // Each answer is a number.
 #![tactic(auto)]
+
 ghost use Rattle.std.specs.Prelude.{◌≤◌, ◌≡◌, length};
 ghost use Rattle.wire.specs.Placed.{placed};
 ghost use Rattle.entry.specs.Layout.{layout};

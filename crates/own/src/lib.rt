@@ -1,6 +1,7 @@
 // A vault's own part of its record, in 237 bytes: what it says of itself, and so what a step changes and what outlives a power cut. It is read off a record,
 // changed where it lies by itself, and put back. What the vault heard stays in the record.
 #![tactic(auto)]
+
 ghost use Rattle.std.specs.Prelude.{◌≡◌, ◌+◌, ◌≤◌, ◌<◌, length, take, drop};
 ghost use Rattle.wire.specs.Placed.{placed};
 ghost use Rattle.record.specs.Slots.{rows, slot_count};

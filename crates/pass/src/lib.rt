@@ -1,6 +1,7 @@
 // One pass over a record's lent bytes: steps A to H in their order. What a step is to do is found where the record lies. Only where a step
 // acts is the vault's own part loaded by value, and of what the step hands back only what it changed is put back.
 #![tactic(auto)]
+
 ghost use Rattle.std.specs.Prelude.{◌+◌, ◌≤◌, ◌<◌, ◌≡◌, ◌≢◌, length};
 ghost use Rattle.std.proofs.Math.Option.{some};
 ghost use Rattle.wire.specs.Placed.{placed};

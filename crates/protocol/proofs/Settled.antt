@@ -26,7 +26,7 @@ use Rattle.settings.specs.declared.Settings.{Settings}
 use Rattle.protocol.specs.Pass.{Act, ask, enter, cast, decide, entered, does, asked, is_news, act_a, can_enter, act_b, may_propose, chosen, act_c}
 use Rattle.protocol.specs.Pass.{approves, act_d, agreed, act_vote, act_h, Out, Step, taken, onward, pass, step_a, step_b, step_c, step_d, step_vote}
 use Rattle.protocol.specs.Pass.{step_h, from_c, from_a}
-use Rattle.protocol.specs.Calls.{Call, accepted, answer, fresh, started, keep, heard, wanted, timed_out, start}
+use Rattle.protocol.specs.Calls.{Call, accepted, answer, fresh, started, keep, heard, wanted, timed_out}
 use Rattle.protocol.specs.Settled.{AlwaysSettled}
 use Rattle.protocol.specs.Asked.{HighestOfAll, NoViewMissed}
 use Rattle.protocol.proofs.Tables.{keep_same, keep_other_kind, keep_was, each_some, each_none, each_was, when_some, when_none, when_false, highest_has}

@@ -29,7 +29,6 @@ use Rattle.protocol.specs.Record.{Record, kind_of, keeping, vaults, leader, lead
 use Rattle.protocol.specs.Tables.{put}
 use Rattle.settings.specs.declared.Settings.{Settings}
 use Rattle.protocol.specs.Pass.{Act, ask, enter, cast, decide, shift, has_previous, entered, does, suggest_entry, writes}
-use Rattle.protocol.specs.Calls.{start}
 use Rattle.protocol.specs.inside.Sound.{FitsVote, Ranged}
 use Rattle.protocol.specs.Sound.{InRow, Sound}
 use Rattle.protocol.proofs.Tables.{keep_was, each_some, when_some}

@@ -1,6 +1,6 @@
 -- How much a call writes: VAULT_LONGEST_OUTPUT of include/vault.h.
 -- Assumes nothing.
-use Rattle.std.specs.Prelude.{ℕ, ◌≤◌, ◌≡◌, length}
+use Rattle.std.specs.Prelude.{◌≤◌, ◌≡◌, length}
 use Rattle.std.proofs.Math.Option.{Option}
 use Rattle.entry.specs.Layout.{layout}
 use Rattle.protocol.specs.Record.{Record}

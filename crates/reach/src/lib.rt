@@ -1,5 +1,6 @@
 // Says how high a claim reaches: the highest view at which the reports of a suggest or proof claim a plan (document 02, wish 7).
 #![tactic(auto)]
+
 ghost use Rattle.std.specs.Prelude.{◌≡◌};
 ghost use Rattle.frame.specs.Format.{three_reports};
 ghost use Rattle.frame.specs.Refusal.{first};

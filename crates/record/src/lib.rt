@@ -2,6 +2,7 @@
 // view-changes), then one practice's block (starting plan, all other slots). Each part has a head of 8 bytes, then slots of 13 bytes
 // end to end: mark (1), view (4), plan (8), big-endian. Every string of SIZE bytes spells one record, and every record has one spelling.
 #![tactic(auto)]
+
 ghost use Rattle.std.specs.Prelude.{◌≡◌, ◌+◌, ◌*◌, ◌≤◌, ◌<◌, length, replicate};
 ghost use Rattle.wire.specs.Placed.{placed};
 ghost use Rattle.record.specs.Slots.{first_report, first_previous, decision_slot, slot_count, frame_slot, report_slot, previous_slot};

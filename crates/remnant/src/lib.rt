@@ -1,6 +1,7 @@
 // The remnant of a record, and the restart from one: what a vault keeps of itself, its own row above all, in few bytes.
 // Every refusal comes before the first write.
 #![tactic(auto)]
+
 mod row;
 
 ghost use Rattle.std.specs.Prelude.{◌≡◌, ◌≤◌, length};

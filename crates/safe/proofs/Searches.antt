@@ -21,7 +21,7 @@ use Rattle.rules.specs.Quorums.{is_blocking}
 use Rattle.rules.proofs.Bools.{which, clash, not_true, both_split, both_join, or_left, or_right}
 use Rattle.rules.proofs.Quorums.{quorum_count}
 use Rattle.rules.specs.Options.{is_none}
-use Rattle.rules.specs.Rules.{Reports, Rule, rule1, rule3, claims, allows, reporting, Safe, at_start, no_lock, since, IsSmallest, other}
+use Rattle.rules.specs.Rules.{Reports, Rule, rule1, rule3, allows, reporting, Safe, at_start, no_lock, since, IsSmallest, other}
 use Rattle.rules.specs.inside.Counts.{claimed, free, allowed, two_sets, backed, safe, smaller, choice}
 use Rattle.rules.specs.inside.Views.{lowest_view, Lowest}
 use Rattle.rules.proofs.Laws.{claimed_falls, safe_iff, choice_is, chosen_one}

@@ -1,6 +1,7 @@
 // Safe plans (document 01, 'When a plan is safe'): Rule 1, Rule 3, and step C's choice, over a lent table of reports.
 // What a search needs is prepared once: who comes in for which plan at the next view and at view u, and whose lock allows which plan at view u.
 #![tactic(auto)]
+
 ghost use Rattle.std.specs.Prelude.{◌+◌, ◌-◌, ◌*◌, ◌≤◌, ◌<◌, ◌≡◌, cond, not, true, false, ◌&&◌, length, get_or};
 ghost use Rattle.rules.specs.Sets.{equals};
 ghost use Rattle.settings.specs.Vaults.{vaults_of};
@@ -140,34 +141,24 @@ fn locks_at<'a>(table: &'a [u64], n: usize, u: u32, plans: &mut [u64]) -> Tally
 
 // ---- what is prepared
 
-#[derive(Clone, Copy)]
-struct Parts {
-    plans: [u64; ROOM],
-    search: Search,
-}
-
-// All rows, for the search that starts at view u.
-fn prepare<'a>(table: &'a [u64], n: usize, f: usize, u: u32, v: u32) -> Parts
-    requires { (length table.now ≡ table_size) × (n ≤ column) × (f < n) × (u < v) }
-    ensures { Prepared (reports_in_table table.now) result.search result.plans × (result.search.n ≡ n) × (result.search.f ≡ f) × (result.search.u ≡ u) × (result.search.v ≡ v) }
+// All rows, for the search that starts at view u. The rows are lent: by value they would be copied at each return.
+fn prepare<'a>(table: &'a [u64], n: usize, f: usize, u: u32, v: u32, plans: &mut [u64]) -> Search
+    requires { (length table.now ≡ table_size) × (n ≤ column) × (f < n) × (u < v) × (length plans.old ≡ rows_size) }
+    ensures { Prepared (reports_in_table table.now) result plans.new × (result.n ≡ n) × (result.f ≡ f) × (result.u ≡ u) × (result.v ≡ v) }
 {
-    let mut plans = [0u64; ROOM];
     let end = claims::end_of(u, v);
-    let coming = claims::claims_from(table, n, u, end, &mut plans);
+    let coming = claims::claims_from(table, n, u, end, plans);
     let next = coming.next;
     let here = coming.here;
-    let locks = locks_at(table, n, u, &mut plans);
-    Parts {
-        plans: plans,
-        search: Search {
-            n: n,
-            f: f,
-            u: u,
-            v: v,
-            next: next,
-            here: here,
-            locks: locks,
-        },
+    let locks = locks_at(table, n, u, plans);
+    Search {
+        n: n,
+        f: f,
+        u: u,
+        v: v,
+        next: next,
+        here: here,
+        locks: locks,
     }
 }
 
@@ -291,8 +282,9 @@ fn two_sets_after<'a>(table: &'a [u64], c: Search) -> bool
 {
     let low = c.u + 1;
     if low + 1 < c.v {
-        let later = prepare(table, c.n, c.f, low, c.v);
-        return two_sets(&later.plans, later.search);
+        let mut plans = [0u64; ROOM];
+        let later = prepare(table, c.n, c.f, low, c.v, &mut plans);
+        return two_sets(&plans, later);
     }
     false
 }
@@ -328,11 +320,11 @@ fn every_safe<'a>(table: &'a [u64], n: usize, f: usize, v: u32) -> bool
 }
 
 // All rows, for the search of a call: it starts at the lowest view u that can serve a plan.
-fn begin<'a>(table: &'a [u64], n: usize, f: usize, u: u32, v: u32) -> Parts
-    requires { (length table.now ≡ table_size) × (n ≤ column) × (f < n) × Lowest (equals n f) (reports_in_table table.now) v u }
-    ensures { Begun (reports_in_table table.now) n f v result.search result.plans }
+fn begin<'a>(table: &'a [u64], n: usize, f: usize, u: u32, v: u32, plans: &mut [u64]) -> Search
+    requires { (length table.now ≡ table_size) × (n ≤ column) × (f < n) × Lowest (equals n f) (reports_in_table table.now) v u × (length plans.old ≡ rows_size) }
+    ensures { Begun (reports_in_table table.now) n f v result plans.new }
 {
-    prepare(table, n, f, u, v)
+    prepare(table, n, f, u, v, plans)
 }
 
 // Whether p is safe in view v: by Rule 3 where three is set, by Rule 1 where not.
@@ -347,11 +339,12 @@ pub fn safe_by<'a>(table: &'a [u64], set: Settings, v: u32, p: u64, three: bool)
     }
     let u = lowest_view(table, n, f, v);
     if u < v {
-        let s = begin(table, n, f, u, v);
+        let mut plans = [0u64; ROOM];
+        let s = begin(table, n, f, u, v, &mut plans);
         if three {
-            return safe_three(table, &s.plans, s.search, p);
+            return safe_three(table, &plans, s, p);
         }
-        return safe_one(&s.plans, s.search, p);
+        return safe_one(&plans, s, p);
     }
     false
 }
@@ -459,11 +452,12 @@ pub fn choose<'a>(table: &'a [u64], set: Settings, v: u32, start: u64) -> Choice
     }
     let u = lowest_view(table, n, f, v);
     if u < v {
-        let s = begin(table, n, f, u, v);
-        if safe_one(&s.plans, s.search, start) {
+        let mut plans = [0u64; ROOM];
+        let s = begin(table, n, f, u, v, &mut plans);
+        if safe_one(&plans, s, start) {
             return Choice::Plan(start);
         }
-        return smallest_safe(&s.plans, s.search, start);
+        return smallest_safe(&plans, s, start);
     }
     Choice::Nothing
 }

@@ -1,6 +1,7 @@
 // Whether lent bytes are a blank record, a sound one, or neither. They are read where they lie: in bulk where nothing is kept, else the
 // mark first, and the rest only where it is asked for.
 #![tactic(auto)]
+
 ghost use Rattle.std.specs.Prelude.{◌≡◌, not, ◌&&◌, ◌||◌, ◌+◌, ◌-◌, ◌*◌, ◌≤◌, ◌<◌, length, eqb, ltb};
 ghost use Rattle.frame.specs.Format.{within, three_reports};
 ghost use Rattle.frame.specs.Refusal.{first, absent, bad_form, bad_previous, report_rows};

@@ -22,7 +22,6 @@ use Rattle.frame.specs.declared.Body.TheVariants.{Empty}
 use Rattle.frame.specs.declared.Frame.{Frame}
 use Rattle.frame.specs.Refusal.{leader_of}
 use Rattle.frame.specs.inside.Reading.{present_at}
-use Rattle.frame.proofs.Laws.{inside}
 use Rattle.entry.specs.declared.Entry.{Entry}
 use Rattle.entry.specs.declared.Entry.TheVariants.{ForAll, ForOne, Timer, Decision}
 use Rattle.record.specs.Slots as slots

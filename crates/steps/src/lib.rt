@@ -1,6 +1,7 @@
 // What each step of document 01's pass does ('One pass', A to H), on the vault's own part of its record by value: what it says of itself. A step hands
 // that part back with the entries. What the vault heard is only read, where the record lies.
 #![tactic(auto)]
+
 ghost use Rattle.std.specs.Prelude.{◌+◌, ◌-◌, ◌≤◌, ◌<◌, ◌≡◌, length, get_or};
 ghost use Rattle.std.proofs.Math.Option.{some};
 ghost use Rattle.frame.specs.Refusal.{leader_of};

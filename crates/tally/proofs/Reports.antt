@@ -1,7 +1,7 @@
 -- The table of reports, filled sender by sender (document 01: 'Reports are those in kept suggests (Rule 1) or proofs (Rule 3) of view
 -- v'). What one sender reports goes into its own row of seven columns, so that every other row stays as it was.
 -- Assumes nothing.
-use Prim.Native.Nat.{ℕ, ◌+◌, ◌-◌, ◌*◌, ◌≤◌, ◌<◌}
+use Prim.Native.Nat.{ℕ, ◌+◌, ◌*◌, ◌≤◌, ◌<◌}
 use mathlib.Core.Path.{◌≡◌, refl, sym, ◌∙◌, ap, fun_ext}
 use mathlib.Core.Logic.{◌≢◌}
 use mathlib.Core.Bool.{Bool, true, false, cond, not, ◌&&◌}

@@ -1,6 +1,7 @@
 // What steps A to H count and gather (document 01, 'One pass'), over lent parts of a record: the highest view with enough
 // view-changes, over its shared part; the reports of a view and the plan that a quorum of votes is for, over its block.
 #![tactic(auto)]
+
 ghost use Rattle.std.specs.Prelude.{◌+◌, ◌-◌, ◌*◌, ◌≤◌, ◌<◌, ◌≡◌, not, cond, leb, ltb, eqb, length};
 ghost use Rattle.rules.specs.Sets.{weigh};
 ghost use Rattle.rules.specs.Options.{is_none, holds};

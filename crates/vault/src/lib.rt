@@ -1,6 +1,7 @@
 // The vault's calls on lent bytes. The record stays where it lies: what a call asks of it, and what it puts there, goes over its bytes;
 // every refusal comes before the first write.
 #![tactic(auto)]
+
 ghost use Rattle.std.specs.Prelude.{◌≤◌, ◌<◌, ◌≡◌, length};
 ghost use Rattle.frame.specs.Refusal.{first};
 ghost use Rattle.settings.specs.Settings.{setting_rows};

@@ -1,6 +1,7 @@
 // The vault for Rust and C hosts: start, frame and timer over lent bytes, with one number as the answer; what is stored and comes back after a
 // power cut; questions on a stored record, and on many; how high a claim reaches; and help with entries and refusals (include/vault.h).
 #![tactic(auto)]
+
 ghost use Rattle.std.specs.Prelude.{◌≡◌, length, drop};
 ghost use Rattle.record.specs.Size.{record_size};
 ghost use Rattle.contents.specs.Calls.{start_left, frame_left, timer_left};

@@ -3,7 +3,6 @@
 use mathlib.Core.Path.{◌∙◌, ap}
 use Rattle.protocol.specs.Pass.{act_a}
 use Rattle.acts.proofs.Asked.{asks_for, silent}
-use borrow.Author.Rules.{rules}
 use Rattle.acts.proofs.act_a.Goals as goal
 
 pub returns-then-low-w : goal.returns-then-low-w

@@ -6,7 +6,6 @@ use Rattle.acts.specs.inside.Acts.{act_at}
 use Rattle.acts.specs.inside.Lent.{LentRecord}
 use Rattle.acts.proofs.Parts.{lent}
 use Rattle.acts.proofs.Numbers.{act_votes, numbered}
-use borrow.Author.Rules.{rules}
 use native.Mathlib.Omega.{arith}
 use Rattle.acts.proofs.act_at.Goals as goal
 use Rattle.acts.proofs.act_at.Goals.{Start}

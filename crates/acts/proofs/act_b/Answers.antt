@@ -3,7 +3,6 @@
 use mathlib.Core.Path.{◌∙◌, ap}
 use Rattle.protocol.specs.Pass.{act_b}
 use Rattle.acts.proofs.Asked.{enters, stays}
-use borrow.Author.Rules.{rules}
 use Rattle.acts.proofs.act_b.Goals as goal
 
 pub returns-then-view-w : goal.returns-then-view-w

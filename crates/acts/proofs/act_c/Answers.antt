@@ -9,7 +9,6 @@ use Rattle.protocol.specs.Pass.{cast, act_c}
 use Rattle.contents.specs.Contents.{contents_in}
 use Rattle.acts.proofs.Proposals.{proposes_not, proposes}
 use Rattle.acts.proofs.Searched.{plan_one}
-use borrow.Author.Rules.{rules}
 use Rattle.acts.proofs.act_c.Goals as goal
 use Rattle.acts.proofs.act_c.Goals.{After-safe_plan-choice}
 

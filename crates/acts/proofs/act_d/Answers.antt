@@ -9,7 +9,6 @@ use Rattle.protocol.specs.Pass.{cast, act_d}
 use Rattle.contents.specs.Contents.{contents_in}
 use Rattle.acts.specs.inside.Proposals.{safe_plan}
 use Rattle.acts.proofs.Proposals.{voted_once, unproposed, votes_one}
-use borrow.Author.Rules.{rules}
 use Rattle.acts.proofs.act_d.Goals as goal
 use Rattle.acts.proofs.act_d.Goals.{After-safe_plan-choice}
 

@@ -8,7 +8,6 @@ use Rattle.protocol.specs.Record.{each}
 use Rattle.protocol.specs.Pass.{decide, act_h}
 use Rattle.contents.specs.Contents.{contents_in}
 use Rattle.acts.proofs.Agreed.{decided_already, decides}
-use borrow.Author.Rules.{rules}
 use Rattle.acts.proofs.act_h.Goals as goal
 use Rattle.acts.proofs.act_h.Goals.{After-agreed_plan}
 

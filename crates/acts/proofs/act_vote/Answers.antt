@@ -8,7 +8,6 @@ use Rattle.protocol.specs.Record.{Record, each}
 use Rattle.protocol.specs.Pass.{cast, act_vote}
 use Rattle.contents.specs.Contents.{contents_in}
 use Rattle.acts.proofs.Agreed.{vote_sent, vote_acts}
-use borrow.Author.Rules.{rules}
 use Rattle.acts.proofs.act_vote.Goals as goal
 use Rattle.acts.proofs.act_vote.Goals.{After-agreed_plan}
 

@@ -3,7 +3,6 @@
 use mathlib.Core.Path.{◌∙◌, ap}
 use Rattle.protocol.specs.Pass.{may_propose}
 use Rattle.acts.proofs.Proposals.{leads_not, leads_own}
-use borrow.Author.Rules.{rules}
 use Rattle.acts.proofs.may_propose.Goals as goal
 
 pub returns-then-leader-set : goal.returns-then-leader-set

@@ -10,7 +10,6 @@ use Rattle.settings.specs.Vaults.{vaults_of}
 use Rattle.contents.specs.Contents.{contents_in}
 use Rattle.acts.specs.inside.Proposals.{safe_plan}
 use Rattle.acts.proofs.Searched.{planned_first, planned_one, planned_three}
-use borrow.Author.Rules.{rules}
 use Rattle.acts.proofs.safe_plan.Goals as goal
 use Rattle.acts.proofs.safe_plan.Goals.{After-safe_by}
 

@@ -2,7 +2,6 @@
 -- Where the vaults stand, and the lists of their plans, tell who comes in at each candidate view (`standing_told`).
 -- Assumes nothing.
 use native.Mathlib.Omega.{arith}
-use borrow.Author.Rules.{rules}
 use Rattle.claims.proofs.Standing.{standing_told}
 use Rattle.claims.proofs.claims_from.Goals as goal
 

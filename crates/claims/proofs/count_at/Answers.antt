@@ -1,10 +1,9 @@
 -- `claims::count_at` meets its contract.
 -- The count is that of the first r vaults that stand there.
 -- Assumes nothing.
-use Prim.Native.Nat.{◌-◌, ◌≤◌}
+use Prim.Native.Nat.{◌≤◌}
 use mathlib.Core.Path.{◌≡◌, sym, ◌∙◌, ap}
 use native.Mathlib.Omega.{arith}
-use borrow.Author.Rules.{rules}
 use Rattle.claims.specs.inside.Spans.{stands_at}
 use Rattle.rules.proofs.Quorums.{weigh_none, weigh_step, share_most}
 use Rattle.rules.specs.Sets.{weigh}

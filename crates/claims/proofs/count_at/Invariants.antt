@@ -2,11 +2,8 @@
 -- The count is that of the first r vaults that stand there.
 -- Assumes nothing.
 use Prim.Native.Nat.{◌-◌, ◌≤◌}
-use mathlib.Core.Path.{◌≡◌, sym, ◌∙◌, ap}
-use native.Mathlib.Omega.{arith}
-use borrow.Author.Rules.{rules}
+use mathlib.Core.Path.{◌≡◌}
 use Rattle.claims.specs.inside.Spans.{stands_at}
-use Rattle.rules.proofs.Quorums.{weigh_none, weigh_step, share_most}
 use Rattle.rules.specs.Sets.{weigh}
 use Rattle.claims.proofs.count_at.Given as goal
 

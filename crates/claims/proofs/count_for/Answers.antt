@@ -1,12 +1,11 @@
 -- `claims::count_for` meets its contract.
 -- The count is that of the first r of the row that are p, with those that are for every plan.
 -- Assumes nothing.
-use Prim.Native.Nat.{ℕ, ◌+◌, ◌-◌, ◌≤◌}
+use Prim.Native.Nat.{ℕ, ◌+◌}
 use mathlib.Core.Path.{◌≡◌, ◌∙◌, ap}
 use native.Mathlib.Omega.{arith}
 use lib.Dec.{eqb}
 use lib.ListN.{get_or}
-use borrow.Author.Rules.{rules}
 use Rattle.claims.proofs.Rows.{count_none, count_step}
 use Rattle.claims.specs.inside.Rows.{count_of}
 use Rattle.rules.proofs.Quorums.{share_most}

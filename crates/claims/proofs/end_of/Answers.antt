@@ -1,7 +1,6 @@
 -- `claims::end_of` meets its contract.
 -- u + 2 where the next view is below v, else v.
 -- Assumes nothing.
-use borrow.Author.Rules.{rules}
 use borrow.Author.Tests.{lt-ltb, le-ltb}
 use Rattle.claims.proofs.end_of.Goals as goal
 

@@ -1,7 +1,7 @@
 -- `claims::highest_to` meets its contract.
 -- The loop keeps the highest of the first r spans that are not above w, and `highest_more` adds one span.
 -- Assumes nothing.
-use Prim.Native.Nat.{◌≤◌, ◌-◌, max}
+use Prim.Native.Nat.{max}
 use mathlib.Core.Path.{◌≡◌, sym, ◌∙◌, ap}
 use native.Mathlib.Omega.{arith}
 use borrow.Author.Rules.{rules}

@@ -1,11 +1,8 @@
 -- `claims::highest_to` meets its contract.
 -- The loop keeps the highest of the first r spans that are not above w, and `highest_more` adds one span.
 -- Assumes nothing.
-use Prim.Native.Nat.{◌≤◌, ◌-◌, max}
-use mathlib.Core.Path.{◌≡◌, sym, ◌∙◌, ap}
-use native.Mathlib.Omega.{arith}
-use borrow.Author.Rules.{rules}
-use Rattle.claims.proofs.Spans.{highest_more, highest_none}
+use Prim.Native.Nat.{◌≤◌, ◌-◌}
+use mathlib.Core.Path.{◌≡◌}
 use Rattle.claims.specs.inside.Spans.{highest_to}
 use Rattle.claims.proofs.highest_to.Given as goal
 

@@ -1,10 +1,9 @@
 -- `claims::list_at` meets its contract.
 -- The plans of the first r vaults that stand there are listed; `listing_more` looks at one more. While some are missing there is one (`listing_left`).
 -- Assumes nothing.
-use Prim.Native.Nat.{◌-◌, ◌<◌}
+use Prim.Native.Nat.{◌<◌}
 use native.Mathlib.Omega.{arith}
-use borrow.Author.Rules.{rules}
-use Rattle.claims.proofs.Walk.{Listing, listing_none, listing_most, listing_more, listing_left, listing_all}
+use Rattle.claims.proofs.Walk.{listing_none, listing_most, listing_more, listing_left, listing_all}
 use Rattle.claims.specs.inside.Spans.{stands_at}
 use Rattle.rules.proofs.Quorums.{share_most}
 use Rattle.claims.proofs.list_at.Goals as goal

@@ -3,12 +3,10 @@
 -- vaults those whose span ends at the candidate have come in. A candidate that f + 1 cover is the highest view with enough (`locks_found`);
 -- else the count goes on with the search (`locks_next`), and without a candidate left no view has enough (`locks_none`).
 -- Assumes nothing.
-use Prim.Native.Nat.{ℕ, ◌+◌, ◌-◌, ◌≤◌}
+use Prim.Native.Nat.{ℕ, ◌+◌, ◌-◌}
 use mathlib.Core.Path.{◌≡◌, sym, ◌∙◌, ap}
 use native.Mathlib.Omega.{arith}
-use borrow.Author.Rules.{rules}
-use Rattle.claims.specs.inside.Spans.{covering, stands_at, LocksCarried}
-use Rattle.claims.specs.Table.{column}
+use Rattle.claims.specs.inside.Spans.{covering, stands_at}
 use Rattle.claims.proofs.Spans.{highest_low, locks_first, locks_more, locks_found, locks_next, locks_none}
 use Rattle.rules.specs.Sets.{weigh}
 use Rattle.rules.proofs.Quorums.{weigh_none, weigh_most, share_most}

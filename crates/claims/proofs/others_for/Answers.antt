@@ -1,10 +1,9 @@
 -- `claims::others_for` meets its contract.
 -- The count is that of the first r plans that are not p.
 -- Assumes nothing.
-use Prim.Native.Nat.{ℕ, ◌-◌, ◌≤◌}
+use Prim.Native.Nat.{ℕ, ◌≤◌}
 use mathlib.Core.Path.{◌≡◌, ◌∙◌, ap}
 use native.Mathlib.Omega.{arith}
-use borrow.Author.Rules.{rules}
 use Rattle.claims.proofs.Walk.{others_none, others_more, others_share}
 use Rattle.claims.specs.inside.Walk.{others_of}
 use Rattle.claims.proofs.others_for.Goals as goal

@@ -3,7 +3,6 @@
 -- Assumes nothing.
 use Prim.Native.Nat.{max}
 use mathlib.Core.Path.{◌∙◌}
-use borrow.Author.Rules.{rules}
 use Rattle.claims.proofs.reach.Goals as goal
 
 pub returns : goal.returns

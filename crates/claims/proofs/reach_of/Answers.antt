@@ -4,7 +4,6 @@
 use Prim.Native.Nat.{max}
 use mathlib.Core.Path.{◌∙◌}
 use mathlib.Core.Bool.{cond}
-use borrow.Author.Rules.{rules}
 use lib.Dec.{eqb}
 use Rattle.claims.specs.inside.Walk.{reach_in, voted_in}
 use Rattle.claims.proofs.reach_of.Goals as goal

@@ -2,7 +2,6 @@
 -- The vault's place in the first column is not 0.
 -- Assumes nothing.
 use mathlib.Core.Path.{refl}
-use borrow.Author.Rules.{rules}
 use borrow.Author.Tests.{lt-ltb}
 use Rattle.claims.specs.Table.{reporter}
 use Rattle.claims.proofs.reported.Goals as goal

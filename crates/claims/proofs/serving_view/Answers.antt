@@ -2,11 +2,10 @@
 -- The walk down the candidate views. Outer invariant: no view finished so far serves, and the count is that of the claimers at the last of them
 -- (`Walked`). Inner invariant: the first r of those that come in for one plan are counted too. A view that f + 1 claim serves; else the next is tried.
 -- Assumes nothing.
-use Prim.Native.Nat.{ℕ, ◌+◌, ◌-◌, ◌*◌, ◌≤◌}
+use Prim.Native.Nat.{ℕ, ◌+◌, ◌-◌, ◌≤◌}
 use mathlib.Core.Path.{◌≡◌, refl, sym, ◌∙◌, ap}
 use mathlib.Core.Bool.{true}
 use native.Mathlib.Omega.{arith}
-use borrow.Author.Rules.{rules}
 use lib.Dec.{eqb}
 use lib.ListN.{get_or}
 use Rattle.claims.proofs.Rows.{count_none, count_step}

@@ -2,20 +2,11 @@
 -- The walk down the candidate views. Outer invariant: no view finished so far serves, and the count is that of the claimers at the last of them
 -- (`Walked`). Inner invariant: the first r of those that come in for one plan are counted too. A view that f + 1 claim serves; else the next is tried.
 -- Assumes nothing.
-use Prim.Native.Nat.{ℕ, ◌+◌, ◌-◌, ◌*◌, ◌≤◌}
-use mathlib.Core.Path.{◌≡◌, refl, sym, ◌∙◌, ap}
-use mathlib.Core.Bool.{true}
-use native.Mathlib.Omega.{arith}
-use borrow.Author.Rules.{rules}
-use lib.Dec.{eqb}
-use lib.ListN.{get_or}
-use Rattle.claims.proofs.Rows.{count_none, count_step}
-use Rattle.claims.proofs.Walk.{end_bounds, coming_fits, others_bound, walk_begins, walk_over, walk_step, walk_on}
-use Rattle.claims.specs.declared.Coming.{Coming}
+use Prim.Native.Nat.{◌+◌, ◌-◌, ◌*◌, ◌≤◌}
+use mathlib.Core.Path.{◌≡◌}
 use Rattle.claims.specs.inside.Rows.{count_of}
-use Rattle.claims.specs.inside.Walk.{coming_for, FitsComing, coming_at, claimed_in, serving_view, Walked}
+use Rattle.claims.specs.inside.Walk.{Walked}
 use Rattle.claims.specs.Table.{column}
-use Rattle.rules.proofs.Quorums.{share_most}
 use Rattle.claims.proofs.serving_view.Given as goal
 
 abbrev pub invariant-reporters : goal.invariant-reporters

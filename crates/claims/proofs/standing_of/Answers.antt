@@ -3,7 +3,6 @@
 -- Assumes nothing.
 use Prim.Native.Nat.{◌≤◌}
 use native.Mathlib.Omega.{arith}
-use borrow.Author.Rules.{rules}
 use Rattle.claims.proofs.Standing.{end_most}
 use Rattle.claims.specs.inside.Walk.{voted_in, standing}
 use Rattle.claims.specs.Table.{reports_in_table}

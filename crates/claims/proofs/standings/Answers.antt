@@ -1,15 +1,12 @@
 -- `claims::standings` meets its contract.
 -- The first r places tell where the first r vaults stand, and `spans_more` writes one more.
 -- Assumes nothing.
-use Prim.Native.Nat.{◌-◌, ◌≤◌, ◌<◌}
-use mathlib.Core.Path.{◌≡◌}
+use Prim.Native.Nat.{◌<◌}
 use native.Mathlib.Omega.{arith}
 use lib.ListN.{length, length-set}
 use borrow.Author.Rules.{rules}
 use Rattle.claims.proofs.Spans.{spans_more}
-use Rattle.claims.specs.inside.Spans.{AreSpans}
 use Rattle.claims.specs.inside.Walk.{standing}
-use Rattle.claims.specs.Table.{column}
 use Rattle.claims.proofs.standings.Goals as goal
 
 pub loop-r-init : goal.loop-r-init

@@ -2,7 +2,6 @@
 -- Each list is written behind the one before, which stays (`in_order`).
 -- Assumes nothing.
 use native.Mathlib.Omega.{arith}
-use borrow.Author.Rules.{rules}
 use Rattle.claims.proofs.Walk.{listed_most, two_most, in_order}
 use Rattle.claims.proofs.write_row.Goals as goal
 

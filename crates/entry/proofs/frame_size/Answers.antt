@@ -4,7 +4,6 @@ use Prim.Native.Nat.{ℕ, ◌+◌, ◌≤◌}
 use mathlib.Core.Path.{sym, ap, subst, ◌∙◌}
 use native.Mathlib.Omega.{arith}
 use Rattle.entry.proofs.Laws.{length_short, frame_none, frame_some}
-use borrow.Author.Rules.{rules}
 use Rattle.entry.proofs.frame_size.Goals as goal
 
 pub returns-then-length-eq0 : goal.returns-then-length-eq0

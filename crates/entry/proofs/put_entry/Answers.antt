@@ -4,7 +4,6 @@
 use lib.ListN.{length-append}
 use Rattle.wire.proofs.Laws.{length_digits}
 use Rattle.entry.specs.Layout.{entry_bytes}
-use borrow.Author.Rules.{rules}
 use Rattle.entry.proofs.put_entry.Goals as goal
 
 pub put_frame-requires : goal.put_frame-requires

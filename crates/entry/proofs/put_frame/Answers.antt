@@ -7,7 +7,6 @@ use lib.ListN.{length, set, length-set, length-take, length-drop}
 use native.Mathlib.Omega.{arith}
 use Rattle.frame.specs.Format.{encode}
 use Rattle.wire.proofs.Output.{placed_lent, placed_next}
-use borrow.Author.Rules.{rules}
 use Rattle.entry.proofs.put_frame.Goals as goal
 
 pub slice_bounds-write-count : goal.slice_bounds-write-count

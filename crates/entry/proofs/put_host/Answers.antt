@@ -4,7 +4,6 @@
 use native.Mathlib.Omega.{arith}
 use Rattle.entry.specs.Layout.{host_fields}
 use Rattle.wire.proofs.Output.{puts_spell}
-use borrow.Author.Rules.{rules}
 use Rattle.entry.proofs.put_host.Goals as goal
 
 pub returns : goal.returns

@@ -2,7 +2,6 @@
 -- Assumes nothing.
 use mathlib.Core.Path.{sym, ◌∙◌}
 use Rattle.entry.proofs.Laws.{by_host, by_the_frame}
-use borrow.Author.Rules.{rules}
 use Rattle.entry.proofs.size_by.Goals as goal
 
 pub returns-then-to-eq-TO_HOST : goal.returns-then-to-eq-TO_HOST

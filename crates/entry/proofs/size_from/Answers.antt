@@ -3,7 +3,6 @@
 use mathlib.Core.Path.{sym, ◌∙◌}
 use native.Mathlib.Omega.{arith}
 use Rattle.entry.proofs.Laws.{in_none, in_rest}
-use borrow.Author.Rules.{rules}
 use Rattle.entry.proofs.size_from.Goals as goal
 
 pub returns-then-s-at : goal.returns-then-s-at

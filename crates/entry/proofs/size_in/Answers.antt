@@ -4,7 +4,6 @@ use Prim.Native.Nat.{ℕ, ◌≤◌, ◌<◌}
 use mathlib.Core.Path.{sym, subst, ◌∙◌}
 use lib.ListN.{length}
 use Rattle.entry.proofs.Laws.{in_short, in_cut, in_whole}
-use borrow.Author.Rules.{rules}
 use Rattle.entry.proofs.size_in.Goals as goal
 
 pub returns-then-s-lt2 : goal.returns-then-s-lt2

@@ -5,7 +5,6 @@ use mathlib.Core.Path.{sym, ap, ◌∙◌}
 use mathlib.Core.Bool.{not}
 use Rattle.sound.proofs.Laws.{off, on}
 use Rattle.equivocation.proofs.Handed.{few, many, sizes_off, sum_off, records_fit}
-use borrow.Author.Rules.{rules}
 use Rattle.equivocation.proofs.collected.Goals as goal
 
 pub returns-then-count-lt-FEWEST : goal.returns-then-count-lt-FEWEST

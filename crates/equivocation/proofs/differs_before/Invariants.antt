@@ -1,15 +1,9 @@
 -- `equivocation::differs_before` meets its contract: 'two of the records' are any two. The invariant: none of the records between the one that is
 -- compared and record i differs from it; the measure is how many are left.
 -- Assumes nothing.
-use Prim.Native.Nat.{◌-◌, ◌≤◌, ◌<◌}
-use mathlib.Core.Path.{◌≡◌, sym, ◌∙◌}
-use native.Mathlib.Omega.{arith}
-use Rattle.frame.specs.declared.Report.{Report}
-use Rattle.frame.proofs.Laws.{told}
-use Rattle.rules.proofs.Bools.{any_at}
-use Rattle.equivocation.specs.inside.Records.{slots_differ, clash}
-use Rattle.equivocation.proofs.Laws.{NoneFrom, none_yet, none_more, none_all}
-use borrow.Author.Rules.{rules}
+use Prim.Native.Nat.{◌-◌, ◌≤◌}
+use Rattle.equivocation.specs.inside.Records.{clash}
+use Rattle.equivocation.proofs.Laws.{NoneFrom}
 use Rattle.equivocation.proofs.differs_before.Given as goal
 
 abbrev pub invariant-loop-j : goal.invariant-loop-j

@@ -13,7 +13,6 @@ use Rattle.equivocation.specs.Named.{rising}
 use Rattle.equivocation.specs.inside.Records.{twice_in, Put}
 use Rattle.equivocation.proofs.Handed.{named_is, fits_hold}
 use Rattle.equivocation.proofs.Laws.{room_missing, misfit_left, names_left}
-use borrow.Author.Rules.{rules}
 use Rattle.equivocation.proofs.equivocators.Goals as goal
 
 -- The same bytes by another name.

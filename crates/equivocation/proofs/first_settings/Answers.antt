@@ -5,7 +5,6 @@ use mathlib.Core.List.{List}
 use Prim.Native.Nat.{ℕ}
 use Rattle.record.specs.Layout.{decode_record}
 use Rattle.equivocation.proofs.Laws.{first_lent}
-use borrow.Author.Rules.{rules}
 use Rattle.equivocation.proofs.first_settings.Goals as goal
 
 pub returns : goal.returns

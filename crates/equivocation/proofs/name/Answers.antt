@@ -2,7 +2,6 @@
 -- Assumes nothing.
 use Rattle.sound.proofs.Laws.{off, on}
 use Rattle.equivocation.proofs.Laws.{put_nobody, put_one}
-use borrow.Author.Rules.{rules}
 use Rattle.equivocation.proofs.name.Goals as goal
 
 pub returns-then-not-spoke_twice : goal.returns-then-not-spoke_twice

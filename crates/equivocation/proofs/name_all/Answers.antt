@@ -1,7 +1,7 @@
 -- `equivocation::name_all` meets its contract: 'by rising number'. The invariant: those of the vaults passed that spoke twice are written, one behind
 -- the other, and so there is room for the next.
 -- Assumes nothing.
-use Prim.Native.Nat.{ℕ, ◌-◌, ◌≤◌, ◌<◌}
+use Prim.Native.Nat.{ℕ, ◌-◌, ◌<◌}
 use mathlib.Core.Path.{◌≡◌, refl, subst, ◌∙◌}
 use native.Mathlib.Omega.{arith}
 use lib.ListN.{length}

@@ -1,13 +1,11 @@
 -- `equivocation::name_all` meets its contract: 'by rising number'. The invariant: those of the vaults passed that spoke twice are written, one behind
 -- the other, and so there is room for the next.
 -- Assumes nothing.
-use Prim.Native.Nat.{ℕ, ◌-◌, ◌≤◌, ◌<◌}
-use mathlib.Core.Path.{◌≡◌, refl, subst, ◌∙◌}
-use native.Mathlib.Omega.{arith}
+use Prim.Native.Nat.{◌-◌, ◌≤◌}
+use mathlib.Core.Path.{◌≡◌}
 use lib.ListN.{length}
 use Rattle.equivocation.specs.Named.{rising}
 use Rattle.equivocation.specs.inside.Records.{twice_in, Put}
-use Rattle.equivocation.proofs.Laws.{put_none, put_more, put_few, put_long}
 use Rattle.equivocation.proofs.name_all.Given as goal
 
 abbrev pub invariant-loop-sender : goal.invariant-loop-sender

@@ -7,7 +7,6 @@ use Rattle.settings.specs.declared.Settings.{Settings}
 use Rattle.contents.proofs.Sound.{size_sound}
 use Rattle.equivocation.specs.Call.{unlike}
 use Rattle.equivocation.proofs.Laws.{fits_by}
-use borrow.Author.Rules.{rules}
 use Rattle.equivocation.proofs.record_fits.Goals as goal
 
 pub settings_of-requires : goal.settings_of-requires

@@ -1,6 +1,6 @@
 -- `equivocation::records_fit` meets its contract. The invariant: every record passed fits.
 -- Assumes nothing.
-use Prim.Native.Nat.{ℕ, ◌-◌, ◌≤◌}
+use Prim.Native.Nat.{ℕ, ◌-◌}
 use mathlib.Core.Path.{◌≡◌, ap, sym, ◌∙◌}
 use mathlib.Core.Bool.{true}
 use mathlib.Core.List.{List}
@@ -10,7 +10,6 @@ use Rattle.sound.specs.inside.Sound.{all}
 use Rattle.sound.proofs.Laws.{off, on, all_none, all_more, all_stop}
 use Rattle.equivocation.specs.inside.Records.{fits, fits_at}
 use Rattle.equivocation.proofs.Laws.{record_lent}
-use borrow.Author.Rules.{rules}
 use Rattle.equivocation.proofs.records_fit.Goals as goal
 
 -- Settings and a record that are known.

@@ -1,6 +1,6 @@
 -- `equivocation::sizes_fit` meets its contract. The invariant: every length passed is that of a record.
 -- Assumes nothing.
-use Prim.Native.Nat.{◌-◌, ◌≤◌}
+use Prim.Native.Nat.{◌-◌}
 use mathlib.Core.Path.{◌≡◌, ap, sym, ◌∙◌}
 use mathlib.Core.Bool.{true}
 use lib.ListN.{length}
@@ -9,7 +9,6 @@ use borrow.Author.Tests.{eq-eqb, ne_eqb}
 use Rattle.sound.specs.inside.Sound.{all}
 use Rattle.sound.proofs.Laws.{all_none, all_more, all_stop}
 use Rattle.equivocation.specs.inside.Records.{size_fits}
-use borrow.Author.Rules.{rules}
 use Rattle.equivocation.proofs.sizes_fit.Goals as goal
 
 pub loop-i-init : goal.loop-i-init

@@ -1,15 +1,11 @@
 -- `equivocation::sizes_fit` meets its contract. The invariant: every length passed is that of a record.
 -- Assumes nothing.
 use Prim.Native.Nat.{◌-◌, ◌≤◌}
-use mathlib.Core.Path.{◌≡◌, ap, sym, ◌∙◌}
+use mathlib.Core.Path.{◌≡◌}
 use mathlib.Core.Bool.{true}
 use lib.ListN.{length}
-use native.Mathlib.Omega.{arith}
-use borrow.Author.Tests.{eq-eqb, ne_eqb}
 use Rattle.sound.specs.inside.Sound.{all}
-use Rattle.sound.proofs.Laws.{all_none, all_more, all_stop}
 use Rattle.equivocation.specs.inside.Records.{size_fits}
-use borrow.Author.Rules.{rules}
 use Rattle.equivocation.proofs.sizes_fit.Given as goal
 
 abbrev pub invariant-loop-i : goal.invariant-loop-i

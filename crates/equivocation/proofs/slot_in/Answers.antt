@@ -5,7 +5,6 @@ use mathlib.Core.List.{List}
 use Prim.Native.Nat.{ℕ}
 use Rattle.record.specs.Layout.{decode_record}
 use Rattle.equivocation.proofs.Laws.{record_lent}
-use borrow.Author.Rules.{rules}
 use Rattle.equivocation.proofs.slot_in.Goals as goal
 
 pub returns : goal.returns

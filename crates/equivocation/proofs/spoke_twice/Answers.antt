@@ -1,16 +1,14 @@
 -- `equivocation::spoke_twice` meets its contract: 'kept vote frames only'. The invariant: in none of the votes passed do two records differ.
 -- Assumes nothing.
-use Prim.Native.Nat.{◌+◌, ◌-◌, ◌≤◌}
+use Prim.Native.Nat.{◌+◌, ◌-◌}
 use mathlib.Core.Path.{◌≡◌, sym, ap, ◌∙◌}
 use mathlib.Core.Bool.{false}
 use native.Mathlib.Omega.{arith}
 use Rattle.frame.proofs.Laws.{told}
-use Rattle.rules.specs.inside.Bools.{any_below}
 use Rattle.rules.proofs.Bools.{any_at}
 use Rattle.record.specs.Slots.{frame_slot}
 use Rattle.equivocation.specs.inside.Records.{clashing, vote_clashes, twice_in}
 use Rattle.equivocation.proofs.Laws.{any_more, any_less, no_vote}
-use borrow.Author.Rules.{rules}
 use Rattle.equivocation.proofs.spoke_twice.Goals as goal
 
 pub loop-vote-init : goal.loop-vote-init

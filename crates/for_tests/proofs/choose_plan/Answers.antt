@@ -2,7 +2,6 @@
 -- Each answer's number and output are those of `choose_plan`: the choice with its plan or without, or a call that makes no sense.
 -- Assumes nothing.
 use mathlib.Core.Path.{sym, ◌∙◌, ap}
-use borrow.Author.Rules.{rules}
 use Rattle.safe.specs.Choices.{chosen}
 use Rattle.for_tests.proofs.Laws.{laid_parts, choose_said, choose_full, choose_unlaid}
 use Rattle.for_tests.proofs.choose_plan.Goals as goal

@@ -9,7 +9,6 @@ use borrow.Author.Tests.{lt-ltb, le-ltb}
 use Rattle.frame.specs.inside.Reading.{refusal_of}
 use Rattle.for_tests.specs.inside.Answers.{left, echo}
 use Rattle.for_tests.proofs.Laws.{count_short}
-use borrow.Author.Rules.{rules}
 use Rattle.for_tests.proofs.frame_echo.Goals as goal
 
 pub returns-then-out-lt256 : goal.returns-then-out-lt256

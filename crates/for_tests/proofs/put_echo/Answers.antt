@@ -7,7 +7,6 @@ use Rattle.entry.specs.declared.Entry.TheVariants.{ForAll, Timer, Decision}
 use Rattle.entry.proofs.Theorems.{entry_span, lays_layout}
 use Rattle.for_tests.specs.inside.Answers.{echo_entries}
 use Rattle.for_tests.proofs.Laws.{echo_short}
-use borrow.Author.Rules.{rules}
 use Rattle.for_tests.proofs.put_echo.Goals as goal
 
 pub put_entry-timer-requires : goal.put_entry-timer-requires

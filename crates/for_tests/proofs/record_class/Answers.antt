@@ -2,7 +2,6 @@
 -- Assumes nothing.
 use mathlib.Core.Path.{sym, ap, ◌∙◌}
 use Rattle.for_tests.specs.inside.Answers.{class_number}
-use borrow.Author.Rules.{rules}
 use Rattle.for_tests.proofs.record_class.Goals as goal
 
 pub returns-in-Blank : goal.returns-in-Blank

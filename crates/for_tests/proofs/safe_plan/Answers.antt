@@ -3,7 +3,6 @@
 -- Assumes nothing.
 use mathlib.Core.Bool.{true, false}
 use mathlib.Core.Path.{sym, ◌∙◌}
-use borrow.Author.Rules.{rules}
 use Rattle.for_tests.proofs.Laws.{laid_parts, safe_said, safe_unlaid}
 use Rattle.for_tests.proofs.safe_plan.Goals as goal
 

@@ -4,7 +4,6 @@ use Prim.Native.Nat.{◌+◌, ◌<◌}
 use native.Mathlib.Omega.{arith}
 use lib.ListN.{length, length-set}
 use Rattle.own.proofs.Stored.{four_copied}
-use borrow.Author.Rules.{rules}
 use Rattle.own.proofs.copy_four.Goals as goal
 
 pub bounds-dst-to-2 : goal.bounds-dst-to-2

@@ -1,7 +1,6 @@
 -- `own::copy_head` meets its contract: twice four bytes.
 -- Assumes nothing.
 use Rattle.own.proofs.Stored.{head_copied}
-use borrow.Author.Rules.{rules}
 use Rattle.own.proofs.copy_head.Goals as goal
 
 pub returns : goal.returns

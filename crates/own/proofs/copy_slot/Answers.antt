@@ -3,7 +3,6 @@
 use mathlib.Core.Path.{◌∙◌}
 use lib.ListN.{length-set}
 use Rattle.own.proofs.Stored.{slot_copied}
-use borrow.Author.Rules.{rules}
 use Rattle.own.proofs.copy_slot.Goals as goal
 
 pub shape_of-dst : goal.shape_of-dst

@@ -10,7 +10,6 @@ use Rattle.record.specs.Layout.{decode_record}
 use Rattle.own.specs.Part.{remnant_slots, remnant_head}
 use Rattle.own.specs.inside.Own.{own_bytes}
 use Rattle.own.proofs.Stored.{whole_put}
-use borrow.Author.Rules.{rules}
 use Rattle.own.proofs.load.Goals as goal
 
 pub load_slots-requires : goal.load_slots-requires

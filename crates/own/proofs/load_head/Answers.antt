@@ -7,7 +7,6 @@ use lib.ListN.{take, drop}
 use Rattle.wire.specs.Placed.{placed}
 use Rattle.record.specs.Layout.{head_size, shared_size}
 use Rattle.own.proofs.Stored.{head_loaded}
-use borrow.Author.Rules.{rules}
 use Rattle.own.proofs.load_head.Goals as goal
 
 pub returns : goal.returns

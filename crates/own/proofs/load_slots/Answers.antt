@@ -1,8 +1,7 @@
 -- `own::load_slots` meets its contract. The invariant: the slots passed lie behind the head.
 -- Assumes nothing.
-use Prim.Native.Nat.{ℕ, ◌-◌, ◌≤◌}
+use Prim.Native.Nat.{ℕ}
 use mathlib.Core.Path.{◌≡◌, refl, ◌∙◌, subst}
-use lib.ListN.{length}
 use native.Mathlib.Omega.{arith}
 use Rattle.wire.specs.Placed.{placed}
 use Rattle.record.specs.Layout.{decode_record}
@@ -24,12 +23,11 @@ pub place_of-requires : goal.place_of-requires
 place_of-requires c = c.loop-t-test.true
 
 pub copy_slot-requires : goal.copy_slot-requires
-copy_slot-requires c =
-    (
-      omega (arith, c.place_of-from.ensures.1, c.requires.0),
-      omega
-          (arith, c.place_of.ensures.1, c.requires.2, c.loop-t.invariant.1),
-    )
+copy_slot-requires c = (
+  omega (arith, c.place_of-from.ensures.1, c.requires.0),
+  omega
+      (arith, c.place_of.ensures.1, c.requires.2, c.loop-t.invariant.1),
+)
 
 pub overflow_add-t : goal.overflow_add-t
 overflow_add-t c = omega (arith, c.loop-t-test.true)

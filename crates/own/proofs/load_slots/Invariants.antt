@@ -1,14 +1,12 @@
 -- `own::load_slots` meets its contract. The invariant: the slots passed lie behind the head.
 -- Assumes nothing.
-use Prim.Native.Nat.{ℕ, ◌-◌, ◌≤◌}
-use mathlib.Core.Path.{◌≡◌, refl, ◌∙◌, subst}
+use Prim.Native.Nat.{◌-◌, ◌≤◌}
+use mathlib.Core.Path.{◌≡◌}
 use lib.ListN.{length}
-use native.Mathlib.Omega.{arith}
 use Rattle.wire.specs.Placed.{placed}
 use Rattle.record.specs.Layout.{decode_record}
 use Rattle.own.specs.Part.{remnant_slots, remnant_head}
 use Rattle.own.specs.inside.Own.{own_bytes}
-use Rattle.own.proofs.Stored.{slots_none, slots_copied}
 use Rattle.own.proofs.load_slots.Given as goal
 
 abbrev pub invariant-loop-t : goal.invariant-loop-t

@@ -3,7 +3,6 @@
 use mathlib.Core.Path.{sym}
 use native.Mathlib.Omega.{arith}
 use Rattle.own.proofs.Slots.{own_frame_at, own_report_at, own_last}
-use borrow.Author.Rules.{rules}
 use Rattle.own.proofs.own_slot.Goals as goal
 
 pub returns-then-t-lt-REPORTS : goal.returns-then-t-lt-REPORTS

@@ -2,7 +2,6 @@
 -- Assumes nothing.
 use mathlib.Core.Path.{ap, ◌∙◌}
 use Rattle.record.specs.Layout.{slot_in}
-use borrow.Author.Rules.{rules}
 use Rattle.own.proofs.slot_in.Goals as goal
 
 pub returns : goal.returns

@@ -1,12 +1,9 @@
 -- `own::store` meets its contract. The invariant: the view and the slots passed are put back, and no others.
 -- Assumes nothing.
-use Prim.Native.Nat.{◌-◌, ◌≤◌}
 use mathlib.Core.Path.{◌≡◌, sym, ◌∙◌}
 use native.Mathlib.Omega.{arith}
 use Rattle.record.specs.Layout.{decode_record}
-use Rattle.record.specs.inside.Layout.{HoldsRecord}
 use Rattle.own.specs.Part.{remnant_slots}
-use Rattle.own.specs.inside.Own.{stored_to}
 use Rattle.own.proofs.Stored.{stored_none, stored_next, stored_all}
 use Rattle.own.proofs.store.Goals as goal
 
@@ -17,12 +14,11 @@ pub put_view-requires : goal.put_view-requires
 put_view-requires c = c.requires.size
 
 pub loop-t-init : goal.loop-t-init
-loop-t-init c =
-    (
-      omega arith,
-      stored_none c.args.rec.now c.args.id c.args.own.now c.requires c.view_in-view.ensures
-          c.put_view.ensures,
-    )
+loop-t-init c = (
+  omega arith,
+  stored_none c.args.rec.now c.args.id c.args.own.now c.requires c.view_in-view.ensures
+      c.put_view.ensures,
+)
 
 pub store_slot-requires : goal.store_slot-requires
 store_slot-requires c =

@@ -1,7 +1,6 @@
 -- `own::store_slot` meets its contract: thirteen bytes copied to the slot's place.
 -- Assumes nothing.
 use Rattle.own.proofs.Stored.{slot_stored}
-use borrow.Author.Rules.{rules}
 use Rattle.own.proofs.store_slot.Goals as goal
 
 pub returns : goal.returns

@@ -4,7 +4,6 @@ use Prim.Native.Nat.{◌-◌}
 use mathlib.Core.Path.{sym, ap, ◌∙◌}
 use native.Mathlib.Omega.{arith}
 use Rattle.settings.specs.declared.Settings.{Settings}
-use Rattle.pass.specs.inside.Passes.{Going}
 use Rattle.pass.proofs.Passes.{view_stays, going_first, room_step, going_step, going_done, going_size}
 use Rattle.pass.proofs.pass_from.Goals as goal
 

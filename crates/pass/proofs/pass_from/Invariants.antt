@@ -1,11 +1,7 @@
 -- `pass::pass_from` meets its contract: one step after the other, up to the last. The view that is at hand is the record's.
 -- Assumes nothing.
 use Prim.Native.Nat.{◌-◌}
-use mathlib.Core.Path.{sym, ap, ◌∙◌}
-use native.Mathlib.Omega.{arith}
-use Rattle.settings.specs.declared.Settings.{Settings}
 use Rattle.pass.specs.inside.Passes.{Going}
-use Rattle.pass.proofs.Passes.{view_stays, going_first, room_step, going_step, going_done, going_size}
 use Rattle.pass.proofs.pass_from.Given as goal
 
 abbrev pub invariant-loop-k : goal.invariant-loop-k

@@ -3,18 +3,16 @@
 use Prim.Native.Nat.{◌+◌}
 use Rattle.pass.proofs.Runs.{did_act, room_taken, ran_step}
 use Rattle.pass.proofs.Stored.{cast_left}
-use borrow.Author.Rules.{rules}
 use Rattle.pass.proofs.run_cast.Goals as goal
 
 pub store_vote-requires : goal.store_vote-requires
-store_vote-requires c =
-    (
-      cast_left c.args.rec.now c.requires.0.ready c.args.id c.requires.0.own c.step_cast-s.result.bytes
-          c.step_cast-s.ensures.size c.args.k c.args.p c.requires.1
-          (did_act (c.args.k + 2) c.args.rec.now c.requires.0 c.load-r.ensures
-          c.step_cast-s.result.bytes c.step_cast-s.ensures),
-      c.requires.1,
-    )
+store_vote-requires c = (
+  cast_left c.args.rec.now c.requires.0.ready c.args.id c.requires.0.own c.step_cast-s.result.bytes
+      c.step_cast-s.ensures.size c.args.k c.args.p c.requires.1
+      (did_act (c.args.k + 2) c.args.rec.now c.requires.0 c.load-r.ensures
+      c.step_cast-s.result.bytes c.step_cast-s.ensures),
+  c.requires.1,
+)
 
 pub write_entries-requires : goal.write_entries-requires
 write_entries-requires c =

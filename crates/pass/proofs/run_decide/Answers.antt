@@ -8,19 +8,17 @@ use Rattle.contents.proofs.Ready.{ready_row}
 use Rattle.acts.specs.inside.Acts.{act_at}
 use Rattle.pass.proofs.Runs.{did_act, room_taken, ran_step}
 use Rattle.pass.proofs.Stored.{stored_one, decide_left}
-use borrow.Author.Rules.{rules}
 use Rattle.pass.proofs.run_decide.Goals as goal
 
 pub store_slot-requires : goal.store_slot-requires
 unfolding act_at
-store_slot-requires c =
-    (
-      c.step_h-s.ensures.size,
-      subst (λ (i : ℕ). i < rows) (sym c.requires.0.own)
-          (ready_row c.requires.0.ready),
-      omega arith,
-      c.requires.0.ready.size,
-    )
+store_slot-requires c = (
+  c.step_h-s.ensures.size,
+  subst (λ (i : ℕ). i < rows) (sym c.requires.0.own)
+      (ready_row c.requires.0.ready),
+  omega arith,
+  c.requires.0.ready.size,
+)
 
 pub write_entries-requires : goal.write_entries-requires
 unfolding act_at

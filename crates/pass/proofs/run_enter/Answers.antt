@@ -5,7 +5,6 @@ use Rattle.acts.specs.inside.Acts.{act_at}
 use Rattle.steps.proofs.Steps.{step_set, step_start}
 use Rattle.pass.proofs.Runs.{some_own, did_step, room_taken, ran_step}
 use Rattle.pass.proofs.Stored.{fits_left}
-use borrow.Author.Rules.{rules}
 use Rattle.pass.proofs.run_enter.Goals as goal
 
 pub step_b-s-requires : goal.step_b-s-requires

@@ -2,7 +2,6 @@
 -- Assumes nothing.
 use native.Mathlib.Omega.{arith}
 use Rattle.pass.proofs.Stored.{vote_stored, votes_stored}
-use borrow.Author.Rules.{rules}
 use Rattle.pass.proofs.store_vote.Goals as goal
 
 pub returns-then-k-lt1 : goal.returns-then-k-lt1

@@ -4,7 +4,6 @@ use mathlib.Core.Path.{ap}
 use Rattle.contents.specs.Contents.{contents_in}
 use Rattle.acts.specs.inside.Acts.{as_act}
 use Rattle.pass.proofs.Passes.{ran_idle, number_is, due_as, room_as, ran_as}
-use borrow.Author.Rules.{rules}
 use Rattle.pass.proofs.take_step.Goals as goal
 
 pub run_ask-requires : goal.run_ask-requires

@@ -1,6 +1,5 @@
 -- `pass::view_after` meets its contract: only B enters a view.
 -- Assumes nothing.
-use borrow.Author.Rules.{rules}
 use Rattle.pass.proofs.view_after.Goals as goal
 
 pub returns : goal.returns

@@ -4,7 +4,6 @@ use mathlib.Core.Path.{ap}
 use native.Mathlib.Omega.{arith}
 use Rattle.steps.specs.inside.Steps.{list_of}
 use Rattle.pass.proofs.Runs.{size_one, size_two, size_three, wrote_zero, wrote_one, wrote_two, wrote_three}
-use borrow.Author.Rules.{rules}
 use Rattle.pass.proofs.write_entries.Goals as goal
 
 pub put_entry-requires : goal.put_entry-requires

@@ -1,7 +1,6 @@
 -- `reach::claim_reach` meets its contract (document 02, wish 7). 10 by the length, 14 and 22 by the reports that were read; else their highest claim.
 -- Assumes nothing.
 use mathlib.Core.Path.{sym, ◌∙◌}
-use borrow.Author.Rules.{rules}
 use Rattle.reach.proofs.Laws.{other_length, refused_by, answered_by}
 use Rattle.reach.proofs.claim_reach.Goals as goal
 

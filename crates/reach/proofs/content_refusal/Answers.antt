@@ -2,7 +2,6 @@
 -- Assumes nothing.
 use mathlib.Core.Path.{◌≡◌, refl}
 use mathlib.Core.Bool.{true, false}
-use borrow.Author.Rules.{rules}
 use Rattle.frame.specs.Format.{three_reports}
 use Rattle.frame.specs.Refusal.{any, bad_form, bad_previous_of}
 use Rattle.frame.proofs.Laws.{told}

@@ -1,12 +1,11 @@
 -- `layout::clear` meets its contract: as many zeros as bytes were gone over, then the bytes as they were.
 -- Assumes nothing.
-use Prim.Native.Nat.{ℕ, ◌-◌, ◌≤◌, ◌<◌}
-use mathlib.Core.Path.{◌≡◌, refl, ap, ◌∙◌}
+use Prim.Native.Nat.{ℕ, ◌<◌}
+use mathlib.Core.Path.{refl, ap, ◌∙◌}
 use mathlib.Core.List.{List}
 use native.Mathlib.Omega.{arith}
 use lib.ListN.{length, set, length-set}
-use Rattle.record.proofs.Bytes.{cleared, clear_step, clear_done}
-use borrow.Author.Rules.{rules}
+use Rattle.record.proofs.Bytes.{clear_step, clear_done}
 use Rattle.record.proofs.clear.Goals as goal
 
 pub loop-i-init : goal.loop-i-init

@@ -1,12 +1,9 @@
 -- `layout::clear` meets its contract: as many zeros as bytes were gone over, then the bytes as they were.
 -- Assumes nothing.
-use Prim.Native.Nat.{ℕ, ◌-◌, ◌≤◌, ◌<◌}
-use mathlib.Core.Path.{◌≡◌, refl, ap, ◌∙◌}
-use mathlib.Core.List.{List}
-use native.Mathlib.Omega.{arith}
-use lib.ListN.{length, set, length-set}
-use Rattle.record.proofs.Bytes.{cleared, clear_step, clear_done}
-use borrow.Author.Rules.{rules}
+use Prim.Native.Nat.{◌-◌, ◌≤◌}
+use mathlib.Core.Path.{◌≡◌}
+use lib.ListN.{length}
+use Rattle.record.proofs.Bytes.{cleared}
 use Rattle.record.proofs.clear.Given as goal
 
 abbrev pub invariant-loop-i : goal.invariant-loop-i

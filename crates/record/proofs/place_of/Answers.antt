@@ -3,7 +3,6 @@
 use mathlib.Core.Path.{sym}
 use native.Mathlib.Omega.{arith}
 use Rattle.record.proofs.Laws.{place_shared, place_block}
-use borrow.Author.Rules.{rules}
 use Rattle.record.proofs.place_of.Goals as goal
 
 pub returns-then-i-lt-ROWS : goal.returns-then-i-lt-ROWS

@@ -1,7 +1,6 @@
 -- `layout::plan_of` meets its contract: the block's head.
 -- Assumes nothing.
 use Rattle.record.specs.Layout.{decode_record}
-use borrow.Author.Rules.{rules}
 use Rattle.record.proofs.plan_of.Goals as goal
 
 pub returns : goal.returns

@@ -8,7 +8,6 @@ use lib.ListN.{set, length-set}
 use Rattle.wire.specs.Digits.{digits}
 use Rattle.wire.specs.Placed.{placed}
 use Rattle.record.proofs.Laws.{slot_stores}
-use borrow.Author.Rules.{rules}
 use Rattle.record.proofs.put_at.Goals as goal
 
 pub put-requires : goal.put-requires

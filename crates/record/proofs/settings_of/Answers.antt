@@ -2,7 +2,6 @@
 -- Assumes nothing.
 use mathlib.Core.Path.{refl}
 use Rattle.record.specs.Layout.{decode_record}
-use borrow.Author.Rules.{rules}
 use Rattle.record.proofs.settings_of.Goals as goal
 
 pub returns : goal.returns

@@ -1,7 +1,6 @@
 -- `layout::slot_at` meets its contract: mark, view and plan stand end to end.
 -- Assumes nothing.
 use lib.ListN.{get_or}
-use borrow.Author.Rules.{rules}
 use Rattle.record.proofs.slot_at.Goals as goal
 
 pub returns : goal.returns

@@ -3,7 +3,6 @@
 use mathlib.Core.Path.{ap, sym, ◌∙◌}
 use Rattle.record.specs.Layout.{slot_in}
 use Rattle.record.proofs.Laws.{slot_there}
-use borrow.Author.Rules.{rules}
 use Rattle.record.proofs.slot_of.Goals as goal
 
 pub returns : goal.returns

@@ -1,7 +1,6 @@
 -- `layout::view_of` meets its contract: the last four bytes of the shared part's head.
 -- Assumes nothing.
 use Rattle.record.specs.Layout.{decode_record}
-use borrow.Author.Rules.{rules}
 use Rattle.record.proofs.view_of.Goals as goal
 
 pub returns : goal.returns

@@ -1,7 +1,6 @@
 -- `remnant::come_back` meets its contract: 'a record with that row and no others, and a timer entry'.
 -- Assumes nothing.
 use Rattle.remnant.proofs.Laws.{entry_room, back_made}
-use borrow.Author.Rules.{rules}
 use Rattle.remnant.proofs.come_back.Goals as goal
 
 pub put_entry-requires : goal.put_entry-requires

@@ -6,7 +6,6 @@ use Rattle.settings.specs.declared.Settings.{Settings}
 use Rattle.settings.specs.Settings.{setting_rows}
 use Rattle.own.specs.inside.Own.{settings_in}
 use Rattle.remnant.proofs.Laws.{back_refused}
-use borrow.Author.Rules.{rules}
 use Rattle.remnant.proofs.makes_sound.Goals as goal
 
 pub returns-then-settings_refusal-ne0 : goal.returns-then-settings_refusal-ne0

@@ -2,7 +2,6 @@
 -- Assumes nothing.
 use Rattle.remnant.specs.inside.Parts.{Fresh}
 use Rattle.remnant.proofs.Laws.{fresh_held, back_held}
-use borrow.Author.Rules.{rules}
 use Rattle.remnant.proofs.rebuild.Goals as goal
 use Rattle.remnant.proofs.rebuild.Goals.{After-put_fresh}
 

@@ -4,7 +4,6 @@ use mathlib.Core.Path.{◌∙◌}
 use Rattle.sound.proofs.Laws.{off, on}
 use Rattle.remnant.specs.inside.Parts.{Fitting}
 use Rattle.remnant.proofs.Laws.{back_good, blank_by, restart_short, restart_length, restart_held, remnant_length, remnant_unsound, remnant_taken}
-use borrow.Author.Rules.{rules}
 use Rattle.remnant.proofs.restart.Goals as goal
 
 pub returns-then-out-lt-ROOM : goal.returns-then-out-lt-ROOM

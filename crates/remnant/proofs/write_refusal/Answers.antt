@@ -3,7 +3,6 @@
 use mathlib.Core.Path.{◌∙◌, sym}
 use Rattle.sound.specs.declared.Lent.TheVariants.{Blank, Unsound, Sound}
 use Rattle.remnant.proofs.Laws.{write_short, write_lent}
-use borrow.Author.Rules.{rules}
 use Rattle.remnant.proofs.write_refusal.Goals as goal
 
 pub returns-then-room-lt-SIZE : goal.returns-then-room-lt-SIZE

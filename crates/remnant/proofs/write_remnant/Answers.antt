@@ -6,7 +6,6 @@ use Rattle.record.specs.Layout.{decode_record}
 use Rattle.contents.specs.Which.{is_sound}
 use Rattle.contents.proofs.Sound.{size_sound}
 use Rattle.remnant.proofs.Laws.{write_sound, sound_good, own_row, write_refused, write_accepted}
-use borrow.Author.Rules.{rules}
 use Rattle.remnant.proofs.write_remnant.Goals as goal
 
 pub returns-then-why-ne0 : goal.returns-then-why-ne0

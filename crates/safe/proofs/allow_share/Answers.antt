@@ -3,7 +3,6 @@
 -- Assumes nothing.
 use mathlib.Core.Path.{◌≡◌, refl, sym, ◌∙◌}
 use mathlib.Core.Bool.{true}
-use borrow.Author.Rules.{rules}
 use Rattle.claims.proofs.Rows.{silent}
 use Rattle.claims.specs.inside.Rows.{for_all, for_one, for_none}
 use Rattle.claims.specs.Table.{reporter}

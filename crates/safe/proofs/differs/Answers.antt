@@ -2,7 +2,6 @@
 -- Any plan differs from none, and else the plans are compared.
 -- Assumes nothing.
 use mathlib.Core.Path.{sym, ap}
-use borrow.Author.Rules.{rules}
 use Rattle.safe.specs.Choices.{chosen}
 use Rattle.safe.specs.inside.Choices.{apart}
 use Rattle.safe.specs.declared.Choice.{Choice}

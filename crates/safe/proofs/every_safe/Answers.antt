@@ -1,7 +1,6 @@
 -- `safe::every_safe` meets its contract: the view is the first, or a quorum has no lock.
 -- Assumes nothing.
 use mathlib.Core.Path.{refl, sym, ◌∙◌}
-use borrow.Author.Rules.{rules}
 use borrow.Author.Tests.{eq-eqb, ne_eqb}
 use Rattle.safe.specs.inside.Searches.{every_safe}
 use Rattle.safe.proofs.every_safe.Goals as goal

@@ -1,17 +1,14 @@
 -- `safe::find_claimed` meets its contract.
 -- Neither the plan tried last nor the first r of the row pass; where none of those does that come in up to the view, none is claimed (`none_found`).
 -- Assumes nothing.
-use Prim.Native.Nat.{◌+◌, ◌-◌, ◌*◌, ◌≤◌}
-use mathlib.Core.Bool.{false}
-use mathlib.Core.Path.{◌≡◌, refl, sym, ◌∙◌, ap}
+use Prim.Native.Nat.{◌+◌}
+use mathlib.Core.Path.{refl, sym, ◌∙◌, ap}
 use native.Mathlib.Omega.{arith}
 use lib.ListN.{get_or}
-use borrow.Author.Rules.{rules}
 use Rattle.claims.proofs.Walk.{coming_fits}
-use Rattle.claims.specs.Table.{column}
 use Rattle.claims.specs.declared.Coming.{Coming}
 use Rattle.claims.specs.inside.Walk.{FitsComing}
-use Rattle.safe.proofs.Searches.{laid_fits, served_at, tried, NonePass, untried_first, none_pass_more, found_first, found_other, none_found}
+use Rattle.safe.proofs.Searches.{laid_fits, served_at, untried_first, none_pass_more, found_first, found_other, none_found}
 use Rattle.safe.specs.Choices.{chosen}
 use Rattle.safe.proofs.find_claimed.Goals as goal
 use Rattle.safe.proofs.find_claimed.Goals.{After-struct_known-1}

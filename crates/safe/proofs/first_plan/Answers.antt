@@ -2,7 +2,6 @@
 -- 0 where it is not left out; where it is, 1 is not.
 -- Assumes nothing.
 use mathlib.Core.Path.{sym, ◌∙◌}
-use borrow.Author.Rules.{rules}
 use Rattle.safe.proofs.Searches.{apart_one}
 use Rattle.safe.specs.Choices.{chosen}
 use Rattle.safe.proofs.first_plan.Goals as goal

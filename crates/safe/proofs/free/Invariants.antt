@@ -2,13 +2,9 @@
 -- The count is that of the first r reporters without a lock; of all n, it is a quorum exactly if it is n - f or more (`quorum_count`).
 -- Assumes nothing.
 use Prim.Native.Nat.{◌-◌, ◌≤◌}
-use mathlib.Core.Path.{◌≡◌, sym, ◌∙◌, ap}
-use native.Mathlib.Omega.{arith}
-use borrow.Author.Rules.{rules}
+use mathlib.Core.Path.{◌≡◌}
 use Rattle.claims.specs.Table.{reports_in_table}
-use Rattle.rules.proofs.Quorums.{weigh_none, weigh_step, share_most, quorum_count}
 use Rattle.rules.specs.Sets.{weigh}
-use Rattle.rules.specs.inside.Counts.{free}
 use Rattle.rules.specs.Rules.{unlocked, reporting}
 use Rattle.safe.proofs.free.Given as goal
 

@@ -4,7 +4,6 @@
 use Prim.Native.Nat.{ℕ, ◌-◌, min}
 use mathlib.Core.Path.{◌≡◌, sym, ◌∙◌, ap}
 use native.Mathlib.Omega.{arith}
-use borrow.Author.Rules.{rules}
 use Rattle.claims.specs.Table.{reports_in_table}
 use Rattle.rules.specs.inside.Views.{lock_span}
 use Rattle.safe.proofs.Locks.{span_in}

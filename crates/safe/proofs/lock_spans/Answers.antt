@@ -1,14 +1,12 @@
 -- `safe::lock_spans` meets its contract.
 -- The first r places hold the spans of the first r reports, and `spans_more` writes one more.
 -- Assumes nothing.
-use Prim.Native.Nat.{◌-◌, ◌≤◌, ◌<◌}
-use mathlib.Core.Path.{◌≡◌}
+use Prim.Native.Nat.{◌<◌}
 use native.Mathlib.Omega.{arith}
 use lib.ListN.{length, length-set}
 use borrow.Author.Rules.{rules}
 use Rattle.claims.proofs.Spans.{spans_more}
-use Rattle.claims.specs.inside.Spans.{AreSpans}
-use Rattle.claims.specs.Table.{column, reports_in_table}
+use Rattle.claims.specs.Table.{reports_in_table}
 use Rattle.rules.specs.inside.Views.{lock_span}
 use Rattle.safe.proofs.lock_spans.Goals as goal
 

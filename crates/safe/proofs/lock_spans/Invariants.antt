@@ -1,12 +1,9 @@
 -- `safe::lock_spans` meets its contract.
 -- The first r places hold the spans of the first r reports, and `spans_more` writes one more.
 -- Assumes nothing.
-use Prim.Native.Nat.{◌-◌, ◌≤◌, ◌<◌}
+use Prim.Native.Nat.{◌-◌, ◌≤◌}
 use mathlib.Core.Path.{◌≡◌}
-use native.Mathlib.Omega.{arith}
-use lib.ListN.{length, length-set}
-use borrow.Author.Rules.{rules}
-use Rattle.claims.proofs.Spans.{spans_more}
+use lib.ListN.{length}
 use Rattle.claims.specs.inside.Spans.{AreSpans}
 use Rattle.claims.specs.Table.{column, reports_in_table}
 use Rattle.rules.specs.inside.Views.{lock_span}

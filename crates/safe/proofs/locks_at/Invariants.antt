@@ -2,10 +2,7 @@
 -- The row tells of the first r reports, and what lies below it is as it was; `row_more` adds a report.
 -- Assumes nothing.
 use Prim.Native.Nat.{◌-◌}
-use mathlib.Core.Path.{refl}
-use native.Mathlib.Omega.{arith}
-use borrow.Author.Rules.{rules}
-use Rattle.claims.proofs.Rows.{RowCounted, row_none, row_fits, row_more, row_all}
+use Rattle.claims.proofs.Rows.{RowCounted}
 use Rattle.claims.specs.Table.{reports_in_table}
 use Rattle.rules.specs.Rules.{allows}
 use Rattle.safe.specs.inside.Searches.{lock_row}

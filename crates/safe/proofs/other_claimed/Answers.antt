@@ -4,7 +4,6 @@
 use Prim.Native.Nat.{ℕ}
 use mathlib.Core.Bool.{false, ◌&&◌}
 use mathlib.Core.Path.{◌≡◌, sym, ◌∙◌, subst}
-use borrow.Author.Rules.{rules}
 use Rattle.safe.specs.Choices.{chosen}
 use Rattle.safe.specs.inside.Choices.{apart}
 use Rattle.safe.specs.inside.Searches.{served_from}

@@ -12,7 +12,7 @@ use Rattle.safe.proofs.prepare.Goals as goal
 pub claims_from-coming-requires : goal.claims_from-coming-requires
 claims_from-coming-requires c =
     let (low, few, most) = end_bounds c.args.u c.args.v c.requires.3 in
-    (c.requires.0, c.requires.1, search rules, omega (arith, few, c.end_of-end.ensures))
+    (c.requires.0, c.requires.1, c.requires.4, omega (arith, few, c.end_of-end.ensures))
 
 pub returns : goal.returns
 returns c =

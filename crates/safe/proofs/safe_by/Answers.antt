@@ -4,8 +4,8 @@
 use mathlib.Core.Bool.{true, false}
 use mathlib.Core.Path.{sym, ◌∙◌}
 use native.Mathlib.Omega.{arith}
-use borrow.Author.Rules.{rules}
 use Rattle.safe.proofs.Searches.{safe_every, lowest_at, none_safe, by_rule, one_same, three_same}
+use borrow.Author.Rules.{rules}
 use Rattle.safe.proofs.safe_by.Goals as goal
 
 pub returns-then-every_safe : goal.returns-then-every_safe
@@ -14,7 +14,7 @@ returns-then-every_safe c = safe_every _ _ _ _ _ (sym c.every_safe.ensures ∙ c
 pub begin-s-requires : goal.begin-s-requires
 begin-s-requires c =
     let pre = c.requires in
-    (pre.0, pre.1, pre.2, lowest_at _ _ _ _ (sym c.every_safe.ensures ∙ c.if-every_safe.false) c.lowest_view-u.ensures c.if-u-v.true)
+    (pre.0, pre.1, pre.2, lowest_at _ _ _ _ (sym c.every_safe.ensures ∙ c.if-every_safe.false) c.lowest_view-u.ensures c.if-u-v.true, search rules)
 
 pub safe_three-requires : goal.safe_three-requires
 safe_three-requires c =

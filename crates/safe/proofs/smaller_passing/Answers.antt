@@ -4,7 +4,6 @@
 -- Assumes nothing.
 use Prim.Native.Nat.{ℕ}
 use mathlib.Core.Path.{◌≡◌, sym, ◌∙◌, subst}
-use borrow.Author.Rules.{rules}
 use Rattle.rules.specs.inside.Counts.{smaller}
 use Rattle.safe.proofs.Searches.{smaller_taken, smaller_kept}
 use Rattle.safe.specs.Choices.{chosen}

@@ -1,17 +1,15 @@
 -- `safe::smallest_in` meets its contract.
 -- The smallest of the first r plans that pass, which trying the last plan again does not change; `smallest_step` tries one more.
 -- Assumes nothing.
-use Prim.Native.Nat.{ℕ, ◌+◌, ◌-◌, ◌≤◌}
+use Prim.Native.Nat.{ℕ, ◌+◌}
 use mathlib.Core.Bool.{Bool}
 use mathlib.Core.Path.{◌≡◌, ◌∙◌, ap}
 use native.Mathlib.Omega.{arith}
 use lib.ListN.{get_or}
-use borrow.Author.Rules.{rules}
-use Rattle.claims.specs.Table.{column}
 use Rattle.rules.specs.inside.Counts.{smaller}
 use Rattle.safe.proofs.Searches.{smallest_start, smallest_step, smaller_twice, tried_fits}
 use Rattle.safe.specs.Choices.{chosen}
-use Rattle.safe.specs.inside.Searches.{lock_row, passes_in, tried_at, tried_count, smallest_from}
+use Rattle.safe.specs.inside.Searches.{passes_in, tried_at, tried_count, smallest_from}
 use Rattle.safe.proofs.smallest_in.Goals as goal
 
 pub loop-r-init : goal.loop-r-init

@@ -4,7 +4,6 @@
 use Prim.Native.Nat.{◌+◌}
 use mathlib.Core.Path.{sym, ◌∙◌}
 use native.Mathlib.Omega.{arith}
-use borrow.Author.Rules.{rules}
 use Rattle.claims.specs.inside.Walk.{claimed_in}
 use Rattle.safe.proofs.Searches.{end_next, end_here, pair_found, pair_unfound}
 use Rattle.safe.specs.Choices.{chosen}

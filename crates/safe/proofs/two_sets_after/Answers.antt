@@ -4,7 +4,6 @@
 use Prim.Native.Nat.{◌+◌}
 use mathlib.Core.Path.{sym}
 use native.Mathlib.Omega.{arith}
-use borrow.Author.Rules.{rules}
 use Rattle.claims.specs.Table.{reports_in_table}
 use Rattle.rules.specs.Sets.{equals}
 use Rattle.rules.proofs.Views.{two_late}
@@ -16,8 +15,7 @@ two_sets-requires c =
     let s = c.prepare-later in
     let ready = s.ensures.0 in (
       ready.laid,
-      falling (reports_in_table c.args.table.now) s.result.search
-          s.result.plans ready,
+      falling (reports_in_table c.args.table.now) s.result _ ready,
       omega (arith, s.ensures.3, s.ensures.4, c.if-low-c.true),
     )
 
@@ -25,7 +23,7 @@ pub returns-then-low-c : goal.returns-then-low-c
 returns-then-low-c c =
     let a = c.args in
     let s = c.prepare-later in
-    pair_same (reports_in_table a.table.now) s.result.search s.result.plans s.ensures.0 _ a.c.n a.c.f (a.c.u + 1) a.c.v
+    pair_same (reports_in_table a.table.now) s.result _ s.ensures.0 _ a.c.n a.c.f (a.c.u + 1) a.c.v
     s.ensures.1 s.ensures.2 s.ensures.3 s.ensures.4 c.if-low-c.true c.two_sets.ensures
 
 pub returns : goal.returns

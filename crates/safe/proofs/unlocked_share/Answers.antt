@@ -2,7 +2,6 @@
 -- A vault counts where it has reported and has no lock.
 -- Assumes nothing.
 use mathlib.Core.Path.{sym, ◌∙◌}
-use borrow.Author.Rules.{rules}
 use borrow.Author.Tests.{eq-eqb, ne_eqb}
 use Rattle.claims.specs.Table.{reports_in_table, vote_above}
 use Rattle.rules.specs.Rules.{unlocked}

@@ -7,7 +7,6 @@ use Rattle.record.specs.Layout.{decode_record}
 use Rattle.sound.specs.declared.Lent.TheVariants.{Unsound, Sound}
 use Rattle.sound.specs.inside.Sound.{sound_in}
 use Rattle.sound.proofs.Laws.{lent_length, lent_blank, lent_other}
-use borrow.Author.Rules.{rules}
 use Rattle.sound.proofs.classify.Goals as goal
 
 pub returns-then-rec-ne-SIZE : goal.returns-then-rec-ne-SIZE

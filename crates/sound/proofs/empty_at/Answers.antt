@@ -6,7 +6,6 @@ use Rattle.record.specs.Slots.{slot_of}
 use Rattle.record.specs.Layout.{decode_record}
 use Rattle.sound.proofs.Laws.{off, on, empty_frame, empty_short, empty_reports}
 use Rattle.sound.proofs.Places.{frame_there}
-use borrow.Author.Rules.{rules}
 use Rattle.sound.proofs.empty_at.Goals as goal
 
 pub returns-then-not-empty : goal.returns-then-not-empty

@@ -7,7 +7,6 @@ use Rattle.record.specs.Slots.{frame_slot}
 use Rattle.record.specs.Layout.{slot_size, place}
 use Rattle.record.proofs.Laws.{place_fits}
 use Rattle.sound.proofs.Places.{place_frame}
-use borrow.Author.Rules.{rules}
 use Rattle.sound.proofs.frame_place.Goals as goal
 
 pub place_behind-requires : goal.place_behind-requires

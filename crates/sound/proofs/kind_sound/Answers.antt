@@ -11,7 +11,6 @@ use Rattle.sound.specs.inside.Sound.{all}
 use Rattle.sound.specs.inside.Bulk.{absent_from}
 use Rattle.sound.proofs.Laws.{off, on}
 use Rattle.sound.proofs.Rows.{kind_absent, kind_rest, kind_places}
-use borrow.Author.Rules.{rules}
 use Rattle.sound.proofs.kind_sound.Goals as goal
 
 pub frame_slot-from-requires : goal.frame_slot-from-requires

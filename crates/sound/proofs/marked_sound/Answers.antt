@@ -7,7 +7,6 @@ use Rattle.record.specs.Slots.{frame_slot, slot_of}
 use Rattle.record.specs.Layout.{decode_record}
 use Rattle.sound.proofs.Places.{frame_there}
 use Rattle.sound.proofs.Forms.{bare_rows, kept_plan, kept_planned, kept_bare, kept_told}
-use borrow.Author.Rules.{rules}
 use Rattle.sound.proofs.marked_sound.Goals as goal
 use Rattle.sound.proofs.marked_sound.Goals.{After-plan_at}
 

@@ -8,7 +8,6 @@ use Rattle.record.specs.Layout.{decode_record}
 use Rattle.sound.specs.inside.Sound.{all}
 use Rattle.sound.specs.inside.Bulk.{absent_from}
 use Rattle.sound.proofs.Rows.{reports_short, told_whole}
-use borrow.Author.Rules.{rules}
 use Rattle.sound.proofs.no_reports.Goals as goal
 
 pub returns-then-kind-lt-SUGGEST : goal.returns-then-kind-lt-SUGGEST

@@ -8,7 +8,6 @@ use Rattle.record.specs.Layout.{decode_record}
 use Rattle.sound.proofs.Laws.{place_empty}
 use Rattle.sound.proofs.Places.{frame_there}
 use Rattle.sound.proofs.Forms.{kept_free}
-use borrow.Author.Rules.{rules}
 use Rattle.sound.proofs.place_sound.Goals as goal
 
 pub returns-then-rec-at-ne-PRESENT : goal.returns-then-rec-at-ne-PRESENT

@@ -1,14 +1,13 @@
 -- `sound::places_sound` meets its contract. The invariant: every sender passed is sound.
 -- Assumes nothing.
-use Prim.Native.Nat.{ℕ, ◌-◌, ◌≤◌}
+use Prim.Native.Nat.{ℕ}
 use mathlib.Core.Path.{◌≡◌, ap, sym, ◌∙◌}
-use mathlib.Core.Bool.{Bool, true}
+use mathlib.Core.Bool.{Bool}
 use native.Mathlib.Omega.{arith}
 use Rattle.record.specs.Slots.{slot_of}
 use Rattle.record.specs.Layout.{decode_record}
 use Rattle.sound.specs.inside.Sound.{all, place_sound}
 use Rattle.sound.proofs.Laws.{off, on, all_none, all_more, all_stop}
-use borrow.Author.Rules.{rules}
 use Rattle.sound.proofs.places_sound.Goals as goal
 
 pub loop-sender-init : goal.loop-sender-init

@@ -1,14 +1,11 @@
 -- `sound::places_sound` meets its contract. The invariant: every sender passed is sound.
 -- Assumes nothing.
-use Prim.Native.Nat.{ℕ, ◌-◌, ◌≤◌}
-use mathlib.Core.Path.{◌≡◌, ap, sym, ◌∙◌}
-use mathlib.Core.Bool.{Bool, true}
-use native.Mathlib.Omega.{arith}
+use Prim.Native.Nat.{◌-◌, ◌≤◌}
+use mathlib.Core.Path.{◌≡◌}
+use mathlib.Core.Bool.{true}
 use Rattle.record.specs.Slots.{slot_of}
 use Rattle.record.specs.Layout.{decode_record}
 use Rattle.sound.specs.inside.Sound.{all, place_sound}
-use Rattle.sound.proofs.Laws.{off, on, all_none, all_more, all_stop}
-use borrow.Author.Rules.{rules}
 use Rattle.sound.proofs.places_sound.Given as goal
 
 abbrev pub invariant-loop-sender : goal.invariant-loop-sender

@@ -3,7 +3,6 @@
 use mathlib.Core.Path.{sym}
 use Rattle.frame.proofs.Laws.{told}
 use Rattle.sound.proofs.Forms.{plan_above, plan_vote, plan_proposal}
-use borrow.Author.Rules.{rules}
 use Rattle.sound.proofs.plan_sound.Goals as goal
 
 pub returns-then-above : goal.returns-then-above

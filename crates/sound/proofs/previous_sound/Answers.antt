@@ -4,7 +4,6 @@ use mathlib.Core.Path.{ap, ◌∙◌}
 use Rattle.record.specs.Slots.{slot_of}
 use Rattle.record.specs.Layout.{decode_record}
 use Rattle.sound.specs.inside.Sound.{stands, previous_sound}
-use borrow.Author.Rules.{rules}
 use Rattle.sound.proofs.previous_sound.Goals as goal
 
 pub returns : goal.returns

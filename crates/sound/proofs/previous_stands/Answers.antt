@@ -3,7 +3,6 @@
 use mathlib.Core.Path.{refl, sym, ◌∙◌}
 use Rattle.sound.specs.inside.Sound.{stands}
 use Rattle.sound.proofs.Laws.{off, on}
-use borrow.Author.Rules.{rules}
 use Rattle.sound.proofs.previous_stands.Goals as goal
 
 pub returns-then-not-well_formed : goal.returns-then-not-well_formed

@@ -6,7 +6,6 @@ use lib.Dec.{ltb}
 use Rattle.frame.specs.Refusal.{absent}
 use Rattle.record.specs.Layout.{slot_in}
 use Rattle.sound.proofs.Forms.{report_absent, report_present}
-use borrow.Author.Rules.{rules}
 use Rattle.sound.proofs.report_fits.Goals as goal
 
 pub returns-then-rec-at-ne-PRESENT : goal.returns-then-rec-at-ne-PRESENT

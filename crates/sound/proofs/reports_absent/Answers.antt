@@ -9,7 +9,6 @@ use Rattle.record.specs.Layout.{place, decode_record}
 use Rattle.sound.specs.inside.Bulk.{group_size}
 use Rattle.sound.proofs.Laws.{off, on, reports_highest, reports_previous, reports_lock}
 use Rattle.sound.proofs.Places.{report_there}
-use borrow.Author.Rules.{rules}
 use Rattle.sound.proofs.reports_absent.Goals as goal
 
 pub returns-then-not-empty : goal.returns-then-not-empty

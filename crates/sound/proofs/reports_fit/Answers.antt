@@ -14,7 +14,6 @@ use Rattle.sound.specs.inside.Bulk.{group_size, report_fits}
 use Rattle.sound.proofs.Laws.{off, on}
 use Rattle.sound.proofs.Places.{report_there}
 use Rattle.sound.proofs.Forms.{fits_highest, fits_previous, fits_lock, fits_all}
-use borrow.Author.Rules.{rules}
 use Rattle.sound.proofs.reports_fit.Goals as goal
 use Rattle.sound.proofs.reports_fit.Goals.{After-report_place-at}
 

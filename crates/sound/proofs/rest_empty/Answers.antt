@@ -9,7 +9,6 @@ use Rattle.sound.specs.inside.Sound.{all}
 use Rattle.sound.specs.inside.Bulk.{absent_from, told_absent}
 use Rattle.sound.proofs.Laws.{off, on}
 use Rattle.sound.proofs.Rows.{rest_frames, rest_short, rest_told}
-use borrow.Author.Rules.{rules}
 use Rattle.sound.proofs.rest_empty.Goals as goal
 
 pub frame_slot-requires : goal.frame_slot-requires

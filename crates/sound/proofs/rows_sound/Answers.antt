@@ -1,14 +1,13 @@
 -- `sound::rows_sound` meets its contract. The invariant: every kind passed is sound.
 -- Assumes nothing.
-use Prim.Native.Nat.{ℕ, ◌+◌, ◌-◌, ◌≤◌}
+use Prim.Native.Nat.{ℕ, ◌+◌}
 use mathlib.Core.Path.{◌≡◌, sym}
-use mathlib.Core.Bool.{Bool, true}
+use mathlib.Core.Bool.{Bool}
 use native.Mathlib.Omega.{arith}
 use Rattle.record.specs.Slots.{kinds, slot_of}
 use Rattle.record.specs.Layout.{decode_record}
-use Rattle.sound.specs.inside.Sound.{all, kind_sound, rows_sound}
+use Rattle.sound.specs.inside.Sound.{kind_sound, rows_sound}
 use Rattle.sound.proofs.Laws.{off, on, all_none, all_more, all_stop}
-use borrow.Author.Rules.{rules}
 use Rattle.sound.proofs.rows_sound.Goals as goal
 
 pub loop-k-init : goal.loop-k-init

@@ -1,14 +1,11 @@
 -- `sound::rows_sound` meets its contract. The invariant: every kind passed is sound.
 -- Assumes nothing.
-use Prim.Native.Nat.{ℕ, ◌+◌, ◌-◌, ◌≤◌}
-use mathlib.Core.Path.{◌≡◌, sym}
-use mathlib.Core.Bool.{Bool, true}
-use native.Mathlib.Omega.{arith}
+use Prim.Native.Nat.{◌+◌, ◌-◌, ◌≤◌}
+use mathlib.Core.Path.{◌≡◌}
+use mathlib.Core.Bool.{true}
 use Rattle.record.specs.Slots.{kinds, slot_of}
 use Rattle.record.specs.Layout.{decode_record}
-use Rattle.sound.specs.inside.Sound.{all, kind_sound, rows_sound}
-use Rattle.sound.proofs.Laws.{off, on, all_none, all_more, all_stop}
-use borrow.Author.Rules.{rules}
+use Rattle.sound.specs.inside.Sound.{all, kind_sound}
 use Rattle.sound.proofs.rows_sound.Given as goal
 
 abbrev pub invariant-loop-k : goal.invariant-loop-k

@@ -8,7 +8,6 @@ use Rattle.record.specs.Layout.{slot_size}
 use Rattle.sound.specs.inside.Sound.{all}
 use Rattle.sound.specs.inside.Bulk.{zero_in, zero_from}
 use Rattle.sound.proofs.Places.{run_absent, run_fits, zero_part}
-use borrow.Author.Rules.{rules}
 use Rattle.sound.proofs.slots_absent.Goals as goal
 
 pub place_of-at-requires : goal.place_of-at-requires

@@ -7,7 +7,6 @@ use Rattle.settings.proofs.Allowed.{allowed}
 use Rattle.record.specs.Slots.{slot_of}
 use Rattle.record.specs.Layout.{decode_record}
 use Rattle.sound.proofs.Laws.{off, on, sound_settings, sound_rows, sound_votes}
-use borrow.Author.Rules.{rules}
 use Rattle.sound.proofs.sound_in.Goals as goal
 
 pub returns-then-settings_refusal-ne0 : goal.returns-then-settings_refusal-ne0

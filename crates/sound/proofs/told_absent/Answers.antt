@@ -7,7 +7,6 @@ use Rattle.record.specs.Slots.{rows, slot_of}
 use Rattle.record.specs.Layout.{decode_record}
 use Rattle.sound.proofs.Laws.{off, on}
 use Rattle.sound.proofs.Rows.{told_first, told_second, told_third}
-use borrow.Author.Rules.{rules}
 use Rattle.sound.proofs.told_absent.Goals as goal
 
 pub slots_absent-requires : goal.slots_absent-requires

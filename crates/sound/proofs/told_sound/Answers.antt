@@ -4,7 +4,6 @@ use mathlib.Core.Path.{sym}
 use Rattle.frame.proofs.Laws.{told}
 use Rattle.sound.proofs.Laws.{off, on}
 use Rattle.sound.proofs.Forms.{told_above, told_zero, told_bad, told_proof, told_suggest}
-use borrow.Author.Rules.{rules}
 use Rattle.sound.proofs.told_sound.Goals as goal
 
 pub returns-then-above : goal.returns-then-above

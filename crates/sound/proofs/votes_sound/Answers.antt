@@ -7,7 +7,6 @@ use Rattle.frame.specs.Refusal.{bad_form}
 use Rattle.record.specs.Slots.{slot_of}
 use Rattle.record.specs.Layout.{decode_record}
 use Rattle.sound.proofs.Laws.{off, on, votes_first, votes_second, votes_decision}
-use borrow.Author.Rules.{rules}
 use Rattle.sound.proofs.votes_sound.Goals as goal
 
 pub returns-then-not-previous_sound : goal.returns-then-not-previous_sound

@@ -1,16 +1,11 @@
 -- `sound::zero` meets its contract. The invariant: the largest byte so far is 0 just where every byte passed is.
 -- Assumes nothing.
 use Prim.Native.Nat.{◌-◌, ◌≤◌}
-use mathlib.Core.Path.{◌≡◌, ap, sym, ◌∙◌}
-use mathlib.Core.Bool.{Bool, ◌&&◌}
-use native.Mathlib.Omega.{arith}
+use mathlib.Core.Path.{◌≡◌}
 use lib.Dec.{eqb}
 use lib.ListN.{length}
 use Rattle.sound.specs.inside.Sound.{all}
 use Rattle.sound.specs.inside.Bulk.{zero_in}
-use Rattle.sound.proofs.Laws.{all_none}
-use Rattle.sound.proofs.All.{all_one}
-use borrow.Author.Rules.{rules}
 use Rattle.sound.proofs.zero.Given as goal
 
 abbrev pub invariant-loop-i : goal.invariant-loop-i

@@ -3,7 +3,6 @@
 use mathlib.Core.Path.{ap}
 use Rattle.settings.specs.declared.Settings.{Settings}
 use Rattle.steps.proofs.Steps.{does_ask}
-use borrow.Author.Rules.{rules}
 use Rattle.steps.proofs.ask_in.Goals as goal
 
 pub returns : goal.returns

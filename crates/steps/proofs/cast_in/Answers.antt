@@ -4,7 +4,6 @@ use mathlib.Core.Path.{ap}
 use native.Mathlib.Numerals.{add-one}
 use Rattle.settings.specs.declared.Settings.{Settings}
 use Rattle.steps.proofs.Steps.{does_cast}
-use borrow.Author.Rules.{rules}
 use Rattle.steps.proofs.cast_in.Goals as goal
 
 pub returns : goal.returns

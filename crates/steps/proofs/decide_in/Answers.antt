@@ -1,7 +1,6 @@
 -- `steps::decide_in` meets its contract: the decision goes into its slot.
 -- Assumes nothing.
 use Rattle.steps.proofs.Steps.{does_decide}
-use borrow.Author.Rules.{rules}
 use Rattle.steps.proofs.decide_in.Goals as goal
 
 pub returns : goal.returns

@@ -2,7 +2,6 @@
 -- Assumes nothing.
 use mathlib.Core.Path.{refl}
 use Rattle.steps.proofs.Steps.{put_as, keeps_told}
-use borrow.Author.Rules.{rules}
 use Rattle.steps.proofs.keep_told.Goals as goal
 
 pub returns : goal.returns

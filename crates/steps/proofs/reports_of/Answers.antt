@@ -2,7 +2,6 @@
 -- Assumes nothing.
 use mathlib.Core.Path.{ap, ◌∙◌}
 use Rattle.own.specs.inside.Own.{own_in}
-use borrow.Author.Rules.{rules}
 use Rattle.steps.proofs.reports_of.Goals as goal
 
 pub returns : goal.returns

@@ -7,7 +7,6 @@ use native.Mathlib.Omega.{arith}
 use Rattle.record.proofs.Kept.{moves_kind}
 use Rattle.own.specs.inside.Own.{own_in}
 use Rattle.steps.proofs.Steps.{put_as, shift_stays, shift_moves}
-use borrow.Author.Rules.{rules}
 use Rattle.steps.proofs.shift.Goals as goal
 use Rattle.steps.proofs.shift.Goals.{Else-not-vote_moves}
 

@@ -1,7 +1,6 @@
 -- `steps::tell_in` meets its contract: by whether the vault leads the view.
 -- Assumes nothing.
 use Rattle.steps.proofs.Steps.{does_lead, does_follow}
-use borrow.Author.Rules.{rules}
 use Rattle.steps.proofs.tell_in.Goals as goal
 
 pub returns-then-to-set : goal.returns-then-to-set

@@ -2,7 +2,6 @@
 -- Assumes nothing.
 use borrow.Author.Tests.{eq-eqb, ne_eqb}
 use Rattle.tally.specs.inside.Reports.{above_of}
-use borrow.Author.Rules.{rules}
 use Rattle.tally.proofs.above.Goals as goal
 
 pub returns-then-x-eq-PRESENT : goal.returns-then-x-eq-PRESENT

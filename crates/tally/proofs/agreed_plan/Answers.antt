@@ -8,7 +8,6 @@ use lib.Dec.{leb}
 use borrow.Author.Tests.{lt-leb, le-leb}
 use Rattle.tally.specs.inside.Votes.{row_votes, agreed_in}
 use Rattle.tally.proofs.Votes.{agreed_few, agreed_count}
-use borrow.Author.Rules.{rules}
 use native.Mathlib.Omega.{arith}
 use Rattle.tally.proofs.agreed_plan.Goals as goal
 use Rattle.tally.proofs.agreed_plan.Goals.{After-votes_for-count}

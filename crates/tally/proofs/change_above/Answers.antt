@@ -4,7 +4,6 @@ use Prim.Native.Nat.{ℕ, max}
 use mathlib.Core.Path.{◌∙◌, ap}
 use Rattle.record.specs.Layout.{slot_in}
 use Rattle.tally.proofs.Changes.{news_none, news_some}
-use borrow.Author.Rules.{rules}
 use Rattle.tally.proofs.change_above.Goals as goal
 
 pub returns-then-shared-at-ne-PRESENT : goal.returns-then-shared-at-ne-PRESENT

@@ -1,10 +1,9 @@
 -- `tally::gather` meets its contract. The invariant: the table has the reports of the senders passed.
 -- Assumes nothing.
-use Prim.Native.Nat.{ℕ, ◌-◌, ◌≤◌}
+use Prim.Native.Nat.{ℕ}
 use mathlib.Core.Path.{◌≡◌, subst}
 use Rattle.tally.specs.inside.Reports.{reports_by, Filled}
 use Rattle.tally.proofs.Reports.{filled_none}
-use borrow.Author.Rules.{rules}
 use native.Mathlib.Omega.{arith}
 use Rattle.tally.proofs.gather.Goals as goal
 

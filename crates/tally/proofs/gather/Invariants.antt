@@ -1,11 +1,7 @@
 -- `tally::gather` meets its contract. The invariant: the table has the reports of the senders passed.
 -- Assumes nothing.
-use Prim.Native.Nat.{ℕ, ◌-◌, ◌≤◌}
-use mathlib.Core.Path.{◌≡◌, subst}
+use Prim.Native.Nat.{◌-◌, ◌≤◌}
 use Rattle.tally.specs.inside.Reports.{reports_by, Filled}
-use Rattle.tally.proofs.Reports.{filled_none}
-use borrow.Author.Rules.{rules}
-use native.Mathlib.Omega.{arith}
 use Rattle.tally.proofs.gather.Given as goal
 
 abbrev pub invariant-loop-i : goal.invariant-loop-i

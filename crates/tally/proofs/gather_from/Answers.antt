@@ -6,7 +6,6 @@ use mathlib.Core.List.{List}
 use Rattle.tally.specs.inside.Parts.{block_place}
 use Rattle.tally.specs.inside.Reports.{reports_by, Filled}
 use Rattle.tally.proofs.Reports.{filled_skip, filled_more, untold, told_there}
-use borrow.Author.Rules.{rules}
 use Rattle.tally.proofs.gather_from.Goals as goal
 
 pub returns-then-is_of_view : goal.returns-then-is_of_view

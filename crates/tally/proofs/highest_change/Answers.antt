@@ -6,7 +6,6 @@ use mathlib.Core.List.{List}
 use lib.ListN.{length}
 use Rattle.tally.specs.inside.Changes.{change_in}
 use Rattle.tally.proofs.Changes.{highest_of_all}
-use borrow.Author.Rules.{rules}
 use native.Mathlib.Omega.{arith}
 use Rattle.tally.proofs.highest_change.Goals as goal
 

@@ -1,10 +1,9 @@
 -- `tally::highest_of` meets its contract. The invariant: best is the highest of the views tried that enough ask for.
 -- Assumes nothing.
-use Prim.Native.Nat.{ℕ, ◌+◌, ◌-◌, ◌≤◌}
+use Prim.Native.Nat.{ℕ, ◌+◌}
 use mathlib.Core.Path.{◌≡◌, sym, subst}
 use lib.ListN.{length}
 use Rattle.tally.proofs.Changes.{Searched, search_none, search_more, search_done, search_few}
-use borrow.Author.Rules.{rules}
 use native.Mathlib.Omega.{arith}
 use Rattle.tally.proofs.highest_of.Goals as goal
 

@@ -8,7 +8,6 @@ use lib.Dec.{eqb}
 use Rattle.rules.specs.Options.{is_none}
 use Rattle.record.specs.Layout.{slot_in}
 use Rattle.tally.proofs.Votes.{voted_none, voted_there}
-use borrow.Author.Rules.{rules}
 use Rattle.tally.proofs.is_of_view.Goals as goal
 
 pub returns-then-block-at-ne-PRESENT : goal.returns-then-block-at-ne-PRESENT

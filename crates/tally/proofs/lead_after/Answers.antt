@@ -7,7 +7,6 @@ use mathlib.Core.Option.{Option}
 use Rattle.record.specs.Layout.{slot_in}
 use Rattle.tally.specs.inside.Votes.{lead_with, lead_after}
 use Rattle.tally.proofs.Votes.{voted_none, voted_other, voted_some}
-use borrow.Author.Rules.{rules}
 use Rattle.tally.proofs.lead_after.Goals as goal
 
 pub returns-then-block-at-ne-PRESENT : goal.returns-then-block-at-ne-PRESENT

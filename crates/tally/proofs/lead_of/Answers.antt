@@ -1,10 +1,7 @@
 -- `tally::lead_of` meets its contract. The invariant: b leads among the votes passed.
 -- Assumes nothing.
-use Prim.Native.Nat.{◌-◌, ◌≤◌}
-use mathlib.Core.Path.{◌≡◌}
-use Rattle.tally.specs.inside.Votes.{row_votes, leading}
+use Rattle.tally.specs.inside.Votes.{row_votes}
 use Rattle.tally.proofs.Votes.{lead_none, lead_more, lead_low, lead_all, lead_few}
-use borrow.Author.Rules.{rules}
 use native.Mathlib.Omega.{arith}
 use Rattle.tally.proofs.lead_of.Goals as goal
 

@@ -3,9 +3,6 @@
 use Prim.Native.Nat.{◌-◌, ◌≤◌}
 use mathlib.Core.Path.{◌≡◌}
 use Rattle.tally.specs.inside.Votes.{row_votes, leading}
-use Rattle.tally.proofs.Votes.{lead_none, lead_more, lead_low, lead_all, lead_few}
-use borrow.Author.Rules.{rules}
-use native.Mathlib.Omega.{arith}
 use Rattle.tally.proofs.lead_of.Given as goal
 
 abbrev pub invariant-loop-j : goal.invariant-loop-j

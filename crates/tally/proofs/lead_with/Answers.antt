@@ -2,7 +2,6 @@
 -- Assumes nothing.
 use borrow.Author.Tests.{eq-eqb, ne_eqb}
 use Rattle.tally.specs.inside.Votes.{lead_with}
-use borrow.Author.Rules.{rules}
 use Rattle.tally.proofs.lead_with.Goals as goal
 
 pub returns-then-x-b : goal.returns-then-x-b

@@ -4,7 +4,6 @@ use mathlib.Core.Path.{◌≡◌, ◌∙◌}
 use lib.ListN.{length, set, length-set}
 use Rattle.claims.specs.Table.{table_size}
 use Rattle.tally.proofs.Reports.{put_length, put_all}
-use borrow.Author.Rules.{rules}
 use native.Mathlib.Omega.{arith}
 use Rattle.tally.proofs.put_report.Goals as goal
 

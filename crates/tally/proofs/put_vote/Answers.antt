@@ -5,7 +5,6 @@ use mathlib.Core.Path.{◌∙◌, ap}
 use lib.ListN.{set}
 use Rattle.claims.specs.Table.{column}
 use Rattle.tally.specs.inside.Reports.{above_of}
-use borrow.Author.Rules.{rules}
 use Rattle.tally.proofs.put_vote.Goals as goal
 
 pub returns : goal.returns

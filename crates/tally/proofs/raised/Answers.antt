@@ -3,7 +3,6 @@
 use mathlib.Core.Path.{refl}
 use lib.ListN.{get_or}
 use Rattle.tally.proofs.Changes.{raised_low, raised_few, raised_many}
-use borrow.Author.Rules.{rules}
 use Rattle.tally.proofs.raised.Goals as goal
 
 pub returns-then-w-best : goal.returns-then-w-best

@@ -6,7 +6,6 @@ use mathlib.Core.Bool.{not}
 use Rattle.rules.specs.Options.{is_none}
 use Rattle.record.specs.Layout.{slot_in}
 use Rattle.tally.specs.inside.Votes.{voted}
-use borrow.Author.Rules.{rules}
 use Rattle.tally.proofs.sent.Goals as goal
 
 pub returns : goal.returns

@@ -1,13 +1,12 @@
 -- `tally::views_above` meets its contract. The invariant: the views gathered are those of the senders passed.
 -- Assumes nothing.
-use Prim.Native.Nat.{◌<◌, ◌-◌, ◌≤◌}
-use mathlib.Core.Path.{◌≡◌, sym, ◌∙◌}
+use Prim.Native.Nat.{◌<◌, ◌≤◌}
+use mathlib.Core.Path.{sym, ◌∙◌}
 use lib.Dec.{ltb}
 use lib.ListN.{length, length-set}
 use Rattle.rules.proofs.Quorums.{share_most}
 use Rattle.tally.specs.inside.Changes.{change_in}
-use Rattle.tally.proofs.Changes.{Passed, pass_none, pass_more, gathered, gathered_few}
-use borrow.Author.Rules.{rules}
+use Rattle.tally.proofs.Changes.{pass_none, pass_more, gathered, gathered_few}
 use native.Mathlib.Omega.{arith}
 use Rattle.tally.proofs.views_above.Goals as goal
 

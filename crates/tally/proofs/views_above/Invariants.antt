@@ -1,14 +1,10 @@
 -- `tally::views_above` meets its contract. The invariant: the views gathered are those of the senders passed.
 -- Assumes nothing.
-use Prim.Native.Nat.{◌<◌, ◌-◌, ◌≤◌}
-use mathlib.Core.Path.{◌≡◌, sym, ◌∙◌}
-use lib.Dec.{ltb}
-use lib.ListN.{length, length-set}
-use Rattle.rules.proofs.Quorums.{share_most}
+use Prim.Native.Nat.{◌-◌, ◌≤◌}
+use mathlib.Core.Path.{◌≡◌}
+use lib.ListN.{length}
 use Rattle.tally.specs.inside.Changes.{change_in}
-use Rattle.tally.proofs.Changes.{Passed, pass_none, pass_more, gathered, gathered_few}
-use borrow.Author.Rules.{rules}
-use native.Mathlib.Omega.{arith}
+use Rattle.tally.proofs.Changes.{Passed}
 use Rattle.tally.proofs.views_above.Given as goal
 
 abbrev pub invariant-loop-j : goal.invariant-loop-j

@@ -10,7 +10,6 @@ use Rattle.rules.specs.Options.{holds}
 use Rattle.record.specs.Layout.{slot_in}
 use Rattle.tally.specs.inside.Votes.{voted}
 use Rattle.tally.proofs.Votes.{voted_plan, told_none}
-use borrow.Author.Rules.{rules}
 use Rattle.tally.proofs.vote_share.Goals as goal
 
 pub returns-then-plan_at-p : goal.returns-then-plan_at-p

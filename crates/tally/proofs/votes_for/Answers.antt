@@ -1,13 +1,12 @@
 -- `tally::votes_for` meets its contract. The invariant: the votes passed are counted.
 -- Assumes nothing.
-use Prim.Native.Nat.{◌-◌, ◌≤◌}
+use Prim.Native.Nat.{◌≤◌}
 use mathlib.Core.Path.{◌≡◌, sym, ◌∙◌, ap}
 use lib.Dec.{eqb}
 use Rattle.rules.proofs.Quorums.{weigh_none, weigh_step, share_most}
 use Rattle.rules.specs.Options.{holds}
 use Rattle.tally.specs.inside.Votes.{row_votes}
 use Rattle.tally.proofs.Votes.{tally}
-use borrow.Author.Rules.{rules}
 use native.Mathlib.Omega.{arith}
 use Rattle.tally.proofs.votes_for.Goals as goal
 

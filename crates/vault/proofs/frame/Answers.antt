@@ -2,7 +2,6 @@
 -- Assumes nothing.
 use Rattle.vault.proofs.Laws.{way_open}
 use Rattle.vault.proofs.Heard.{frame_refused}
-use borrow.Author.Rules.{rules}
 use Rattle.vault.proofs.frame.Goals as goal
 
 pub returns-then-why-ne0 : goal.returns-then-why-ne0

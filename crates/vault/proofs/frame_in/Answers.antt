@@ -3,7 +3,6 @@
 use mathlib.Core.Path.{◌∙◌}
 use Rattle.contents.proofs.Sound.{size_sound}
 use Rattle.vault.proofs.Heard.{read_refused, read_accepted, read_then}
-use borrow.Author.Rules.{rules}
 use Rattle.vault.proofs.frame_in.Goals as goal
 
 pub settings_of-set-requires : goal.settings_of-set-requires

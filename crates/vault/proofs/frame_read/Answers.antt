@@ -5,7 +5,6 @@ use Rattle.protocol.specs.Calls.{heard}
 use Rattle.contents.specs.Contents.{contents_in}
 use Rattle.vault.proofs.Laws.{accepted_left}
 use Rattle.vault.proofs.Heard.{place_of, rows_pass, rows_refused, rows_accepted}
-use borrow.Author.Rules.{rules}
 use Rattle.vault.proofs.frame_read.Goals as goal
 
 pub keep_refusal-why-requires : goal.keep_refusal-why-requires

@@ -1,7 +1,6 @@
 -- `vault::hear` meets its contract: the frame is kept, and one pass runs.
 -- Assumes nothing.
 use Rattle.vault.proofs.Heard.{keep_requires, hear_requires, hear_ran}
-use borrow.Author.Rules.{rules}
 use Rattle.vault.proofs.hear.Goals as goal
 
 pub keep-requires : goal.keep-requires

@@ -6,7 +6,6 @@ use Rattle.record.specs.Layout.{decode_record}
 use Rattle.protocol.specs.Calls.{started}
 use Rattle.vault.proofs.Laws.{accepted_left}
 use Rattle.vault.proofs.Begun.{start_short, start_length, start_held, start_refused, start_accepted}
-use borrow.Author.Rules.{rules}
 use Rattle.vault.proofs.start.Goals as goal
 
 pub returns-then-out-lt-ROOM : goal.returns-then-out-lt-ROOM

@@ -1,7 +1,6 @@
 -- `vault::time_out` meets its contract: the view is asked for, and one pass runs.
 -- Assumes nothing.
 use Rattle.vault.proofs.Timers.{own_row, ask_requires, time_out_requires, time_out_ran}
-use borrow.Author.Rules.{rules}
 use Rattle.vault.proofs.time_out.Goals as goal
 
 pub wanted_view-w-requires : goal.wanted_view-w-requires

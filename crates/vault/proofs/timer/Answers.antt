@@ -2,7 +2,6 @@
 -- Assumes nothing.
 use Rattle.vault.proofs.Laws.{way_open}
 use Rattle.vault.proofs.Timers.{timer_shut}
-use borrow.Author.Rules.{rules}
 use Rattle.vault.proofs.timer.Goals as goal
 
 pub returns-then-why-ne0 : goal.returns-then-why-ne0

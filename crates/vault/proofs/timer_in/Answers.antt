@@ -8,7 +8,6 @@ use Rattle.contents.proofs.Sound.{size_sound}
 use Rattle.contents.proofs.Ready.{ready_lent}
 use Rattle.vault.proofs.Laws.{accepted_left}
 use Rattle.vault.proofs.Timers.{timer_refused, timer_accepted, view_below}
-use borrow.Author.Rules.{rules}
 use Rattle.vault.proofs.timer_in.Goals as goal
 
 pub view_of-current-requires : goal.view_of-current-requires

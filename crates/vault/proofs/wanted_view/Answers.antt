@@ -1,7 +1,6 @@
 -- `vault::wanted_view` meets its contract: by whether an own view-change is kept, and whether it is above the view.
 -- Assumes nothing.
 use Rattle.vault.proofs.Timers.{wanted_none, wanted_own, wanted_next}
-use borrow.Author.Rules.{rules}
 use Rattle.vault.proofs.wanted_view.Goals as goal
 
 pub returns-then-own-ne1 : goal.returns-then-own-ne1

@@ -3,7 +3,6 @@
 use mathlib.Core.Path.{◌∙◌, sym}
 use Rattle.sound.specs.declared.Lent.TheVariants.{Blank, Unsound, Sound}
 use Rattle.vault.proofs.Laws.{way_short, way_lent}
-use borrow.Author.Rules.{rules}
 use Rattle.vault.proofs.way_in.Goals as goal
 
 pub returns-then-room-lt-ROOM : goal.returns-then-room-lt-ROOM

@@ -4,7 +4,6 @@ use Prim.Native.Nat.{◌≤◌}
 use mathlib.Core.Path.{sym, ap, subst}
 use native.Mathlib.Omega.{arith}
 use Rattle.vault_c.specs.inside.Numbers.{code, Short}
-use borrow.Author.Rules.{rules}
 use Rattle.vault_c.proofs.number.Goals as goal
 
 pub overflow_cast-result : goal.overflow_cast-result

@@ -1,7 +1,6 @@
 -- `vault_c::vault_claim_reach` meets its contract: each case of the answer has its number.
 -- Assumes nothing.
 use mathlib.Core.Path.{sym, ap, ◌∙◌}
-use borrow.Author.Rules.{rules}
 use Rattle.vault_c.specs.Asked.{reach_number}
 use Rattle.vault_c.proofs.vault_claim_reach.Goals as goal
 

@@ -3,7 +3,6 @@
 use mathlib.Core.Path.{refl, sym, ap, ◌∙◌}
 use Rattle.vault_c.specs.Asked.{told}
 use Rattle.vault_c.proofs.Asked.{no_room, current_told, two_set}
-use borrow.Author.Rules.{rules}
 use Rattle.vault_c.proofs.vault_current.Goals as goal
 
 pub returns-then-out-lt2 : goal.returns-then-out-lt2

@@ -3,7 +3,6 @@
 use native.Mathlib.Omega.{arith}
 use lib.ListN.{drop}
 use Rattle.entry.proofs.Laws.{in_most}
-use borrow.Author.Rules.{rules}
 use Rattle.vault_c.proofs.vault_entry.Goals as goal
 
 pub overflow_cast-result : goal.overflow_cast-result

@@ -1,7 +1,6 @@
 -- `vault_c::vault_equivocators` meets its contract: the number of the answer that the call gives, and what that call leaves.
 -- Assumes nothing.
 use Rattle.vault_c.proofs.Small.{short_named, seen_by}
-use borrow.Author.Rules.{rules}
 use Rattle.vault_c.proofs.vault_equivocators.Goals as goal
 
 pub number-requires : goal.number-requires

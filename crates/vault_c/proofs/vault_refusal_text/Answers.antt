@@ -2,7 +2,6 @@
 -- Assumes nothing.
 use native.Mathlib.Omega.{arith}
 use Rattle.questions.proofs.Sentences.{short_texts, short_written}
-use borrow.Author.Rules.{rules}
 use Rattle.vault_c.proofs.vault_refusal_text.Goals as goal
 
 pub overflow_cast-result : goal.overflow_cast-result

@@ -1,7 +1,6 @@
 -- `vault_c::vault_start` meets its contract: the number of the answer that the vault's call gives, and what that call leaves.
 -- Assumes nothing.
 use Rattle.vault_c.proofs.Small.{small_start, short_by, seen_by}
-use borrow.Author.Rules.{rules}
 use Rattle.vault_c.proofs.vault_start.Goals as goal
 
 pub number-requires : goal.number-requires

@@ -1,7 +1,6 @@
 -- `vault_c::vault_timer` meets its contract: the number of the answer that the vault's call gives, and what that call leaves.
 -- Assumes nothing.
 use Rattle.vault_c.proofs.Small.{small_timer, short_by, seen_by}
-use borrow.Author.Rules.{rules}
 use Rattle.vault_c.proofs.vault_timer.Goals as goal
 
 pub number-requires : goal.number-requires

@@ -2,7 +2,6 @@
 -- Assumes nothing.
 use Rattle.record.proofs.Forms.{fits_kind, told_kind, plan_kind, bare_kind, keep_told_as}
 use Rattle.record.proofs.Put.{held_as}
-use borrow.Author.Rules.{rules}
 use Rattle.record.proofs.keeping.keep.Goals as goal
 
 pub keep_told-requires : goal.keep_told-requires

@@ -4,7 +4,6 @@ use mathlib.Core.Path.{ap, ◌∙◌}
 use Rattle.frame.specs.inside.Reading.{present_at}
 use Rattle.record.proofs.Forms.{fits_kind}
 use Rattle.record.proofs.Put.{held_head}
-use borrow.Author.Rules.{rules}
 use Rattle.record.proofs.keeping.keep_head.Goals as goal
 
 pub frame_slot-at-requires : goal.frame_slot-at-requires

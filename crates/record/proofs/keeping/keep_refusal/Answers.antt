@@ -8,7 +8,6 @@ use Rattle.record.specs.Slots.{frame_slot, slot_of}
 use Rattle.record.specs.Layout.{decode_record}
 use Rattle.record.specs.inside.Keeping.{stale, outdone}
 use Rattle.record.proofs.Kept.{refused_stale, refused_outdone, taken}
-use borrow.Author.Rules.{rules}
 use Rattle.record.proofs.keeping.keep_refusal.Goals as goal
 use Rattle.record.proofs.keeping.keep_refusal.Goals.{After-is_outdone}
 

@@ -3,7 +3,6 @@
 use mathlib.Core.Path.{refl}
 use Rattle.record.specs.inside.Kept.{told}
 use Rattle.record.proofs.Put.{held_told}
-use borrow.Author.Rules.{rules}
 use Rattle.record.proofs.keeping.keep_told.Goals as goal
 
 pub returns : goal.returns

@@ -5,7 +5,6 @@ use mathlib.Core.Path.{◌≡◌}
 use native.Mathlib.Omega.{arith}
 use Rattle.record.specs.Slots.{rows, report_slot}
 use Rattle.record.proofs.Put.{held_reports}
-use borrow.Author.Rules.{rules}
 use Rattle.record.proofs.keeping.put_reports.Goals as goal
 
 pub returns : goal.returns

@@ -7,7 +7,6 @@ use Rattle.frame.specs.declared.Reports.{Reports}
 use Rattle.frame.specs.declared.Body.TheVariants.{Plan, Told}
 use Rattle.record.proofs.Forms.{body_plan, body_bare, body_reports}
 use Rattle.remnant.specs.inside.Parts.{id_in, row_in}
-use borrow.Author.Rules.{rules}
 use Rattle.remnant.proofs.row.body_in.Goals as goal
 
 pub returns-then-kind-lt-VIEW_CHANGE : goal.returns-then-kind-lt-VIEW_CHANGE

@@ -7,7 +7,6 @@ use Rattle.record.specs.Slots.{report_slot}
 use Rattle.sound.specs.inside.Sound.{reports_absent, empty_at}
 use Rattle.sound.proofs.Laws.{off, on, reports_highest, reports_previous, reports_lock, empty_frame, empty_short, empty_reports}
 use Rattle.remnant.specs.inside.Parts.{id_in, row_in}
-use borrow.Author.Rules.{rules}
 use Rattle.remnant.proofs.row.empty_at.Goals as goal
 use Rattle.remnant.proofs.row.empty_at.Goals.{After-empty-2, After-empty-3, After-reports_in-told}
 

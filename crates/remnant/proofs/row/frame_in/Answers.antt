@@ -1,7 +1,6 @@
 -- `row::frame_in` meets its contract: kind and sender are those of the place.
 -- Assumes nothing.
 use Rattle.record.specs.Kept.{frame_held}
-use borrow.Author.Rules.{rules}
 use Rattle.remnant.proofs.row.frame_in.Goals as goal
 
 pub returns : goal.returns

@@ -4,7 +4,6 @@ use mathlib.Core.Path.{sym, ap, ◌∙◌}
 use Prim.Native.Nat.{ℕ}
 use lib.Dec.{eqb}
 use Rattle.remnant.proofs.Frames.{frame_above, frame_rows}
-use borrow.Author.Rules.{rules}
 use Rattle.remnant.proofs.row.frame_sound.Goals as goal
 
 pub returns-then-above : goal.returns-then-above

@@ -1,12 +1,11 @@
 -- `row::frames_sound` meets its contract. The invariant: every kind passed is sound.
 -- Assumes nothing.
-use Prim.Native.Nat.{ℕ, ◌+◌, ◌-◌, ◌≤◌}
+use Prim.Native.Nat.{ℕ, ◌+◌, ◌-◌}
 use mathlib.Core.Path.{◌≡◌, sym}
 use mathlib.Core.Bool.{Bool, true}
 use native.Mathlib.Omega.{arith}
-use borrow.Author.Rules.{rules}
 use Rattle.record.specs.Slots.{kinds}
-use Rattle.sound.specs.inside.Sound.{all, place_sound}
+use Rattle.sound.specs.inside.Sound.{place_sound}
 use Rattle.sound.proofs.Laws.{off, on, all_none, all_more, all_stop}
 use Rattle.remnant.specs.inside.Parts.{row_in}
 use Rattle.remnant.proofs.row.frames_sound.Goals as goal

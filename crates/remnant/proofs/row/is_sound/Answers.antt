@@ -3,7 +3,6 @@
 use mathlib.Core.Path.{sym, ◌∙◌}
 use Rattle.sound.proofs.Laws.{off, on}
 use Rattle.remnant.proofs.Alone.{fitting_row, own_frames, own_votes}
-use borrow.Author.Rules.{rules}
 use Rattle.remnant.proofs.row.is_sound.Goals as goal
 
 pub returns-then-not-frames_sound : goal.returns-then-not-frames_sound

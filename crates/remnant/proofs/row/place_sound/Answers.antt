@@ -6,7 +6,6 @@ use Rattle.sound.proofs.Laws.{off, on}
 use Rattle.remnant.specs.inside.Parts.{Kind, Head}
 use Rattle.remnant.proofs.Alone.{fitting_row, head_there}
 use Rattle.remnant.proofs.Frames.{place_none, place_wrong, place_frame, frame_own}
-use borrow.Author.Rules.{rules}
 use Rattle.remnant.proofs.row.place_sound.Goals as goal
 use Rattle.remnant.proofs.row.place_sound.Goals.{After-slot_in-head}
 

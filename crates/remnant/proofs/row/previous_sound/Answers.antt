@@ -4,7 +4,6 @@ use mathlib.Core.Path.{◌∙◌}
 use native.Mathlib.Omega.{arith}
 use Rattle.sound.specs.inside.Sound.{stands, previous_sound}
 use Rattle.remnant.proofs.Alone.{head_there, last_there}
-use borrow.Author.Rules.{rules}
 use Rattle.remnant.proofs.row.previous_sound.Goals as goal
 
 pub returns : goal.returns

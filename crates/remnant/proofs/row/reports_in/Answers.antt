@@ -5,7 +5,6 @@ use native.Mathlib.Nat.{add-zero}
 use native.Mathlib.Omega.{arith}
 use Rattle.own.specs.inside.Own.{own_in}
 use Rattle.remnant.proofs.Alone.{reports_there}
-use borrow.Author.Rules.{rules}
 use Rattle.remnant.proofs.row.reports_in.Goals as goal
 
 pub returns : goal.returns

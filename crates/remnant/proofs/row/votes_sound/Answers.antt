@@ -7,7 +7,6 @@ use Rattle.frame.specs.Refusal.{bad_form}
 use Rattle.sound.proofs.Laws.{off, on, votes_first, votes_second, votes_decision}
 use Rattle.remnant.specs.inside.Parts.{id_in, row_in}
 use Rattle.remnant.proofs.Alone.{decision_there}
-use borrow.Author.Rules.{rules}
 use Rattle.remnant.proofs.row.votes_sound.Goals as goal
 
 pub returns-then-not-previous_sound : goal.returns-then-not-previous_sound

@@ -6,7 +6,6 @@ use mathlib.Core.Logic.{◌≢◌}
 use native.Mathlib.Omega.{arith}
 use Rattle.acts.specs.inside.Acts.{act_at}
 use Rattle.steps.proofs.Steps.{takes_as}
-use borrow.Author.Rules.{rules}
 use Rattle.steps.proofs.Own.step_cast.Goals as goal
 
 -- Vote-4 is what is left.

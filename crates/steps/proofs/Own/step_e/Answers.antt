@@ -2,7 +2,6 @@
 -- Assumes nothing.
 use Rattle.acts.specs.inside.Acts.{act_at}
 use Rattle.steps.proofs.Steps.{takes}
-use borrow.Author.Rules.{rules}
 use Rattle.steps.proofs.Own.step_e.Goals as goal
 
 pub returns : goal.returns
