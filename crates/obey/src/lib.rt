@@ -2,6 +2,7 @@
 //
 // What a line does to the stage and prints is a definition, `rehearsal` (crate stage, specs/Lines); `obey_line` is exact.
 #![tactic(auto)]
+
 ghost use Rattle.std.specs.Prelude.{◌≡◌, [], ◌+◌, ◌*◌, ◌≤◌, ◌<◌, length, take};
 ghost use Rattle.entry.specs.Reading.{entry_at, entries_of};
 ghost use Rattle.frame.specs.Refusal.{first};

@@ -6,16 +6,16 @@ use Prim.Native.Nat.{ℕ, zero, suc, ◌+◌, ◌-◌, ◌<◌, ◌≤◌}
 use mathlib.Core.Path.{◌≡◌, refl, sym, ap, subst, ◌∙◌}
 use mathlib.Core.Bool.{Bool, true, false, cond}
 use mathlib.Core.List.{List, ◌∷◌, ◌++◌}
-use native.Mathlib.Nat.{add-zero, zero-add}
+use native.Mathlib.Nat.{add-zero}
 use native.Mathlib.Numerals.{add-one, sub-one}
 use native.Mathlib.Omega.{arith}
 use native.Mathlib.Decide.{dec_le, ℕ_discrete}
 use borrow.Author.Tests.{lt-ltb, le-ltb}
 use lib.Dec.{eqb}
 use lib.ListN.{length, get_or, take, drop, set, length-set, length-drop}
-use lib.Seq.{take_all, take-take, take_at, length-take-le}
+use lib.Seq.{take_all, take-take, take_at, length-take-le, drop-drop}
 use Rattle.wire.specs.Placed.{placed}
-use Rattle.wire.proofs.Output.{placed_one, placed_next, placed_lent}
+use Rattle.wire.proofs.Output.{placed_one, placed_next}
 use Rattle.stage.specs.Stage.{place_count, place_size, place_of, part}
 use Rattle.stage.specs.Stage.{waiting_in, is_free, with_free, free_from, first_free}
 use Rattle.stage.specs.Lines.{waiting_now}
@@ -73,32 +73,22 @@ frame_bytes s k h =
 
 -- ---- bytes copied
 
--- A copy into bytes that may be longer: it begins with what was copied.
-pub take_copied : (a o o' : List ℕ) (r : ℕ) → r ≡ length a → o' ≡ take (length a) a ++ drop (length a) o → take r o' ≡ a
-take_copied a o o' r n e = rw (n, e, take_all (length a) a (omega arith)) (take_at a (drop (length a) o) (length a) refl)
-
--- So a copy of the bytes that a place holds is its frame.
-pub frame_copied : (s a o o' : List ℕ) (k len r : ℕ) → place_of k + place_size ≤ length s → (len ≡ held_length (get_or s (place_of k) 0)) × (len ≤ frame_most)
-    → a ≡ part (place_of k + 3) len s → r ≡ length a → o' ≡ take (length a) a ++ drop (length a) o
-    → (take r o' ≡ (waiting_now s k).bytes) × (r ≤ frame_most)
+-- A copy of the bytes that a place holds, into bytes that may be longer: it begins with its frame.
+pub frame_copied : (s a rest : List ℕ) (k len : ℕ) → place_of k + place_size ≤ length s → (len ≡ held_length (get_or s (place_of k) 0)) × (len ≤ frame_most)
+    → a ≡ part (place_of k + 3) len s → (take len (a ++ rest) ≡ (waiting_now s k).bytes) × (len ≤ frame_most)
 unfolding part
-frame_copied s a o o' k len r room (held, few) is n e =
-    let size : length (part (place_of k + 3) len s) ≡ len = length_part (place_of k + 3) len s (omega arith) in (
-      take_copied a o o' r n e ∙ is ∙ ap (λ (m : ℕ). take m (drop (place_of k + 3) s)) held ∙ sym (frame_bytes s k room),
-      omega (arith, ap length is),
+frame_copied s a rest k len room (held, few) is =
+    let size : length a ≡ len = ap length is ∙ length_part (place_of k + 3) len s (omega arith) in (
+      take_at a rest len size ∙ is ∙ ap (λ (m : ℕ). take m (drop (place_of k + 3) s)) held ∙ sym (frame_bytes s k room),
+      few,
     )
 
--- A copy into the rest behind a place that was lent and given back: the bytes are put at that place.
-pub copied_behind : (o a o' : List ℕ) (at : ℕ) → at + length a ≤ length o
-    → o' ≡ take (length a) a ++ drop (length a) (take (length o - at) (drop at o))
-    → take at o ++ (o' ++ drop (length o - at) (drop at o)) ≡ placed o at a
+-- Bytes that were lent at a place and given back as others: those are put there.
+pub copied_at : (o a o' : List ℕ) (at : ℕ) → o' ≡ a → take at o ++ (o' ++ drop (at + length a - at) (drop at o)) ≡ placed o at a
 unfolding placed
-copied_behind o a o' at room e =
-    let rest : List ℕ = take (length o - at) (drop at o) in
-    rw (e ∙ start rest) (placed_lent o at a room)
-  where
-    start : (rest : List ℕ) → take (length a) a ++ drop (length a) rest ≡ placed rest 0 a
-    start rest = rw (take_all (length a) a (omega arith), zero-add)
+copied_at o a o' at e =
+    let size : at + length a - at ≡ length a = omega arith in
+    rw (e, size, drop-drop) refl
 
 -- ---- what is stored at a place
 

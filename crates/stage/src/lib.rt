@@ -2,6 +2,7 @@
 //
 // What a line does to the stage and prints is a definition, `rehearsal` (specs/Lines). Crate obey obeys it.
 #![tactic(auto)]
+
 ghost use Rattle.std.specs.Prelude.{◌≡◌, length, get_or};
 ghost use Rattle.frame.specs.Refusal.{first};
 ghost use Rattle.stage.specs.Stage.{stage_size};

@@ -5,6 +5,7 @@ use mathlib.Core.Bool.{true, false}
 use mathlib.Core.Path.{sym, ◌∙◌}
 use Rattle.rules.specs.Rules.{rule1}
 use Rattle.safe.proofs.Searches.{safe_every, lowest_at, none_safe, choice_start, choice_none, one_same, start_fails, choice_same}
+use borrow.Author.Rules.{rules}
 use Rattle.safe.proofs.choose.Goals as goal
 
 pub returns-then-every_safe : goal.returns-then-every_safe

@@ -5,6 +5,7 @@ use mathlib.Core.Bool.{true, false}
 use mathlib.Core.Path.{sym, ◌∙◌}
 use native.Mathlib.Omega.{arith}
 use Rattle.safe.proofs.Searches.{safe_every, lowest_at, none_safe, by_rule, one_same, three_same}
+use borrow.Author.Rules.{rules}
 use Rattle.safe.proofs.safe_by.Goals as goal
 
 pub returns-then-every_safe : goal.returns-then-every_safe

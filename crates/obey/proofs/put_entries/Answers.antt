@@ -1,0 +1,70 @@
+-- `obey::put_entries` meets its contract: 'a new frame gets the smallest free one', one entry after the other. The invariant is `SentTo`; the
+-- measure is what is left of the bytes. A line of an entry of k bytes has at most 2k + 5 digits, so at most 3k.
+-- Assumes nothing.
+use mathlib.Core.Path.{◌∙◌}
+use native.Mathlib.Omega.{arith}
+use Rattle.obey.proofs.Sent.{sent_none, next_entry, sent_more, sent_all}
+use Rattle.obey.proofs.put_entries.Goals as goal
+
+pub loop-i-init : goal.loop-i-init
+loop-i-init c =
+    let a = c.args in
+    sent_none a.writer a.stage.now a.page.now a.at a.s.now c.requires.1 c.requires.2
+
+pub slice_bounds-size_in-count : goal.slice_bounds-size_in-count
+slice_bounds-size_in-count c = omega arith
+
+pub slice_bounds-size_in-start : goal.slice_bounds-size_in-start
+slice_bounds-size_in-start c = omega arith
+
+pub slice_bounds-size_in-end : goal.slice_bounds-size_in-end
+slice_bounds-size_in-end c = omega arith
+
+pub overflow_add-next : goal.overflow_add-next
+overflow_add-next c =
+    let l = c.loop-i in
+    let n = next_entry _ _ _ _ _ l.stage l.page l.i l.end l.invariant c.loop-i-test.true _ c.size_in.ensures in
+    omega arith
+
+pub slice_bounds-put_entry-count : goal.slice_bounds-put_entry-count
+slice_bounds-put_entry-count c =
+    let l = c.loop-i in
+    let n = next_entry _ _ _ _ _ l.stage l.page l.i l.end l.invariant c.loop-i-test.true _ c.size_in.ensures in
+    omega arith
+
+pub slice_bounds-put_entry-start : goal.slice_bounds-put_entry-start
+slice_bounds-put_entry-start c = omega arith
+
+pub slice_bounds-put_entry-end : goal.slice_bounds-put_entry-end
+slice_bounds-put_entry-end c =
+    let l = c.loop-i in
+    let n = next_entry _ _ _ _ _ l.stage l.page l.i l.end l.invariant c.loop-i-test.true _ c.size_in.ensures in
+    omega arith
+
+pub put_entry-end-requires : goal.put_entry-end-requires
+put_entry-end-requires c =
+    let l = c.loop-i in
+    let n = next_entry _ _ _ _ _ l.stage l.page l.i l.end l.invariant c.loop-i-test.true _ c.size_in.ensures in
+    (l.invariant.same ∙ c.requires.0, n.entry, omega (arith, n.least, n.fits, n.bytes, l.invariant.room))
+
+pub loop-i-smaller : goal.loop-i-smaller
+loop-i-smaller c =
+    let l = c.loop-i in
+    let n = next_entry _ _ _ _ _ l.stage l.page l.i l.end l.invariant c.loop-i-test.true _ c.size_in.ensures in
+    omega arith
+
+pub loop-i-preserved : goal.loop-i-preserved
+loop-i-preserved c =
+    let l = c.loop-i in
+    let p = c.put_entry-end in
+    sent_more _ _ _ _ _ l.stage l.page l.i l.end l.invariant c.loop-i-test.true _ c.size_in.ensures p.new.stage
+    p.new.page p.result (omega arith) (omega arith) p.ensures
+
+pub shape_of-stage : goal.shape_of-stage
+shape_of-stage c = omega arith
+
+pub shape_of-page : goal.shape_of-page
+shape_of-page c = omega arith
+
+pub returns : goal.returns
+returns c = let l = c.loop-i in sent_all _ _ _ _ _ l.stage l.page l.i l.end l.invariant c.loop-i-test.false

@@ -1,0 +1,44 @@
+-- `stage::calls::call` meets its contract: the kinds 00, 01 and 05 are calls at the vault named.
+-- Assumes nothing.
+use native.Mathlib.Omega.{arith}
+use Rattle.stage.proofs.Refusals.{formed_two, formed_deliver}
+use Rattle.stage.proofs.Called.{third_named, second_named, kind_starts, kind_delivers, kind_times}
+use Rattle.stage.proofs.calls.call.Goals as goal
+
+pub returns-then-bytes-eq-START : goal.returns-then-bytes-eq-START
+returns-then-bytes-eq-START c =
+    let a = c.args in
+    kind_starts a.stage.now a.bytes.now a.out.now c.start.result c.start.new.stage c.start.new.out c.if-bytes-eq-START.true
+    c.start.ensures
+
+pub bounds-bytes-1 : goal.bounds-bytes-1
+bounds-bytes-1 c =
+    omega (arith, formed_deliver c.requires.1.formed c.if-bytes-eq-DELIVER.true)
+
+pub bounds-bytes-2 : goal.bounds-bytes-2
+bounds-bytes-2 c =
+    omega (arith, formed_deliver c.requires.1.formed c.if-bytes-eq-DELIVER.true)
+
+pub deliver-requires : goal.deliver-requires
+deliver-requires c =
+    (c.requires.0, third_named c.requires.1 c.if-bytes-eq-DELIVER.true)
+
+pub returns-then-bytes-eq-DELIVER : goal.returns-then-bytes-eq-DELIVER
+returns-then-bytes-eq-DELIVER c =
+    let a = c.args in
+    kind_delivers a.stage.now a.bytes.now a.out.now c.deliver.result c.deliver.new.stage c.deliver.new.out c.if-bytes-eq-DELIVER.true
+    c.deliver.ensures
+
+pub bounds-bytes-1-2 : goal.bounds-bytes-1-2
+bounds-bytes-1-2 c =
+    omega (arith, formed_two c.requires.1.formed)
+
+pub timer-requires : goal.timer-requires
+timer-requires c =
+    (c.requires.0, second_named c.requires.1 c.if-bytes-eq-DELIVER.false)
+
+pub returns : goal.returns
+returns c =
+    let a = c.args in
+    kind_times a.stage.now a.bytes.now a.out.now c.timer.result c.timer.new.stage c.timer.new.out c.if-bytes-eq-START.false
+    c.if-bytes-eq-DELIVER.false c.timer.ensures

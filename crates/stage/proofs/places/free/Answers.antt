@@ -1,0 +1,8 @@
+-- `stage::places::free` meets its contract: 'a dropped one frees its number'. One byte is stored.
+-- Assumes nothing.
+use native.Mathlib.Omega.{arith}
+use Rattle.stage.proofs.Waiting.{free_stored}
+use Rattle.stage.proofs.places.free.Goals as goal
+
+pub returns : goal.returns
+returns c = free_stored c.args.stage.now c.args.k (omega arith)

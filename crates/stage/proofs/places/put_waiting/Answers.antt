@@ -1,0 +1,26 @@
+-- `stage::places::put_waiting` meets its contract: 'up to 256 frames on their way'. Three bytes are stored and the frame is copied behind them.
+-- Assumes nothing.
+use Prim.Native.Nat.{◌+◌, ◌*◌}
+use mathlib.Core.Path.{◌∙◌}
+use native.Mathlib.Omega.{arith}
+use lib.ListN.{length, set, length-set}
+use Rattle.stage.specs.Stage.{waiting_bytes}
+use Rattle.stage.proofs.Waiting.{copied_at, waiting_stored}
+use Rattle.stage.proofs.places.put_waiting.Goals as goal
+
+pub bounds-stage-at-2 : goal.bounds-stage-at-2
+bounds-stage-at-2 c = simp length-set (omega arith)
+
+pub bounds-stage-at-3 : goal.bounds-stage-at-3
+bounds-stage-at-3 c = simp length-set (omega arith)
+
+pub returns : goal.returns
+unfolding waiting_bytes
+returns c =
+    let a = c.args in
+    let s = a.stage.now in
+    let f = a.frame.now in
+    let at = 48 * a.k in
+    let stored = set (set (set s at (length f + 1)) (at + 1) a.way.writer) (at + 2) a.way.to in
+    copied_at stored f _ (at + 3) c.copy_from_slice.ensures.after
+    ∙ waiting_stored s at a.way.writer a.way.to f (omega arith)
