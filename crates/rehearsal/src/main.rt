@@ -4,6 +4,7 @@
 // pages are what `rehearsal_prints` says however it is split (`WholeInput`, crate obey, specs/Steps).
 // There the proof stops, at the input and output calls: no contract can say what the runtime reads and writes.
 #![tactic(auto)]
+
 ghost use Rattle.std.specs.Prelude.{◌≡◌, ◌≤◌, ℕ, length, IfOk, OnErr};
 ghost use Rattle.lines.specs.declared.Ended.TheVariants.{Dry};
 ghost use Rattle.lines.specs.inside.Reading.{EndedWell};
@@ -25,7 +26,12 @@ fn flush(rt: &impl Print, page: &[u8], at: usize) -> io::Result<()>
 // Reads the input, piece by piece; what a piece prints is written out before more is awaited.
 // Where a read or a write fails, whole pieces were fed up to there.
 // A proved loop has to end, and nothing says that the input does: the loop takes so many turns that no run uses them up.
-fn read_all(rt: &(impl Input + Print), stage: &mut [u8], text: &mut [u8], page: &mut [u8]) -> io::Result<Ended>
+fn read_all(
+    rt: &(impl Input + Print),
+    stage: &mut [u8],
+    text: &mut [u8],
+    page: &mut [u8],
+) -> io::Result<Ended>
     requires { (length stage.old ≡ stage_size) × (length text.old ≡ kept_size) × (length page.old ≡ page_size) }
     ensures ok { IfOk result (λ ended. EndedWell rehearsal kept_size stage.old ended stage.new text.new) }
     ensures err { OnErr result ((len : ℕ) × EndedWell rehearsal kept_size stage.old (Dry len) stage.new text.new) }
@@ -46,7 +52,12 @@ fn read_all(rt: &(impl Input + Print), stage: &mut [u8], text: &mut [u8], page: 
 }
 
 // The input is read, and then its last line obeyed.
-fn run(rt: &(impl Input + Print), stage: &mut [u8], text: &mut [u8], page: &mut [u8]) -> io::Result<()>
+fn run(
+    rt: &(impl Input + Print),
+    stage: &mut [u8],
+    text: &mut [u8],
+    page: &mut [u8],
+) -> io::Result<()>
     requires { (length stage.old ≡ stage_size) × (length text.old ≡ kept_size) × (length page.old ≡ page_size) }
 {
     let ended = read_all(rt, stage, text, page)?;

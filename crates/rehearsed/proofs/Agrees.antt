@@ -3,7 +3,7 @@
 -- them was written by its writer's calls, or its writer is the liar, whose frames are any bytes. A suggest is accepted only by the vault that
 -- leads its view, which is the one that it is for. Refused calls, and those at the liar, are no items.
 -- Assumes nothing.
-use Prim.Native.Nat.{ℕ, zero, suc, ◌+◌, ◌-◌, ◌≤◌}
+use Prim.Native.Nat.{ℕ, zero, suc, ◌-◌, ◌≤◌}
 use mathlib.Core.Path.{◌≡◌, refl, sym, ap, subst, ◌∙◌}
 use mathlib.Core.Logic.{◌⊎◌, inl, inr, ⊎_elim}
 use mathlib.Core.Bool.{Bool, true, false, not, cond}
@@ -18,7 +18,7 @@ use Rattle.rules.proofs.Bools.{which, clash}
 use Rattle.frame.specs.declared.Frame.{Frame}
 use Rattle.frame.specs.Format.{encode}
 use Rattle.frame.specs.Valid.{Valid}
-use Rattle.frame.specs.Refusal.{first, leader_of}
+use Rattle.frame.specs.Refusal.{leader_of}
 use Rattle.entry.specs.declared.Entry.{Entry}
 use Rattle.entry.specs.declared.Entry.TheVariants.{ForAll, ForOne, Timer, Decision}
 use Rattle.entry.specs.Valid.{AllValid}

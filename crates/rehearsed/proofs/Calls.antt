@@ -2,14 +2,13 @@
 -- and changes nothing, or is accepted, and what it leaves is held again (`comes`). A suggest is accepted only by the vault that leads its view
 -- (`suggest_led`).
 -- Assumes nothing.
-use Prim.Native.Nat.{ℕ, ◌-◌}
+use Prim.Native.Nat.{ℕ}
 use mathlib.Core.Path.{◌≡◌, refl, sym, ap, subst, ◌∙◌}
 use mathlib.Core.Logic.{◌⊎◌, inl, inr, ⊎_elim}
 use mathlib.Core.Bool.{true}
 use mathlib.Core.List.{List}
 use mathlib.Core.Option.{Option, none, some}
 use lib.ListN.{length}
-use Rattle.rules.specs.Sets.{size}
 use Rattle.frame.specs.declared.Frame.{Frame}
 use Rattle.frame.specs.Format.{encode}
 use Rattle.frame.specs.Valid.{Valid}
@@ -26,16 +25,15 @@ use Rattle.protocol.specs.Calls.{accepted, answer}
 use Rattle.protocol.proofs.ReadsBack.{AllRight, call_right}
 use Rattle.contents.specs.Calls.{left_after}
 use Rattle.contents.specs.Contents.{contents, slotted}
-use Rattle.contents.specs.Left.{Left, wrote, gave}
+use Rattle.contents.specs.Left.{Left, gave}
 use Rattle.contents.specs.Spelling.{Spells}
 use Rattle.contents.proofs.Spelling.{Fine}
 use Rattle.contents.proofs.Stays.{call_set}
-use Rattle.runs.specs.Runs.{ByteCall, start, frame, timer, InWidth, record_in, entries_in, is_accepted}
+use Rattle.runs.specs.Runs.{ByteCall, frame, InWidth, record_in, entries_in, is_accepted}
 use Rattle.runs.specs.Fixed.{leaves}
 use Rattle.runs.proofs.Carry.{said, carried, fed_said, LeftWell, left_well}
 use Rattle.runs.proofs.Demand.{never}
 use Rattle.answers.specs.Lines.{zeroed}
-use Rattle.stage.specs.Lines.{call}
 use Rattle.rehearsed.proofs.Suggests.{accepted_leads}
 
 -- ---- a vault's bytes

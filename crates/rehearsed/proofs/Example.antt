@@ -1,14 +1,13 @@
 -- The first lines of a rehearsal, of the definitions. Each line is followed by what is known of the stage: the contents that two vaults' records hold, and
 -- the frames that wait (crate's proofs/Numbered). The calls on contents compute.
 -- Assumes nothing.
-use Prim.Native.Nat.{ℕ, ◌+◌}
+use Prim.Native.Nat.{ℕ}
 use mathlib.Core.Path.{◌≡◌, refl, sym, ap, subst, ◌∙◌}
 use mathlib.Core.Bool.{Bool, cond}
 use mathlib.Core.List.{List, [], ◌∷◌, ◌++◌}
 use mathlib.Core.Option.{Option, none, some}
 use native.Mathlib.Omega.{arith}
 use lib.ListN.{length, length-replicate}
-use Rattle.rules.proofs.Bools.{which}
 use Rattle.wire.specs.Digits.{number_at, digits}
 use Rattle.rules.specs.Sets.{weigh}
 use Rattle.rules.specs.Quorums.{is_quorum, is_blocking}
@@ -24,9 +23,7 @@ use Rattle.protocol.specs.Record.{Record, highest}
 use Rattle.protocol.specs.Pass.{Out, does, writes, agreed, pass, step_a, step_b, step_c, step_d, step_vote, step_h}
 use Rattle.protocol.specs.Calls as by
 use Rattle.protocol.specs.Calls.{accepted, refused, unless, answer, started, keep, heard}
-use Rattle.contents.specs.Left.{wrote}
 use Rattle.runs.specs.Runs.{ByteCall, start, frame}
-use Rattle.runs.specs.Fixed.{leaves}
 use Rattle.runs.proofs.Carry.{said, said_frame}
 use Rattle.rehearsed.specs.Example.{input, Document}
 use Rattle.rehearsed.proofs.Calls.{Holds}

@@ -15,7 +15,6 @@ use borrow.Author.Tests.{eqb-true, eqb-false, ne_eqb}
 use lib.ListN.{length}
 use Rattle.rules.proofs.Bools.{which, clash}
 use Rattle.rules.proofs.Reports.{none≢some}
-use Rattle.frame.specs.Refusal.{first}
 use Rattle.frame.specs.Format.{encode}
 use Rattle.record.specs.Size.{record_size}
 use Rattle.protocol.specs.Record.{Record}
@@ -23,7 +22,7 @@ use Rattle.protocol.specs.Pass.{Out}
 use Rattle.protocol.specs.Calls.{accepted, refused, answer}
 use Rattle.contents.specs.Calls.{left_after}
 use Rattle.contents.specs.Left.{Left, wrote, gave}
-use Rattle.runs.specs.Runs.{ByteCall, frame, InWidth, record_in, entries_in}
+use Rattle.runs.specs.Runs.{ByteCall, InWidth, record_in, entries_in}
 use Rattle.runs.specs.Fixed.{leaves}
 use Rattle.runs.proofs.Carry.{said, leaves_room}
 use Rattle.answers.specs.Lines.{zeroed}
@@ -38,7 +37,6 @@ use Rattle.entry.specs.Layout.{entry_bytes}
 use Rattle.protocol.specs.Tables.{put}
 use Rattle.protocol.proofs.Tables.{put_same, put_other}
 use Rattle.lines.specs.Digits.{line_of, refusal_line}
-use Rattle.lines.specs.Lines.{prints}
 use Rattle.stage.specs.Stage.{place_count, stage_size, record_of, with_record, Waiting, waiting_bytes, is_free, waiting_at, with_waiting, first_free}
 use Rattle.stage.specs.Lines.{Done, sent_to, sent, entry_done, entries_done, call}
 use Rattle.stage.specs.Lines.{waiting_now, answered, done}
@@ -146,17 +144,19 @@ pub send_all : (v : ℕ) {s : List ℕ} {n : ℕ} {f : ℕ → Waiting} → Plac
 unfolding entries_done entry_done shown_from count_from frames_from
 send_all v p [] room = (p, refl)
 send_all v {s} {n} {f} p (ForAll x ∷ es) room =
-    let (q, line) = sends p (omega arith) (record { writer = v; to = 255; bytes = encode x }) (encode_short x) in
-    let (r, lines) = send_all v q es (omega arith) in
+    let w : Waiting = record { writer = v; to = 255; bytes = encode x } in
+    let (q, line) = sends p (omega arith) w (encode_short x) in
+    let (r, lines) = send_all v {s = (sent s w).stage} {n = suc n} {f = put n w f} q es (omega arith) in
     (r, (λ i. line i ++ lines i))
 send_all v {s} {n} {f} p (ForOne to x ∷ es) room =
-    let (q, line) = sends p (omega arith) (record { writer = v; to = to; bytes = encode x }) (encode_short x) in
-    let (r, lines) = send_all v q es (omega arith) in
+    let w : Waiting = record { writer = v; to = to; bytes = encode x } in
+    let (q, line) = sends p (omega arith) w (encode_short x) in
+    let (r, lines) = send_all v {s = (sent s w).stage} {n = suc n} {f = put n w f} q es (omega arith) in
     (r, (λ i. line i ++ lines i))
-send_all v p (Timer view millis ∷ es) room =
-    let (r, lines) = send_all v p es (omega arith) in (r, ap (λ (l : List ℕ). line_of (entry_bytes (Timer view millis)) ++ l) lines)
-send_all v p (Decision view plan ∷ es) room =
-    let (r, lines) = send_all v p es (omega arith) in (r, ap (λ (l : List ℕ). line_of (entry_bytes (Decision view plan)) ++ l) lines)
+send_all v {s} {n} {f} p (Timer view millis ∷ es) room =
+    let (r, lines) = send_all v {s = s} {n = n} {f = f} p es (omega arith) in (r, ap (λ (l : List ℕ). line_of (entry_bytes (Timer view millis)) ++ l) lines)
+send_all v {s} {n} {f} p (Decision view plan ∷ es) room =
+    let (r, lines) = send_all v {s = s} {n = n} {f = f} p es (omega arith) in (r, ap (λ (l : List ℕ). line_of (entry_bytes (Decision view plan)) ++ l) lines)
 
 -- ---- calls
 

@@ -1,7 +1,7 @@
 -- The stage, line by line: it keeps its size, the four vaults' bytes stay records of theirs, what waits is bytes (`Good`), and a liar that is declared
 -- stays declared (`liar_lasts`). A call changes one record and sends frames (`Turned`), whatever is to be known of each frame that waits.
 -- Assumes nothing.
-use Prim.Native.Nat.{ℕ, zero, suc, ◌+◌, ◌-◌, ◌≤◌, ◌<◌}
+use Prim.Native.Nat.{ℕ, zero, suc, ◌+◌, ◌≤◌, ◌<◌}
 use mathlib.Core.Path.{◌≡◌, refl, sym, ap, subst, ◌∙◌}
 use mathlib.Core.Logic.{◌≢◌, ◌⊎◌, inl, inr, ⊎_elim}
 use mathlib.Core.Bool.{cond}
@@ -24,8 +24,8 @@ use Rattle.sound.specs.inside.Sound.{lent_is}
 use Rattle.protocol.specs.Pass.{Out}
 use Rattle.protocol.specs.Calls.{accepted}
 use Rattle.contents.specs.Calls.{left_after}
-use Rattle.contents.specs.Left.{Left, wrote, gave}
-use Rattle.runs.specs.Runs.{ByteCall, frame, InWidth, record_in, entries_in}
+use Rattle.contents.specs.Left.{Left, gave}
+use Rattle.runs.specs.Runs.{ByteCall, InWidth, record_in, entries_in}
 use Rattle.runs.specs.Fixed.{leaves}
 use Rattle.runs.proofs.Carry.{said}
 use Rattle.answers.specs.Lines.{zeroed, blank_record}
@@ -35,7 +35,7 @@ use Rattle.stage.proofs.Apart.{liar_sized, liar_put, liar_record, liar_waiting}
 use Rattle.rules.proofs.Reports.{none≢some}
 use Rattle.stage.specs.Stage.{part, record_place, place_count, place_of, place_size, stage_size, empty_stage, record_of, with_record}
 use Rattle.stage.specs.Stage.{liar_in, Waiting, waiting_in, waiting_at, is_free, with_free}
-use Rattle.stage.specs.Lines.{Meant, refuse, call, free, declare, make_up, line_meant, answered, done, sent, rehearsal}
+use Rattle.stage.specs.Lines.{Meant, refuse, call, free, declare, make_up, line_meant, answered, done, rehearsal}
 use Rattle.rehearsed.proofs.Means.{CallWell, by_start, by_frame, by_timer, MeantWell, meant_well}
 use Rattle.rehearsed.proofs.Sent.{Waits, Stays, OfAll, sent_stays, entries_stay}
 use Rattle.rehearsed.proofs.Calls.{Holds, Accepts, Held, OwnStart, comes}

@@ -1,0 +1,34 @@
+-- `rehearsal::read_all` meets its contract: each piece is fed where the one before it ended, and where it can't be written out it was fed.
+-- Assumes nothing.
+use mathlib.Core.Path.{refl, ◌∙◌}
+use borrow.Author.Rules.{rules}
+use Rattle.lines.specs.declared.Ended.TheVariants.{Dry}
+use Rattle.lines.specs.inside.Reading.{EndedWell}
+use Rattle.lines.proofs.Reading.{ended_none, ended_more}
+use Rattle.obey.specs.Steps.{kept_size}
+use Rattle.stage.specs.Lines.{rehearsal}
+use Rattle.rehearsal.proofs.read_all.Goals as goal
+
+pub loop-init : goal.loop-init
+loop-init g c = (c.requires.0, c.requires.1, c.requires.2, refl, ended_none rehearsal kept_size c.args.stage.now c.args.text.now)
+
+pub returns-in_err-flush-clause-err : goal.returns-in_err-flush-clause-err
+returns-in_err-flush-clause-err g c =
+    let l = c.loop in
+    let f = c.feed-place in
+    let e = f.ensures in
+    let fed : EndedWell rehearsal kept_size c.args.stage.now (Dry f.result.len) f.new.stage f.new.text =
+    ended_more rehearsal kept_size _ l.stage l.text l.len l.invariant.4 _ f.new.stage f.new.text f.result.len _ e.fed e.len_le_kept_size.0 in
+    search rules
+
+pub loop-preserved : goal.loop-preserved
+loop-preserved g c =
+    let l = c.loop in
+    let f = c.feed-place in
+    let e = f.ensures in (
+      f.auto.stage ∙ l.invariant.0,
+      f.auto.text ∙ l.invariant.1,
+      f.auto.page ∙ l.invariant.2,
+      c.read.auto.buf ∙ l.invariant.3,
+      ended_more rehearsal kept_size _ l.stage l.text l.len l.invariant.4 _ f.new.stage f.new.text f.result.len _ e.fed e.len_le_kept_size.0,
+    )
