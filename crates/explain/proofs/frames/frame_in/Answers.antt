@@ -1,0 +1,7 @@
+-- `explain::frames::frame_in` meets its contract: where neither 9 nor 10 is given, the bytes have the form of a frame.
+-- Assumes nothing.
+use Rattle.frame.proofs.Laws.{told, formed}
+use Rattle.explain.proofs.frames.frame_in.Goals as goal
+
+pub parse-requires : goal.parse-requires
+parse-requires c = formed c.args.s.now (told c.form_refusal-why.ensures c.if-why-ne0.false)
