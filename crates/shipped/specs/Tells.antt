@@ -43,7 +43,7 @@ use Rattle.contents.specs.Calls.{start_left, frame_left, timer_left}
 use Rattle.contents.specs.Remnant.{remnant_left, restart_left}
 
 module _ (n : ℕ) (ps : List (ParamKind n)) (r : ResultKind n) (w : World) where
-  -- A call's arguments, as the logic has them: lifetimes.0 with shares.1, values.3, and machine values .4.
+  -- A call's arguments, as the logic has them: lifetimes .0 with shares .1, values .3, and machine values .4.
   abbrev pub Arguments : Type 0
   Arguments = Bound w.𝓛 (sig_of n ps r)
 

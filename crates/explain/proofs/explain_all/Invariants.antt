@@ -1,4 +1,4 @@
--- `explain::explain_all` is safe and ends.
+-- `explain::explain_all` is safe and ends: what is kept of a line stays within its room.
 -- Assumes nothing.
 use Prim.Native.Nat.{◌≤◌}
 use mathlib.Core.Path.{◌≡◌}
@@ -7,4 +7,5 @@ use Rattle.explain.specs.inside.Sizes.{line_most, text_kept}
 use Rattle.explain.proofs.explain_all.Given as goal
 
 abbrev pub invariant-loop : goal.invariant-loop
-invariant-loop g l = (length l.text ≡ text_kept) × (l.place.len ≤ text_kept) × (l.place.given.count ≤ line_most)
+invariant-loop g l =
+    (length l.text ≡ length l.initial.text) × (length l.text ≡ text_kept) × (l.place.len ≤ text_kept) × (l.place.given.count ≤ line_most)

@@ -1,5 +1,6 @@
 -- `explain::text::copy` meets its contract: the place in the text stays within it, and so does the place that is written.
 -- Assumes nothing.
+use Prim.Native.Nat.{◌-◌}
 use native.Mathlib.Omega.{arith}
 use Rattle.explain.proofs.text.copy.Goals as goal
 

@@ -1,5 +1,6 @@
 -- `explain::text::count_of` meets its contract: no more characters are counted than were passed.
 -- Assumes nothing.
+use Prim.Native.Nat.{◌-◌}
 use native.Mathlib.Omega.{arith}
 use Rattle.explain.proofs.text.count_of.Goals as goal
 
