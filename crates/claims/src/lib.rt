@@ -215,10 +215,8 @@ fn standings<'a>(table: &'a [u64], n: usize, u: u32, end: u32) -> [u32; COLUMN]
     ensures { AreSpans result n (standing table.now u end) }
 {
     let mut found = [0u32; COLUMN];
-    let mut r: usize = 0;
-    while r < n {
+    for r in 0..n {
         found[r] = standing_of(table, r, u, end);
-        r += 1;
     }
     found
 }
@@ -231,10 +229,8 @@ fn count_at<'a>(standings: &'a [u32], n: usize, k: u32) -> usize
     ensures { result ≡ weigh (λ i. 1) (stands_at standings.now k) n }
 {
     let mut count: u32 = 0;
-    let mut r: usize = 0;
-    while r < n {
+    for r in 0..n {
         count += share_at(standings[r], k);
-        r += 1;
     }
     count as usize
 }
@@ -365,10 +361,8 @@ fn others_for<'a>(plans: &'a [u64], k: usize, p: u64) -> usize
     ensures { result ≡ others_of plans.now k p }
 {
     let mut count: usize = 0;
-    let mut r: usize = 0;
-    while r < k {
+    for r in 0..k {
         count += other_share(plans[r], p);
-        r += 1;
     }
     count
 }
@@ -380,10 +374,8 @@ pub fn count_for<'a>(plans: &'a [u64], at: usize, tally: Tally, p: u64) -> usize
 {
     let some = tally.some;
     let mut count = tally.every;
-    let mut r: usize = 0;
-    while r < some {
+    for r in 0..some {
         count += plan_share(plans[at + r], p);
-        r += 1;
     }
     count
 }
@@ -436,10 +428,8 @@ fn highest_to<'a>(spans: &'a [u32], n: usize, w: u32) -> u32
     ensures { result ≡ highest_to spans.now w n }
 {
     let mut best: u32 = 0;
-    let mut r: usize = 0;
-    while r < n {
+    for r in 0..n {
         best = larger(best, span_to(spans[r], w));
-        r += 1;
     }
     best
 }

@@ -77,12 +77,10 @@ fn differs(records: &[u8], count: usize, slot: usize) -> bool
     requires { Holds records.now count × (slot < slot_count) }
     ensures { result ≡ clashing records.now count slot }
 {
-    let mut i: usize = 1;
-    while i < count {
+    for i in 1..count {
         if differs_before(records, i, slot) {
             return true;
         }
-        i += 1;
     }
     false
 }
@@ -94,13 +92,11 @@ fn spoke_twice(records: &[u8], count: usize, sender: u8) -> bool
     requires { Holds records.now count × (sender < rows) }
     ensures { result ≡ twice_in records.now count sender }
 {
-    let mut vote: u8 = 0;
-    while vote < VOTES {
+    for vote in 0..VOTES {
         let slot = record::frame_slot(numbers::VOTE_1 + vote, sender);
         if differs(records, count, slot) {
             return true;
         }
-        vote += 1;
     }
     false
 }
@@ -123,10 +119,8 @@ fn name_all(records: &[u8], count: usize, n: u8, out: &mut [u8]) -> usize
     ensures { Put out.old 0 (rising (twice_in records.now count) n) out.new result }
 {
     let mut at: usize = 0;
-    let mut sender: u8 = 0;
-    while sender < n {
+    for sender in 0..n {
         at = name(records, count, sender, out, at);
-        sender += 1;
     }
     at
 }
@@ -137,12 +131,10 @@ fn name_all(records: &[u8], count: usize, n: u8, out: &mut [u8]) -> usize
 fn sizes_fit(lengths: &[u32]) -> bool
     ensures { result ≡ all (size_fits lengths.now) (length lengths.now) }
 {
-    let mut i: usize = 0;
-    while i < lengths.len() {
+    for i in 0..lengths.len() {
         if lengths[i] != LENGTH {
             return false;
         }
-        i += 1;
     }
     true
 }
@@ -183,13 +175,11 @@ fn records_fit(records: &[u8], count: usize) -> bool
     ensures { result ≡ all (fits_at records.now) count }
 {
     let set = first_settings(records);
-    let mut i: usize = 0;
-    while i < count {
+    for i in 0..count {
         let from = record::SIZE * i;
         if !record_fits(set, &records[from..from + record::SIZE]) {
             return false;
         }
-        i += 1;
     }
     true
 }

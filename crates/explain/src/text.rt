@@ -83,10 +83,8 @@ fn count_of(text: &[u8], sort: u8) -> usize
     ensures { result ≤ length text.now }
 {
     let mut count = 0;
-    let mut i = 0;
-    while i < text.len() {
+    for i in 0..text.len() {
         count += one_if(text[i], sort);
-        i += 1;
     }
     count
 }
@@ -144,10 +142,8 @@ fn copy(way: u8, text: &[u8], out: &mut [u8]) -> usize
     ensures { result ≤ length out.old }
 {
     let mut to = 0;
-    let mut i = 0;
-    while i < text.len() {
+    for i in 0..text.len() {
         to = put_as(way, out, to, text[i]);
-        i += 1;
     }
     to
 }

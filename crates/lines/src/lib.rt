@@ -53,8 +53,7 @@ pub fn bytes_in(text: &[u8], limit: usize, bytes: &mut [u8]) -> Spelling
         return Spelling::Bad;
     }
     let count = text.len() / 2;
-    let mut i = 0;
-    while i < count {
+    for i in 0..count {
         let high = value_of(text[2 * i]);
         let low = value_of(text[2 * i + 1]);
         if 15 < high {
@@ -64,7 +63,6 @@ pub fn bytes_in(text: &[u8], limit: usize, bytes: &mut [u8]) -> Spelling
             return Spelling::Bad;
         }
         bytes[i] = high * 16 + low;
-        i += 1;
     }
     Spelling::Count(count)
 }
@@ -77,13 +75,11 @@ pub fn put_digits(page: &mut [u8], at: usize, s: &[u8]) -> usize
     ensures { OnPage (digits_of s.now) page.old at page.new result }
 {
     let mut to = at;
-    let mut i = 0;
-    while i < s.len() {
+    for i in 0..s.len() {
         let b = s[i];
         page[to] = digit_of(b / 16);
         page[to + 1] = digit_of(b % 16);
         to += 2;
-        i += 1;
     }
     to
 }

@@ -166,11 +166,9 @@ fn load_slots(rec: &[u8], id: u8, own: &mut [u8])
     requires { (length rec.now ≡ record_size) × (id < rows) × (remnant_size ≤ length own.old) }
     ensures { own.new ≡ placed own.old remnant_head (own_bytes (decode_record rec.now) id remnant_slots) }
 {
-    let mut t: u8 = 0;
-    while t < SLOTS {
+    for t in 0..SLOTS {
         let from = record::place_of(own_slot(id, t));
         copy_slot(rec, from, own, place_of(t));
-        t += 1;
     }
 }
 
@@ -202,9 +200,7 @@ pub fn store(own: &[u8], id: u8, rec: &mut [u8])
 {
     let view = view_in(own);
     record::put_view(rec, view);
-    let mut t: u8 = 0;
-    while t < SLOTS {
+    for t in 0..SLOTS {
         store_slot(own, id, t, rec);
-        t += 1;
     }
 }

@@ -166,13 +166,11 @@ pub fn pass_from(rec: &mut [u8], set: Settings, from: u8, out: &mut [u8], at: us
     ensures { Ran (pass (steps_from from) (contents_in rec.old)) at out.old out.new result rec.new }
 {
     let mut count = at;
-    let mut k = from;
     let mut view = record::view_of(rec);
-    while k < 8 {
+    for k in from..8 {
         let act = acts::act_at(rec, set, view, k);
         count = take_step(rec, set.id, k, act, out, count);
         view = view_after(rec, k, view);
-        k += 1;
     }
     count
 }

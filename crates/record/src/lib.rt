@@ -181,10 +181,8 @@ pub fn put_view(rec: &mut [u8], view: u32)
 fn clear(rec: &mut [u8])
     ensures { rec.new ≡ replicate (length rec.old) 0 }
 {
-    let mut i: usize = 0;
-    while i < rec.len() {
+    for i in 0..rec.len() {
         rec[i] = 0;
-        i += 1;
     }
 }
 

@@ -135,12 +135,10 @@ fn frames_sound(own: &[u8], set: Settings, view: u32) -> bool
     requires { Fitting own.now set }
     ensures { result ≡ all (λ k. place_sound (row_in own.now) set view (k + 1) set.id) kinds }
 {
-    let mut k: u8 = 0;
-    while k < numbers::PROOF {
+    for k in 0..numbers::PROOF {
         if !place_sound(own, set, view, k + 1) {
             return false;
         }
-        k += 1;
     }
     true
 }

@@ -55,10 +55,8 @@ fn free<'a>(table: &'a [u64], n: usize, f: usize) -> bool
     ensures { result ≡ free (equals n f) (reports_in_table table.now) }
 {
     let mut count: usize = 0;
-    let mut r: usize = 0;
-    while r < n {
+    for r in 0..n {
         count += unlocked_share(table, r);
-        r += 1;
     }
     claims::is_quorum(count, n, f)
 }
@@ -87,10 +85,8 @@ fn lock_spans<'a>(table: &'a [u64], n: usize, v: u32) -> [u32; claims::COLUMN]
     ensures { AreSpans result n (λ i. lock_span v (reports_in_table table.now i)) }
 {
     let mut spans = [0u32; claims::COLUMN];
-    let mut r: usize = 0;
-    while r < n {
+    for r in 0..n {
         spans[r] = lock_span(table, r, v);
-        r += 1;
     }
     spans
 }
@@ -130,11 +126,9 @@ fn locks_at<'a>(table: &'a [u64], n: usize, u: u32, plans: &mut [u64]) -> Tally
 {
     let view = u as u64;
     let mut tally = Tally { every: 0, some: 0 };
-    let mut r: usize = 0;
-    while r < n {
+    for r in 0..n {
         let share = allow_share(table, r, view);
         tally = claims::add_share(plans, LOCKS, tally, share, table[claims::LOCKED + r]);
-        r += 1;
     }
     tally
 }
@@ -251,14 +245,12 @@ fn find_claimed<'a>(plans: &'a [u64], c: Search, w: u32, except: Choice) -> Choi
     let coming = claims::coming_at(c, w);
     let end = coming.from + coming.some;
     let mut last = first;
-    let mut r: usize = 0;
-    while r < end {
+    for r in 0..end {
         let x = plans[r];
         if other_claimed(plans, c, w, except, last, x) {
             return Choice::Plan(x);
         }
         last = x;
-        r += 1;
     }
     Choice::Nothing
 }
@@ -421,12 +413,10 @@ fn smallest_in<'a>(plans: &'a [u64], c: Search, locked: bool, start: u64, best: 
     let count = tried_count(c, locked);
     let mut found = best;
     let mut last = start;
-    let mut r: usize = 0;
-    while r < count {
+    for r in 0..count {
         let x = plans[at + r];
         found = smaller_passing(plans, c, locked, last, x, found);
         last = x;
-        r += 1;
     }
     found
 }

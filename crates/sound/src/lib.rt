@@ -85,10 +85,8 @@ fn zero(s: &[u8]) -> bool
     ensures { result ≡ all (zero_in s.now) (length s.now) }
 {
     let mut most: u8 = 0;
-    let mut i: usize = 0;
-    while i < s.len() {
+    for i in 0..s.len() {
         most = larger(most, s[i]);
-        i += 1;
     }
     most == 0
 }
@@ -332,12 +330,10 @@ fn places_sound(rec: &[u8], set: Settings, view: u32, kind: u8) -> bool
     requires { (set.n ≤ rows) × (1 ≤ kind) × (kind ≤ 8) × (length rec.now ≡ record_size) }
     ensures { result ≡ all (place_sound (slot_of (decode_record rec.now)) set view kind) set.n }
 {
-    let mut sender: u8 = 0;
-    while sender < set.n {
+    for sender in 0..set.n {
         if !place_sound(rec, set, view, kind, sender) {
             return false;
         }
-        sender += 1;
     }
     true
 }
@@ -362,12 +358,10 @@ fn rows_sound(rec: &[u8], set: Settings, view: u32) -> bool
     requires { (set.n ≤ rows) × (length rec.now ≡ record_size) }
     ensures { result ≡ rows_sound (slot_of (decode_record rec.now)) set view }
 {
-    let mut k: u8 = 0;
-    while k < numbers::PROOF {
+    for k in 0..numbers::PROOF {
         if !kind_sound(rec, set, view, k + 1) {
             return false;
         }
-        k += 1;
     }
     true
 }

@@ -55,15 +55,13 @@ fn views_above(shared: &[u8], n: usize, need: usize, low: u32, views: &mut [u32]
     ensures { Gathered (change_in shared.now) n need low views.new result × (length views.new ≡ rows) }
 {
     let mut count: usize = 0;
-    let mut j: usize = 0;
-    while j < n {
+    for j in 0..n {
         if count + (n - j) < need {
             return count;
         }
         let w = change_above(shared, record::HEAD + record::SLOT * j, low);
         views[count] = w;
         count += share_above(low, w);
-        j += 1;
     }
     count
 }
@@ -81,10 +79,8 @@ fn count_asking(views: &[u32], w: u32) -> usize
     ensures { result ≡ asking views.now (length views.now) w }
 {
     let mut count: u32 = 0;
-    let mut j: usize = 0;
-    while j < views.len() {
+    for j in 0..views.len() {
         count += share_asking(views[j], w);
-        j += 1;
     }
     count as usize
 }
@@ -114,10 +110,8 @@ fn highest_of(views: &[u32], need: usize, low: u32) -> u32
         return low;
     }
     let mut best = low;
-    let mut i: usize = 0;
-    while i < views.len() {
+    for i in 0..views.len() {
         best = raised(views, i, need, best);
-        i += 1;
     }
     best
 }
@@ -226,10 +220,8 @@ pub fn gather(block: &[u8], kind: u8, n: u8, v: u32) -> [u64; claims::TABLE]
     ensures { Filled (reports_by block.now kind v) n result }
 {
     let mut table = [0u64; claims::TABLE];
-    let mut i: u8 = 0;
-    while i < n {
+    for i in 0..n {
         gather_from(&mut table, i, block, kind, v);
-        i += 1;
     }
     table
 }
@@ -295,13 +287,11 @@ fn lead_of(block: &[u8], from: usize, n: usize, f: usize, v: u32) -> Lead
         margin: 0,
         votes: 0,
     };
-    let mut j: usize = 0;
-    while j < n {
+    for j in 0..n {
         if b.votes + f < j {
             return b;
         }
         b = lead_after(b, block, from + record::SLOT * j, v);
-        j += 1;
     }
     b
 }
@@ -326,10 +316,8 @@ fn votes_for(block: &[u8], from: usize, n: usize, v: u32, p: u64) -> usize
     ensures { result ≡ weigh (λ i. 1) (λ j. holds (eqb p) (row_votes block.now v from j)) n }
 {
     let mut count: usize = 0;
-    let mut j: usize = 0;
-    while j < n {
+    for j in 0..n {
         count += vote_share(block, from + record::SLOT * j, v, p);
-        j += 1;
     }
     count
 }

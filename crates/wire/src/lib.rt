@@ -19,10 +19,8 @@ pub fn number(s: &[u8], at: usize, width: usize) -> u64
     ensures { result ≡ number_at width s.now at }
 {
     let mut n: u64 = 0;
-    let mut i = 0;
-    while i < width {
+    for i in 0..width {
         n = n * 256 + wide(s[at + i]);
-        i += 1;
     }
     n
 }
