@@ -14,8 +14,7 @@ use lib.ListN.{length, get_or, get_or-eq_default}
 use Rattle.wire.specs.Digits.{number_at}
 use Rattle.wire.specs.Fields.{Bytes}
 use Rattle.wire.proofs.Laws.{number_below}
-use Rattle.frame.specs.declared.Reading.{Reading}
-use Rattle.frame.specs.declared.Reading.TheVariants.{Refused}
+use Rattle.frame.specs.Refusal.{Reading, Refused}
 use Rattle.frame.specs.Refusal.{first, form_rows, read_frame}
 use Rattle.frame.proofs.Laws.{formed, head_is_there}
 use Rattle.frame.proofs.Steps.{by_form}

@@ -11,13 +11,11 @@ use native.Mathlib.Omega.{arith}
 use lib.Dec.{eqb}
 use lib.ListN.{get_or}
 use Rattle.frame.specs.declared.Frame.{Frame}
-use Rattle.frame.specs.declared.Reading.{Reading}
-use Rattle.frame.specs.declared.Reading.TheVariants.{Accepted, Refused}
+use Rattle.frame.specs.Refusal.{Reading, Accepted, Refused}
 use Rattle.frame.specs.Format.{three_reports, reports_at, reports_of, decode}
 use Rattle.frame.specs.Refusal.{first, any, bad_form, too_high, bad_previous_of, view_missing, misled}
 use Rattle.frame.specs.Refusal.{form_rows, link_rows, report_rows, content_rows, leader_rows, refusal, read_frame}
 use Rattle.frame.specs.Sentences.{FaultsTell, FaultsAreTold, Faultless}
-use Rattle.frame.specs.inside.Reading.{refusal_of}
 use Rattle.frame.proofs.Laws.{none, first_none, body_of_reports}
 
 -- ---- by the rows
@@ -29,6 +27,11 @@ number_by form view previous led = cond form 14 (cond view 21 (cond previous 22 
 -- The answer of a reader whose table gives a number, 0 where it gives none.
 abbrev answer_by : ℕ → Frame → Reading
 answer_by number f = cond (eqb number 0) (Accepted f) (Refused number)
+
+-- The number of a refusal, 0 where the frame was accepted.
+abbrev refusal_of : Reading → ℕ
+refusal_of (Accepted f) = 0
+refusal_of (Refused number) = number
 
 -- Two answers with different numbers are not the same.
 differ : {A : Type 0} (answer : Reading) (k : ℕ) → (refusal_of answer ≡ k → ⊥) → answer ≡ Refused k → A

@@ -15,7 +15,9 @@ use Rattle.wire.specs.Digits.{number_at}
 use Rattle.frame.specs.declared.Body.TheVariants.{Plan, Empty, Told}
 use Rattle.frame.specs.Format.{within, length_of, reports_at, body_as}
 use Rattle.frame.specs.inside.Reading.{Formed}
-use Rattle.frame.specs.Refusal.{Row, row, first, form_rows}
+use Rattle.frame.specs.declared.Refusal.{Refusal}
+use Rattle.frame.specs.declared.Refusal.TheVariants as why
+use Rattle.frame.specs.Refusal.{Row, row, first, form_rows, number_of}
 
 -- what is known of two numbers, said of the tests on them: `search tests` decides a table's row from the branches on the way
 pub ruleset tests = (eq-eqb, ne_eqb, lt-ltb, le-ltb, le-leb, lt-leb, or-false)
@@ -183,3 +185,32 @@ module _ (s : List ℕ) (f : Formed s) where
   form_passes =
       let e : length s ≡ 0 → ⊥ = λ z. omega (arith, head_is_there) in
       simp (ne_eqb (length s) 0 e, f.kind, eq-eqb (length s) (length_of (get_or s 0 0)) f.size)
+
+-- Every refusal has a number above 0.
+pub numbered : (why : Refusal) → number_of why ≡ 0 → ⊥
+numbered why.Output e = absurd (omega arith)
+numbered why.Blank e = absurd (omega arith)
+numbered why.Unsound e = absurd (omega arith)
+numbered why.Started e = absurd (omega arith)
+numbered why.N e = absurd (omega arith)
+numbered why.F e = absurd (omega arith)
+numbered why.Id e = absurd (omega arith)
+numbered why.Class e = absurd (omega arith)
+numbered why.Kind e = absurd (omega arith)
+numbered why.Length e = absurd (omega arith)
+numbered why.Link e = absurd (omega arith)
+numbered why.Sender e = absurd (omega arith)
+numbered why.ViewZero e = absurd (omega arith)
+numbered why.Report e = absurd (omega arith)
+numbered why.Leader e = absurd (omega arith)
+numbered why.Over e = absurd (omega arith)
+numbered why.Kept e = absurd (omega arith)
+numbered why.Timer e = absurd (omega arith)
+numbered why.LastView e = absurd (omega arith)
+numbered why.Line e = absurd (omega arith)
+numbered why.ReportView e = absurd (omega arith)
+numbered why.Previous e = absurd (omega arith)
+numbered why.Name e = absurd (omega arith)
+numbered why.Records e = absurd (omega arith)
+numbered why.RemnantLength e = absurd (omega arith)
+numbered why.RemnantUnsound e = absurd (omega arith)

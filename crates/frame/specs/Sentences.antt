@@ -5,8 +5,7 @@ use Rattle.std.specs.Prelude.{ℕ, ◌≤◌, ◌≡◌, ◌⊎◌, ◌↔◌, B
 use Rattle.wire.specs.Fields.{Bytes}
 use Rattle.frame.specs.declared.Frame.{Frame}
 use Rattle.frame.specs.declared.Report.{Report}
-use Rattle.frame.specs.declared.Reading.{Reading}
-use Rattle.frame.specs.declared.Reading.TheVariants.{Accepted, Refused}
+use Rattle.frame.specs.Refusal.{Reading, Accepted, Refused}
 use Rattle.frame.specs.Format.{three_reports, reports_at, encode, decode}
 use Rattle.frame.specs.Valid.{Valid}
 use Rattle.frame.specs.Refusal.{first, any, bad_form, too_high, bad_previous_of, view_missing}

@@ -4,7 +4,8 @@
 ghost use Rattle.std.specs.Prelude.{◌≡◌, false, ◌||◌, ◌++◌, ◌<◌};
 ghost use Rattle.frame.specs.Format.{length_of, three_reports};
 ghost use Rattle.frame.specs.Refusal.{bad_form, too_high, bad_previous, view_missing, misled, first, any, form_rows, link_rows, report_rows, content_rows, leader_rows};
-ghost use Rattle.frame.specs.inside.Reading.{present_at, refusal_of};
+ghost use Rattle.frame.specs.inside.Reading.{present_at};
+ghost use Rattle.frame.specs.Refusal.{number_of, number_in};
 
 pub mod numbers;
 pub mod reader;
@@ -16,6 +17,45 @@ const PLAN_LENGTH: usize = 14;
 const BARE_LENGTH: usize = 6;
 
 const REPORTS_LENGTH: usize = 45;
+
+// Why a call refuses, by the numbers of document 01 and 02.
+#[derive(Clone, Copy, Debug, PartialEq, Eq)]
+pub enum Refusal {
+    Output = 1,
+    Blank = 2,
+    Unsound = 3,
+    Started = 4,
+    N = 5,
+    F = 6,
+    Id = 7,
+    Class = 8,
+    Kind = 9,
+    Length = 10,
+    Link = 11,
+    Sender = 12,
+    ViewZero = 13,
+    Report = 14,
+    Leader = 15,
+    Over = 16,
+    Kept = 17,
+    Timer = 18,
+    LastView = 19,
+    Line = 20,
+    ReportView = 21,
+    Previous = 22,
+    Name = 23,
+    Records = 24,
+    RemnantLength = 25,
+    RemnantUnsound = 26,
+}
+
+impl From<Refusal> for u8 {
+    ghost from_gives = { λ why number. number ≡ number_of why };
+
+    fn from(why: Refusal) -> u8 {
+        why as u8
+    }
+}
 
 // A report of one vote: mark 1 is present; mark 0 is absent, with view and plan 0.
 #[derive(Clone, Copy)]
@@ -61,23 +101,6 @@ pub struct Frame {
     pub body: Body,
 }
 
-// What reading finds: a frame, or the number of a refusal.
-#[derive(Clone, Copy)]
-pub enum Reading {
-    Accepted(Frame),
-    Refused(u8),
-}
-
-// The number of a refusal, 0 where the frame was accepted.
-pub fn refusal_of(r: Reading) -> u8
-    ensures { result ≡ refusal_of r }
-{
-    match r {
-        Reading::Accepted(_) => 0,
-        Reading::Refused(number) => number,
-    }
-}
-
 // The length of the frames of a kind, 0 where there is no such kind.
 pub fn length_of(kind: u8) -> usize
     ensures { result ≡ length_of kind }
@@ -90,37 +113,37 @@ pub fn length_of(kind: u8) -> usize
     }
 }
 
-// Refusals 9 and 10, of bytes alone; 0 where neither is given.
-pub fn form_refusal(s: &[u8]) -> u8
-    ensures { result ≡ first (form_rows s.now) }
+// Refusals 9 and 10, of bytes alone.
+pub fn form_refusal(s: &[u8]) -> Result<(), Refusal>
+    ensures { number_in result ≡ first (form_rows s.now) }
 {
     if s.len() == 0 {
-        return numbers::REFUSED_KIND;
+        return Err(Refusal::Kind);
     }
     let size = length_of(s[0]);
     if size == 0 {
-        return numbers::REFUSED_KIND;
+        return Err(Refusal::Kind);
     }
     if s.len() != size {
-        return numbers::REFUSED_LENGTH;
+        return Err(Refusal::Length);
     }
-    0
+    Ok(())
 }
 
-// Refusals 11 and 12, of the sender byte and the link; 0 where neither is given.
-pub fn link_refusal(sender: u8, link: u8, n: u8, own: u8) -> u8
-    ensures { result ≡ first (link_rows sender link n own) }
+// Refusals 11 and 12, of the sender byte and the link.
+pub fn link_refusal(sender: u8, link: u8, n: u8, own: u8) -> Result<(), Refusal>
+    ensures { number_in result ≡ first (link_rows sender link n own) }
 {
     if n <= link {
-        return numbers::REFUSED_LINK;
+        return Err(Refusal::Link);
     }
     if link == own {
-        return numbers::REFUSED_LINK;
+        return Err(Refusal::Link);
     }
     if sender != link {
-        return numbers::REFUSED_SENDER;
+        return Err(Refusal::Sender);
     }
-    0
+    Ok(())
 }
 
 // A report's form is bad: a mark that is neither 0 nor 1, or an absent report with a byte that is not 0.
@@ -202,22 +225,22 @@ pub fn any_too_high(view: u32, r: Reports) -> bool
 }
 
 // Refusals 14, 21 and 22 of three reports: all are tested for their form, then all for their view, then previous against highest.
-fn reports_refusal(view: u32, r: Reports) -> u8
-    ensures { result ≡ first (report_rows view (three_reports r)) }
+fn reports_refusal(view: u32, r: Reports) -> Result<(), Refusal>
+    ensures { number_in result ≡ first (report_rows view (three_reports r)) }
 {
     let form = any_bad_form(r);
     let high = any_too_high(view, r);
     let at_odds = bad_previous(r.highest, r.previous);
     if form {
-        return numbers::REFUSED_REPORT;
+        return Err(Refusal::Report);
     }
     if high {
-        return numbers::REFUSED_REPORT_VIEW;
+        return Err(Refusal::ReportView);
     }
     if at_odds {
-        return numbers::REFUSED_PREVIOUS;
+        return Err(Refusal::Previous);
     }
-    0
+    Ok(())
 }
 
 fn view_missing(kind: u8, view: u32) -> bool
@@ -229,17 +252,16 @@ fn view_missing(kind: u8, view: u32) -> bool
     }
 }
 
-// Refusals 13, 14, 21 and 22, of a frame alone; 0 where none is given.
-pub fn content_refusal(f: Frame) -> u8
-    ensures { result ≡ first (content_rows f) }
+// Refusals 13, 14, 21 and 22, of a frame alone.
+pub fn content_refusal(f: Frame) -> Result<(), Refusal>
+    ensures { number_in result ≡ first (content_rows f) }
 {
     if view_missing(f.kind, f.view) {
-        return numbers::REFUSED_VIEW_0;
+        return Err(Refusal::ViewZero);
     }
     let body = f.body;
     match body {
-        Body::Plan(_) => 0,
-        Body::Empty => 0,
+        Body::Plan(_) | Body::Empty => Ok(()),
         Body::Told(r) => reports_refusal(f.view, r),
     }
 }
@@ -255,25 +277,22 @@ fn led_wrong(kind: u8, sender: u8, view: u32, n: u8, own: u8) -> bool
     }
 }
 
-// Refusal 15, of a frame at vault own of n; 0 where it is not given.
-pub fn leader_refusal(f: Frame, n: u8, own: u8) -> u8
+// Refusal 15, of a frame at vault own of n.
+pub fn leader_refusal(f: Frame, n: u8, own: u8) -> Result<(), Refusal>
     requires { 0 < n }
-    ensures { result ≡ first (leader_rows f n own) }
+    ensures { number_in result ≡ first (leader_rows f n own) }
 {
     if led_wrong(f.kind, f.sender, f.view, n, own) {
-        return numbers::REFUSED_LEADER;
+        return Err(Refusal::Leader);
     }
-    0
+    Ok(())
 }
 
-// Refusals 13, 14, 21, 22 and 15, of a frame at vault own of n; 0 where none is given.
-pub fn frame_refusal(f: Frame, n: u8, own: u8) -> u8
+// Refusals 13, 14, 21, 22 and 15, of a frame at vault own of n.
+pub fn frame_refusal(f: Frame, n: u8, own: u8) -> Result<(), Refusal>
     requires { 0 < n }
-    ensures { result ≡ first (content_rows f ++ leader_rows f n own) }
+    ensures { number_in result ≡ first (content_rows f ++ leader_rows f n own) }
 {
-    let why = content_refusal(f);
-    if why != 0 {
-        return why;
-    }
+    content_refusal(f)?;
     leader_refusal(f, n, own)
 }

@@ -2,9 +2,9 @@
 ghost use Rattle.std.specs.Prelude.{◌≡◌, true, ◌+◌, ◌≤◌, length};
 ghost use Rattle.frame.specs.Format.{within, length_of, report_at, reports_at, body_as, decode};
 ghost use Rattle.frame.specs.inside.Reading.{Formed};
-ghost use Rattle.frame.specs.Refusal.{read_frame};
+ghost use Rattle.frame.specs.Refusal.{reading, read_frame};
 
-use crate::{Body, Frame, Reading, Report, Reports};
+use crate::{Body, Frame, Refusal, Report, Reports};
 
 fn report_at(s: &[u8], at: usize) -> Report
     requires { at + 13 ≤ length s.now }
@@ -61,22 +61,13 @@ pub fn parse(s: &[u8]) -> Frame
     }
 }
 
-// Reads the bytes that came over a link, at vault own of n: the frame, or the number of the refusal.
-pub fn read(s: &[u8], link: u8, n: u8, own: u8) -> Reading
-    ensures { result ≡ read_frame s.now link n own }
+// Reads the bytes that came over a link, at vault own of n: the frame, or why it is refused.
+pub fn read(s: &[u8], link: u8, n: u8, own: u8) -> Result<Frame, Refusal>
+    ensures { reading result ≡ read_frame s.now link n own }
 {
-    let malformed = crate::form_refusal(s);
-    if malformed != 0 {
-        return Reading::Refused(malformed);
-    }
-    let astray = crate::link_refusal(s[1], link, n, own);
-    if astray != 0 {
-        return Reading::Refused(astray);
-    }
+    crate::form_refusal(s)?;
+    crate::link_refusal(s[1], link, n, own)?;
     let f = parse(s);
-    let why = crate::frame_refusal(f, n, own);
-    if why != 0 {
-        return Reading::Refused(why);
-    }
-    Reading::Accepted(f)
+    crate::frame_refusal(f, n, own)?;
+    Ok(f)
 }

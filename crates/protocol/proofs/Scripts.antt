@@ -16,8 +16,7 @@ use Rattle.rules.specs.Sets.{Set, equals, size, total}
 use Rattle.rules.proofs.Bools.{both_split, clash}
 use Rattle.rules.proofs.Reports.{none≢some}
 use Rattle.frame.specs.declared.Frame.{Frame}
-use Rattle.frame.specs.declared.Reading.{Reading}
-use Rattle.frame.specs.declared.Reading.TheVariants.{Accepted, Refused}
+use Rattle.frame.specs.Refusal.{Reading, Accepted, Refused}
 use Rattle.frame.specs.Format.{encode}
 use Rattle.frame.specs.Refusal.{read_frame}
 use Rattle.frame.proofs.Theorems.{encoded_bytes}

@@ -8,7 +8,7 @@ use Rattle.rules.specs.Rules.{Report, reach}
 use Rattle.rules.specs.Sentences.{Says}
 use Rattle.frame.specs.declared.Reports.{Reports}
 use Rattle.frame.specs.declared.Frame.{Frame}
-use Rattle.frame.specs.declared.Reading.TheVariants.{Accepted}
+use Rattle.frame.specs.Refusal.{Reading, Accepted}
 use Rattle.frame.specs.Format.{three_reports, reports_at, encode}
 use Rattle.frame.specs.Refusal.{first, bad_previous_of, read_frame}
 use Rattle.sound.specs.declared.Lent.TheVariants as lent

@@ -18,8 +18,7 @@ use Rattle.rules.specs.Sets.{Vaults}
 use Rattle.rules.proofs.Reports.{none≢some}
 use Rattle.wire.specs.Placed.{placed}
 use Rattle.frame.specs.declared.Frame.{Frame}
-use Rattle.frame.specs.declared.Reading.{Reading}
-use Rattle.frame.specs.declared.Reading.TheVariants.{Accepted, Refused}
+use Rattle.frame.specs.Refusal.{Reading, Accepted, Refused}
 use Rattle.frame.specs.Format.{decode, encode}
 use Rattle.frame.specs.Valid.{Valid}
 use Rattle.frame.specs.Refusal.{read_frame}

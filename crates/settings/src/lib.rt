@@ -2,10 +2,10 @@
 #![tactic(auto)]
 
 ghost use Rattle.std.specs.Prelude.{◌≡◌, ◌*◌};
-ghost use Rattle.frame.specs.Refusal.{first};
+ghost use Rattle.frame.specs.Refusal.{first, number_in};
 ghost use Rattle.settings.specs.Settings.{setting_rows, delay_of};
 
-use frame::numbers;
+use frame::Refusal;
 
 // 'n, f, id, class': how many vaults there are, how many of them may break the rules, the vault's own number, its link class.
 #[derive(Clone, Copy)]
@@ -19,29 +19,29 @@ pub struct Settings {
 // The delay in milliseconds of each link class, 0 to 7.
 const DELAYS: [u32; 8] = [20, 50, 100, 200, 500, 1000, 2000, 5000];
 
-// Refusals 5 to 8 of settings, in their order; 0 where none is given.
-pub fn settings_refusal(s: Settings) -> u8
-    ensures { result ≡ first (setting_rows s) }
+// Refusals 5 to 8 of settings, in their order.
+pub fn settings_refusal(s: Settings) -> Result<(), Refusal>
+    ensures { number_in result ≡ first (setting_rows s) }
 {
     if s.n < 4 {
-        return numbers::REFUSED_N;
+        return Err(Refusal::N);
     }
     if 64 < s.n {
-        return numbers::REFUSED_N;
+        return Err(Refusal::N);
     }
     if s.f == 0 {
-        return numbers::REFUSED_F;
+        return Err(Refusal::F);
     }
     if (s.n as u32) <= 3 * (s.f as u32) {
-        return numbers::REFUSED_F;
+        return Err(Refusal::F);
     }
     if s.n <= s.id {
-        return numbers::REFUSED_ID;
+        return Err(Refusal::Id);
     }
     if 7 < s.class {
-        return numbers::REFUSED_CLASS;
+        return Err(Refusal::Class);
     }
-    0
+    Ok(())
 }
 
 // The delay of a link class; 0 for a class above 7, which refusal 8 keeps out of every record.

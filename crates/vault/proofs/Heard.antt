@@ -15,8 +15,7 @@ use Rattle.rules.proofs.Bools.{which}
 use Rattle.rules.specs.Options.{holds}
 use Rattle.wire.specs.Fields.{Bytes}
 use Rattle.frame.specs.declared.Frame.{Frame}
-use Rattle.frame.specs.declared.Reading.{Reading}
-use Rattle.frame.specs.declared.Reading.TheVariants.{Accepted, Refused}
+use Rattle.frame.specs.Refusal.{Reading, Accepted, Refused}
 use Rattle.frame.specs.Valid.{fits}
 use Rattle.frame.specs.Refusal.{first, present, link_rows, read_frame}
 use Rattle.frame.specs.inside.Reading.{refusal_of}

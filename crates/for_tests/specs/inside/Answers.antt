@@ -4,8 +4,7 @@ use Rattle.std.specs.Prelude.{ℕ, ◌+◌, Bool, cond, not, ◌&&◌, List, [],
 use Rattle.std.proofs.Math.Option.{Option, none, some}
 use Rattle.wire.specs.Placed.{placed}
 use Rattle.frame.specs.declared.Frame.{Frame}
-use Rattle.frame.specs.declared.Reading.{Reading}
-use Rattle.frame.specs.declared.Reading.TheVariants.{Accepted, Refused}
+use Rattle.frame.specs.Refusal.{Reading, Accepted, Refused}
 use Rattle.frame.specs.Refusal.{read_frame}
 use Rattle.entry.specs.declared.Entry.{Entry}
 use Rattle.entry.specs.declared.Entry.TheVariants.{ForAll, Timer, Decision}

@@ -3,8 +3,6 @@
 use Rattle.std.specs.Prelude.{ℕ, ◌≡◌, true, List, length, get_or}
 use Rattle.frame.specs.Format.{within, length_of}
 use Rattle.frame.specs.declared.Report.{Report}
-use Rattle.frame.specs.declared.Reading.{Reading}
-use Rattle.frame.specs.declared.Reading.TheVariants.{Accepted, Refused}
 
 -- Bytes of a known kind, as many as the table's column 'Length' has for it.
 pub record Formed (s : List ℕ) : Type 0 where
@@ -14,8 +12,3 @@ pub record Formed (s : List ℕ) : Type 0 where
 -- 'A mark (1 present, 0 absent)': the report of a vote for a plan at a view.
 abbrev pub present_at : ℕ → ℕ → Report
 present_at view plan = record { mark = 1; view = view; plan = plan }
-
--- The number of a refusal, 0 where the frame was accepted.
-abbrev pub refusal_of : Reading → ℕ
-refusal_of (Accepted f) = 0
-refusal_of (Refused number) = number
