@@ -6,14 +6,13 @@
 use mathlib.Core.Path.{◌≡◌, refl, ap, ◌∙◌}
 use mathlib.Core.List.{List, [], ◌∷◌, ◌++◌, append_assoc, append-nil}
 use Prim.Native.Nat.{ℕ, zero, suc, ◌+◌, ◌*◌, ◌/◌, ◌%◌, ◌^◌, ◌<◌, ◌≤◌}
-use native.Mathlib.Nat.{add-zero, add_assoc, pow-suc, pow-zero, div-add-mod', div-lt_iff_lt-mul, pow-le-pow_right}
+use native.Mathlib.Nat.{add-zero, pow-suc, pow-zero, div-add-mod', div-lt_iff_lt-mul, pow-le-pow_right}
 use native.Mathlib.Numerals.{add-one}
 use native.Mathlib.Omega.{arith}
 use lib.ListN.{length, get_or, take, drop, length-append, length-drop}
 use lib.Arith.{digits_div, digits_mod}
 use lib.Seq.{get_or_at, take-add, take-suc, drop-drop, get_or-drop, take_all}
 use Rattle.wire.specs.Digits.{number_at, digits}
-use Rattle.wire.specs.inside.Reversed.{Reversed}
 use Rattle.wire.specs.Fields.{Field, field, spell, Sized, Bytes}
 use Rattle.wire.specs.inside.Widths.{widths, total_width, fields_at}
 
@@ -124,32 +123,3 @@ bytes_digits (suc w) n i = bytes_append (digits w (n / 256)) (n % 256 ∷ []) (b
 pub bytes_spell : (fs : List Field) → Bytes (spell fs)
 bytes_spell [] i = omega arith
 bytes_spell (field w v ∷ fs) i = bytes_append (digits w v) (spell fs) (bytes_digits w v) (bytes_spell fs) i
-
--- ---- read from the other end
-
--- four bytes to the base 256
-four : (s : List ℕ) (at : ℕ)
-    → number_at 4 s at ≡ get_or s at 0 * 16777216 + get_or s (at + 1) 0 * 65536 + get_or s (at + 2) 0 * 256 + get_or s (at + 3) 0
-unfolding number_at
-four s at = rw add-zero (omega arith)
-
--- four bytes read from the other end and turned round
-pub turned : (x : ℕ) (s : List ℕ) (at : ℕ) → Reversed x s at
-    → x % 256 * 16777216 + x / 256 % 256 * 65536 + x / 65536 % 256 * 256 + x / 16777216 ≡ number_at 4 s at
-turned x s at h =
-    let a : x % 256 ≡ get_or s at 0 = omega arith in
-    let q : x / 256 ≡ get_or s (at + 1) 0 + get_or s (at + 2) 0 * 256 + get_or s (at + 3) 0 * 65536 = omega arith in
-    let b : x / 256 % 256 ≡ get_or s (at + 1) 0 = rw q (omega arith) in
-    let r : x / 65536 ≡ get_or s (at + 2) 0 + get_or s (at + 3) 0 * 256 = omega arith in
-    let c : x / 65536 % 256 ≡ get_or s (at + 2) 0 = rw r (omega arith) in
-    let d : x / 16777216 ≡ get_or s (at + 3) 0 = omega arith in
-    rw (a, b, c, d) (omega (arith, four s at))
-
--- eight bytes are four and four
-pub number_halves : (s : List ℕ) (at : ℕ) → number_at 8 s at ≡ number_at 4 s at * 4294967296 + number_at 4 s (at + 4)
-unfolding number_at
-number_halves s at =
-    omega (arith, at₄ 0, at₄ 1, at₄ 2, at₄ 3)
-  where
-    at₄ : (j : ℕ) → get_or s (at + 4 + j) 0 ≡ get_or s (at + (4 + j)) 0
-    at₄ j = ap (λ (n : ℕ). get_or s n 0) (add_assoc at 4 j)

@@ -1,3 +1,2 @@
 -- What inner functions promise each other, and what proofs go by. Nothing in these files has to be believed.
-pub mod Reversed
 pub mod Widths

@@ -1,9 +1,10 @@
--- `wire::number32` meets its contract. 'a view (4 bytes)' (01, Frames): four bytes read from the other end, and turned round.
+-- `wire::number32` meets its contract. The library's sum of bytes by their worth is the number that they spell.
 -- Assumes nothing.
-use Rattle.wire.proofs.Laws.{turned}
+use native.Mathlib.Nat.{add-zero}
+use native.Mathlib.Omega.{arith}
+use Rattle.wire.specs.Digits.{number_at}
 use Rattle.wire.proofs.number32.Goals as goal
 
 pub returns : goal.returns
-returns c =
-    let a = c.args in
-    turned c.reversed-x.result a.s.now a.at c.reversed-x.ensures
+unfolding number_at
+returns c = rw add-zero (omega arith)

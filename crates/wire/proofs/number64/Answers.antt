@@ -1,10 +1,10 @@
--- `wire::number64` meets its contract. 'a plan (8)' (01, Frames): four bytes and four.
+-- `wire::number64` meets its contract. The library's sum of bytes by their worth is the number that they spell.
 -- Assumes nothing.
+use native.Mathlib.Nat.{add-zero}
 use native.Mathlib.Omega.{arith}
-use Rattle.wire.proofs.Laws.{number_halves}
+use Rattle.wire.specs.Digits.{number_at}
 use Rattle.wire.proofs.number64.Goals as goal
 
 pub returns : goal.returns
-returns c =
-    let a = c.args in
-    omega (arith, number_halves a.s.now a.at)
+unfolding number_at
+returns c = rw add-zero (omega arith)
