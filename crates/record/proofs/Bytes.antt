@@ -4,14 +4,13 @@
 use Prim.Native.Nat.{ℕ, zero, suc, ◌+◌, ◌*◌, ◌^◌, ◌≤◌, ◌<◌}
 use mathlib.Core.Path.{◌≡◌, refl, ap, sym, ◌∙◌}
 use mathlib.Core.Bool.{Bool, true, false}
-use mathlib.Core.List.{List, [], ◌∷◌, ◌++◌, append-nil}
+use mathlib.Core.List.{List, [], ◌∷◌, ◌++◌}
 use native.Mathlib.Nat.{add_assoc}
-use native.Mathlib.Numerals.{add-one}
 use native.Mathlib.Omega.{arith}
 use lib.Dec.{ltb}
 use borrow.Author.Tests.{ltb-true, ltb-false}
-use lib.ListN.{length, get_or, take, drop, set, replicate, length-replicate, get_or-replicate, replicate-append-replicate, drop_of_length-le, get_or-eq_default}
-use lib.Seq.{sets, get_or-set_other, get_or-take, get_or-drop, length-take-le, drop-cons, set_at, append_snoc}
+use lib.ListN.{length, get_or, take, drop, set, replicate, length-replicate, get_or-replicate, get_or-eq_default}
+use lib.Seq.{sets, get_or-set_other, get_or-take, get_or-drop, length-take-le}
 use Rattle.wire.specs.Digits.{number_at, digits}
 use Rattle.wire.specs.Placed.{placed}
 use Rattle.wire.proofs.Laws.{number_digits}
@@ -75,24 +74,7 @@ number_part (suc w) a k s j h =
     byte_part a k s (j + w) (omega arith) ∙ ap (λ (x : ℕ). get_or s x 0) (sym (add_assoc a j w)) in
     λ i. e i * 256 + g i
 
--- ---- bytes set to 0 one after the other
-
--- the bytes with the first i set to 0: what the loop that clears them has done so far
-abbrev pub cleared : List ℕ → ℕ → List ℕ
-cleared s i = replicate i 0 ++ drop i s
-
--- one byte more, one turn of that loop
-pub clear_step : (s : List ℕ) (i : ℕ) → i < length s → set (cleared s i) i 0 ≡ cleared s (i + 1)
-clear_step s i h =
-    rw (drop-cons s i 0 h, set_at (replicate i 0) (get_or s i 0) (drop (suc i) s) 0 i (length-replicate i 0), add-one)
-    (sym (append_snoc (replicate i 0) 0 (drop (suc i) s)) ∙ ap (λ (l : List ℕ). l ++ drop (suc i) s) more)
-  where
-    more : ◌≡◌ {A = List ℕ} (replicate i 0 ++ (0 ∷ [])) (replicate (suc i) 0)
-    more = replicate-append-replicate i 1 0 ∙ ap (λ (k : ℕ). replicate k 0) (add-one i)
-
--- at the end all are 0
-pub clear_done : (s : List ℕ) (i : ℕ) → i ≡ length s → cleared s i ≡ replicate (length s) 0
-clear_done s i e = rw (e, drop_of_length-le s {i = length s} (omega arith), append-nil)
+-- ---- zeros
 
 -- zeros, also behind the last
 pub zeros_at : (n k : ℕ) → ◌≡◌ {A = ℕ} (get_or (replicate n 0) k 0) 0

@@ -177,21 +177,12 @@ pub fn put_view(rec: &mut [u8], view: u32)
     wire::put(rec, VIEW, 4, view as u64);
 }
 
-// Every byte becomes 0.
-fn clear(rec: &mut [u8])
-    ensures { rec.new ≡ replicate (length rec.old) 0 }
-{
-    for i in 0..rec.len() {
-        rec[i] = 0;
-    }
-}
-
 // The record that start enters view 0 with: no kept frames, no previous votes, no decision.
 pub fn put_fresh(rec: &mut [u8], set: Settings, plan: u64)
     requires { length rec.old ≡ record_size }
     ensures { HoldsRecord rec.new (fresh_slots set plan) }
 {
-    clear(rec);
+    rec.fill(0);
     rec[0] = set.n;
     rec[1] = set.f;
     rec[2] = set.id;

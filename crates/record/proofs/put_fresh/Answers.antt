@@ -14,20 +14,20 @@ use Rattle.record.proofs.put_fresh.Goals as goal
 
 pub bounds-rec-3 : goal.bounds-rec-3
 bounds-rec-3 c =
-    let l : 3 < length c.clear.new.rec = omega (arith, c.clear.auto.rec) in
+    let l : 3 < length c.fill.new.self = omega (arith, c.fill.ensures.len) in
     simp length-set l
 
 pub put-requires : goal.put-requires
-put-requires c = simp length-set (omega (arith, c.clear.auto.rec))
+put-requires c = simp length-set (omega (arith, c.fill.ensures.len))
 
 pub shape_of-rec : goal.shape_of-rec
 shape_of-rec c =
-    c.put.auto.out ∙ simp length-set c.clear.auto.rec
+    c.put.auto.out ∙ simp length-set c.fill.ensures.len
 
 pub returns : goal.returns
 returns c =
-    let z = c.clear.new.rec in
+    let z = c.fill.new.self in
     let zeros : (k : ℕ) → get_or z k 0 ≡ 0 =
-    λ (k : ℕ). ap (λ (l : List ℕ). get_or l k 0) c.clear.ensures ∙ zeros_at (length c.args.rec.now) k in
+    λ (k : ℕ). ap (λ (l : List ℕ). get_or l k 0) (c.fill.ensures.after (λ y same. same)) ∙ zeros_at (length c.args.rec.now) k in
     subst (λ (l : List ℕ). HoldsRecord l (fresh_slots c.args.set c.args.plan)) (sym c.put.ensures)
-    (holds_fresh z c.args.set c.args.plan (c.clear.auto.rec ∙ c.requires) zeros (search rules))
+    (holds_fresh z c.args.set c.args.plan (c.fill.ensures.len ∙ c.requires) zeros (search rules))
