@@ -1,7 +1,7 @@
 // Keeping frames where the record's bytes lie: the refusals against the record, and frames put into the rows of their senders.
 ghost use Rattle.std.specs.Prelude.{◌≡◌, true, ◌≤◌, ◌<◌, length};
 ghost use Rattle.frame.specs.Valid.{fits};
-ghost use Rattle.frame.specs.Refusal.{first};
+ghost use Rattle.frame.specs.Refusal.{first, number_in};
 ghost use Rattle.record.specs.Slots.{rows, slot_of};
 ghost use Rattle.record.specs.inside.Slots.{RowPlace};
 ghost use Rattle.record.specs.Size.{record_size};
@@ -11,7 +11,7 @@ ghost use Rattle.record.specs.Kept.{plan_of};
 ghost use Rattle.record.specs.inside.Kept.{with_reports, told, keep_frame};
 ghost use Rattle.record.specs.inside.Keeping.{stale, outdone, keep_rows};
 
-use frame::{Body, Frame, Report, Reports, numbers};
+use frame::{Body, Frame, Refusal, Report, Reports, numbers};
 
 fn is_stale(current: u32, kind: u8, view: u32) -> bool
     ensures { result ≡ stale current kind view }
@@ -34,19 +34,25 @@ fn is_outdone(slot: Report, view: u32) -> bool
     view <= slot.view
 }
 
-// Refusals 16 and 17, of a frame's sender, kind and view against the record; 0 where neither is given.
-pub fn keep_refusal(rec: &[u8], current: u32, sender: u8, kind: u8, view: u32) -> u8
+// Refusals 16 and 17, of a frame's sender, kind and view against the record.
+pub fn keep_refusal(
+    rec: &[u8],
+    current: u32,
+    sender: u8,
+    kind: u8,
+    view: u32,
+) -> Result<(), Refusal>
     requires { RowPlace kind sender × (length rec.now ≡ record_size) }
-    ensures { result ≡ first (keep_rows (slot_of (decode_record rec.now)) current sender kind view) }
+    ensures { number_in result ≡ first (keep_rows (slot_of (decode_record rec.now)) current sender kind view) }
 {
     if is_stale(current, kind, view) {
-        return numbers::REFUSED_OVER;
+        return Err(Refusal::Over);
     }
     let at = crate::frame_slot(kind, sender);
     if is_outdone(crate::slot_of(rec, at), view) {
-        return numbers::REFUSED_KEPT;
+        return Err(Refusal::Kept);
     }
-    0
+    Ok(())
 }
 
 // Puts three reports into the places of a kind and a sender.
