@@ -10,10 +10,9 @@ ghost use Rattle.equivocation.specs.Named.{rising};
 ghost use Rattle.equivocation.specs.Call.{unlike, misfit, equivocators_left};
 ghost use Rattle.equivocation.specs.inside.Records.{read_in, Holds, size_fits, fits, fits_at, slots_differ, clashes_before, clashing, twice_in, whom, Put};
 
-use frame::{Report, numbers};
+use frame::{Refusal, Report, numbers};
 use settings::Settings;
 use sound::Lent;
-use vault::Answer;
 
 // The output space that every call asks for.
 const ROOM: usize = 256;
@@ -207,16 +206,15 @@ fn collected(records: &[u8], lengths: &[u32]) -> bool
 // ---- the call
 
 // Names the vaults that spoke twice in records that lie end to end, each of the length that is told.
-pub fn equivocators(records: &[u8], lengths: &[u32], out: &mut [u8]) -> Answer
+pub fn equivocators(records: &[u8], lengths: &[u32], out: &mut [u8]) -> Result<usize, Refusal>
     ensures { left_by result records.now out.new ≡ equivocators_left records.now lengths.now out.old }
 {
     if out.len() < ROOM {
-        return Answer::Refused(numbers::REFUSED_OUTPUT);
+        return Err(Refusal::Output);
     }
     if !collected(records, lengths) {
-        return Answer::Refused(numbers::REFUSED_RECORDS);
+        return Err(Refusal::Records);
     }
     let set = first_settings(records);
-    let count = name_all(records, lengths.len(), set.n, out);
-    Answer::Written(count)
+    Ok(name_all(records, lengths.len(), set.n, out))
 }

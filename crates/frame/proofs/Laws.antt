@@ -4,20 +4,22 @@
 -- Assumes nothing.
 use Prim.Native.Nat.{ℕ, ◌≤◌, ◌<◌}
 use mathlib.Core.Path.{◌≡◌, refl, sym, ◌∙◌}
-use mathlib.Core.Bool.{Bool, true, false, not, ◌&&◌, ◌||◌, cond, or-false}
+use mathlib.Core.Bool.{Bool, true, false, not, ◌&&◌, ◌||◌, cond, or-false, true≢false}
 use mathlib.Core.List.{List, [], ◌∷◌, ◌++◌}
 use native.Mathlib.Omega.{arith}
 use native.Mathlib.Decide.{dec_le}
 use borrow.Author.Tests.{eq-eqb, ne_eqb, lt-ltb, le-ltb, le-leb, lt-leb, leb-true, eqb-true, not-false}
 use lib.Dec.{leb, eqb}
 use lib.ListN.{length, get_or}
+use Rattle.std.specs.Prelude.{Result, Ok, Err}
+use Rattle.std.specs.Result.{is_err}
 use Rattle.wire.specs.Digits.{number_at}
 use Rattle.frame.specs.declared.Body.TheVariants.{Plan, Empty, Told}
 use Rattle.frame.specs.Format.{within, length_of, reports_at, body_as}
 use Rattle.frame.specs.inside.Reading.{Formed}
 use Rattle.frame.specs.declared.Refusal.{Refusal}
 use Rattle.frame.specs.declared.Refusal.TheVariants as why
-use Rattle.frame.specs.Refusal.{Row, row, first, form_rows, number_of}
+use Rattle.frame.specs.Refusal.{Row, row, first, form_rows, number_of, number_in}
 
 -- what is known of two numbers, said of the tests on them: `search tests` decides a table's row from the branches on the way
 pub ruleset tests = (eq-eqb, ne_eqb, lt-ltb, le-ltb, le-leb, lt-leb, or-false)
@@ -214,3 +216,13 @@ numbered why.Name e = absurd (omega arith)
 numbered why.Records e = absurd (omega arith)
 numbered why.RemnantLength e = absurd (omega arith)
 numbered why.RemnantUnsound e = absurd (omega arith)
+
+-- A test that answers an error refuses: its table gives a number.
+pub refuses : (answer : Result Unit Refusal) {k : ℕ} → is_err answer ≡ true → number_in answer ≡ k → k ≡ 0 → ⊥
+refuses (Ok x) e table z = absurd (true≢false (sym e))
+refuses (Err why) e table z = numbered why (table ∙ z)
+
+-- One that answers none passes: its table gives 0.
+pub passes : (answer : Result Unit Refusal) {k : ℕ} → is_err answer ≡ false → number_in answer ≡ k → k ≡ 0
+passes (Ok x) e table = sym table
+passes (Err why) e table = absurd (true≢false e)

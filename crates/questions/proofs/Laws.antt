@@ -13,8 +13,9 @@ use Rattle.sound.specs.declared.Lent.{Lent}
 use Rattle.sound.specs.inside.Sound.{lent_is}
 use Rattle.protocol.specs.Record.{reported}
 use Rattle.contents.specs.Contents.{contents, contents_in}
-use Rattle.questions.specs.declared.Current.TheVariants as current
-use Rattle.questions.specs.declared.Decision.TheVariants as decision
+use Rattle.std.specs.Prelude.{Option, Some, None}
+use Rattle.questions.specs.declared.Current.{Current}
+use Rattle.questions.specs.declared.Decision.{Decision}
 use Rattle.questions.specs.Stored.{entered_by, current_by, current_of, made_by, decision_by, decision_of}
 
 -- What the bytes are decides which answer is given.
@@ -28,23 +29,23 @@ unfolding decision_of
 decision_is rec l e = ap (λ (k : Lent). decision_by k (contents_in rec)) (sym e)
 
 -- The contents' view and class are those of the bytes.
-pub entered_is : (rec : List ℕ) (set : Settings) (view millis : ℕ) → set ≡ (decode_record rec).set → view ≡ (decode_record rec).view
-    → millis ≡ 9 * delay_of set.class → current.Entered view millis ≡ entered_by (contents_in rec)
+pub entered_is : (rec : List ℕ) (set : Settings) (c : Current) → set ≡ (decode_record rec).set → c.view ≡ (decode_record rec).view
+    → c.millis ≡ 9 * delay_of set.class → c ≡ entered_by (contents_in rec)
 unfolding contents
-entered_is rec set view millis s v m = λ i. current.Entered (v i) ((m ∙ ap (λ (t : Settings). 9 * delay_of t.class) s) i)
+entered_is rec set c s v m = λ i. record { view = v i; millis = (m ∙ ap (λ (t : Settings). 9 * delay_of t.class) s) i }
 
 -- The decision is what the decision slot reports.
 pub none_made : (rec : List ℕ) (slot : Report) → slot ≡ (decode_record rec).slots decision_slot → (slot.mark ≡ 1 → ⊥)
-    → decision.Open ≡ made_by (contents_in rec).decision
+    → None ≡ made_by (contents_in rec).decision
 unfolding contents
 none_made rec slot e h =
-    let none_reported : decision.Open ≡ made_by (reported slot) = rw (ne_eqb slot.mark 1 h) refl in
+    let none_reported : None ≡ made_by (reported slot) = rw (ne_eqb slot.mark 1 h) refl in
     none_reported ∙ ap (λ (x : Report). made_by (reported x)) e
 
 -- A marked slot is a decision made, in its view and for its plan.
 pub one_made : (rec : List ℕ) (slot : Report) → slot ≡ (decode_record rec).slots decision_slot → slot.mark ≡ 1
-    → decision.Made slot.view slot.plan ≡ made_by (contents_in rec).decision
+    → Some (record { view = slot.view; plan = slot.plan }) ≡ made_by (contents_in rec).decision
 unfolding contents
 one_made rec slot e h =
-    let one_reported : decision.Made slot.view slot.plan ≡ made_by (reported slot) = rw (eq-eqb slot.mark 1 h) refl in
+    let one_reported : Some (record { view = slot.view; plan = slot.plan }) ≡ made_by (reported slot) = rw (eq-eqb slot.mark 1 h) refl in
     one_reported ∙ ap (λ (x : Report). made_by (reported x)) e

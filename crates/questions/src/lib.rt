@@ -9,22 +9,20 @@ ghost use Rattle.contents.specs.Contents.{contents_in};
 ghost use Rattle.questions.specs.Stored.{entered_by, current_of, made_by, decision_of};
 ghost use Rattle.questions.specs.Texts.{sentence_of, fitting, Written};
 
-use frame::numbers;
-use sound::Lent;
+use frame::{Refusal, numbers};
 
-// The view that a record is in, and the milliseconds of its timer; or the number of a refusal.
-#[derive(Clone, Copy)]
-pub enum Current {
-    Entered { view: u32, millis: u32 },
-    Refused(u8),
+// The view that a record is in, and the milliseconds of its timer.
+#[derive(Clone, Copy, Debug, PartialEq, Eq)]
+pub struct Current {
+    pub view: u32,
+    pub millis: u32,
 }
 
-// What a record has decided, and in which view; or that it has not yet; or the number of a refusal.
-#[derive(Clone, Copy)]
-pub enum Decision {
-    Made { view: u32, plan: u64 },
-    Open,
-    Refused(u8),
+// What a record has decided, and in which view.
+#[derive(Clone, Copy, Debug, PartialEq, Eq)]
+pub struct Decision {
+    pub view: u32,
+    pub plan: u64,
 }
 
 // The view of a sound record, and the timer of its link class.
@@ -33,49 +31,41 @@ fn entered(rec: &[u8]) -> Current
     ensures { result ≡ entered_by (contents_in rec.now) }
 {
     let set = record::settings_of(rec);
-    Current::Entered {
+    Current {
         view: record::view_of(rec),
         millis: settings::timer_millis(set.class),
     }
 }
 
 // The current view of lent bytes: any bytes, of any length.
-pub fn current_of(rec: &[u8]) -> Current
+pub fn current_of(rec: &[u8]) -> Result<Current, Refusal>
     ensures { result ≡ current_of rec.now }
 {
-    let lent = sound::classify(rec);
-    match lent {
-        Lent::Blank => Current::Refused(numbers::REFUSED_BLANK),
-        Lent::Unsound => Current::Refused(numbers::REFUSED_UNSOUND),
-        Lent::Sound => entered(rec),
-    }
+    sound::lent_refusal(rec)?;
+    Ok(entered(rec))
 }
 
-// The decision slot of a sound record.
-fn made(rec: &[u8]) -> Decision
+// The decision slot of a sound record: the decision, or none yet.
+fn made(rec: &[u8]) -> Option<Decision>
     requires { lent_is rec.now ≡ Sound }
     ensures { result ≡ made_by (contents_in rec.now).decision }
 {
     let slot = record::slot_of(rec, record::DECISION);
     if slot.mark != numbers::PRESENT {
-        return Decision::Open;
+        return None;
     }
-    Decision::Made {
+    Some(Decision {
         view: slot.view,
         plan: slot.plan,
-    }
+    })
 }
 
 // The decision of lent bytes: any bytes, of any length.
-pub fn decision_of(rec: &[u8]) -> Decision
+pub fn decision_of(rec: &[u8]) -> Result<Option<Decision>, Refusal>
     ensures { result ≡ decision_of rec.now }
 {
-    let lent = sound::classify(rec);
-    match lent {
-        Lent::Blank => Decision::Refused(numbers::REFUSED_BLANK),
-        Lent::Unsound => Decision::Refused(numbers::REFUSED_UNSOUND),
-        Lent::Sound => made(rec),
-    }
+    sound::lent_refusal(rec)?;
+    Ok(made(rec))
 }
 
 // ---- sentences

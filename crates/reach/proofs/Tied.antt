@@ -6,7 +6,6 @@ use mathlib.Core.Path.{◌≡◌}
 use mathlib.Core.List.{List}
 use contract.Lifetimes.{Lfts}
 use denote.Ref.{Bor}
-use Rattle.reach.specs.declared.Reach.{Reach}
 use Rattle.reach.specs.Call.{claim_reach}
 use Rattle.reach.proofs.claim_reach.Reads as of_reach
 

@@ -1,12 +1,11 @@
 -- How high a claim reaches (document 02, wish 7): the answer for the 39 bytes of a suggest or proof, and a plan.
 -- Assumes nothing.
-use Rattle.std.specs.Prelude.{ℕ, zero, suc, not, ◌&&◌, cond, List, [], ◌∷◌, eqb, length}
+use Rattle.std.specs.Prelude.{Result, Ok, Err, ℕ, zero, suc, not, ◌&&◌, cond, List, [], ◌∷◌, eqb, length}
 use Rattle.frame.specs.declared.Report.{Report}
 use Rattle.frame.specs.declared.Reports.{Reports}
 use Rattle.frame.specs.Format.{three_reports, reports_at}
-use Rattle.frame.specs.Refusal.{Row, row, first, present, report_form_row, previous_row}
-use Rattle.reach.specs.declared.Reach.{Reach}
-use Rattle.reach.specs.declared.Reach.TheVariants.{View, Refused}
+use Rattle.frame.specs.declared.Refusal.{Refusal}
+use Rattle.frame.specs.Refusal.{number_of, Row, row, first, present, report_form_row, previous_row}
 
 -- 'then 14 and 22', of all three reports. 21 is not asked, as there is no frame's view.
 abbrev pub told_rows : List Report → List Row
@@ -21,6 +20,16 @@ unfoldable pub said_reach : Reports → ℕ → ℕ
 said_reach t p =
     cond (present t.highest && eqb t.highest.plan p) t.highest.view
     (cond (present t.previous) t.previous.view 0)
+
+-- The highest view at which a plan is claimed, or the number of a refusal.
+pub data Reach : Type 0 where
+  View : ℕ → Reach
+  Refused : ℕ → Reach
+
+-- What a call's answer says.
+abbrev pub reached : Result ℕ Refusal → Reach
+reached (Ok view) = View view
+reached (Err why) = Refused (number_of why)
 
 -- A refusal's number, or where there is none the view.
 abbrev pub answered : ℕ → ℕ → Reach

@@ -15,7 +15,7 @@ use Rattle.sound.specs.declared.Lent.TheVariants as lent
 use Rattle.sound.specs.inside.Sound.{lent_is}
 use Rattle.protocol.specs.Record.{reported, report_by}
 use Rattle.contents.specs.Contents.{contents_in}
-use Rattle.reach.specs.declared.Reach.TheVariants.{View}
+use Rattle.reach.specs.Call.{Reach, View}
 use Rattle.reach.specs.Call.{told_rows, said_reach, claim_reach}
 
 -- The three votes that a suggest or a proof tells.

@@ -3,37 +3,30 @@
 
 ghost use Rattle.std.specs.Prelude.{◌≡◌};
 ghost use Rattle.frame.specs.Format.{three_reports};
-ghost use Rattle.frame.specs.Refusal.{first};
-ghost use Rattle.reach.specs.Call.{told_rows, said_reach, claim_reach};
+ghost use Rattle.frame.specs.Refusal.{first, number_in};
+ghost use Rattle.reach.specs.Call.{told_rows, said_reach, reached, claim_reach};
 
 use claims::Vote;
-use frame::{Reports, numbers};
+use frame::{Refusal, Reports};
 
 // The bytes of three reports.
 const LENGTH: usize = 39;
 
-// The highest view at which a plan is claimed; or the number of a refusal.
-#[derive(Clone, Copy)]
-pub enum Reach {
-    View(u32),
-    Refused(u8),
-}
-
-// Refusals 14 and 22, of reports alone; 0 where neither is given. 21 is not tested, as there is no frame's view.
-fn content_refusal(told: Reports) -> u8
-    ensures { result ≡ first (told_rows (three_reports told)) }
+// Refusals 14 and 22, of reports alone. 21 is not tested, as there is no frame's view.
+fn content_refusal(told: Reports) -> Result<(), Refusal>
+    ensures { number_in result ≡ first (told_rows (three_reports told)) }
 {
     let highest = told.highest;
     let previous = told.previous;
     let form = frame::any_bad_form(told);
     let at_odds = frame::bad_previous(highest, previous);
     if form {
-        return numbers::REFUSED_REPORT;
+        return Err(Refusal::Report);
     }
     if at_odds {
-        return numbers::REFUSED_PREVIOUS;
+        return Err(Refusal::Previous);
     }
-    0
+    Ok(())
 }
 
 // How high the claim of reports that are not refused reaches. A report that is absent has view 0.
@@ -53,16 +46,13 @@ fn highest_claim(told: Reports, plan: u64) -> u32
 }
 
 // The highest view at which the 39 bytes of a suggest or proof behind its view claim a plan.
-pub fn claim_reach(reports: &[u8], plan: u64) -> Reach
-    ensures { result ≡ claim_reach reports.now plan }
+pub fn claim_reach(reports: &[u8], plan: u64) -> Result<u32, Refusal>
+    ensures { reached result ≡ claim_reach reports.now plan }
 {
     if reports.len() != LENGTH {
-        return Reach::Refused(numbers::REFUSED_LENGTH);
+        return Err(Refusal::Length);
     }
     let told = frame::reader::reports_at(reports, 0);
-    let why = content_refusal(told);
-    if why != 0 {
-        return Reach::Refused(why);
-    }
-    Reach::View(highest_claim(told, plan))
+    content_refusal(told)?;
+    Ok(highest_claim(told, plan))
 }

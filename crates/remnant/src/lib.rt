@@ -5,6 +5,7 @@
 mod row;
 
 ghost use Rattle.std.specs.Prelude.{◌≡◌, ◌≤◌, length};
+ghost use Rattle.frame.specs.Refusal.{number_in};
 ghost use Rattle.record.specs.Layout.{encode_record};
 ghost use Rattle.record.specs.Size.{record_size};
 ghost use Rattle.sound.specs.inside.Sound.{lent_is};
@@ -18,10 +19,8 @@ ghost use Rattle.vault.specs.Answers.{left_by};
 ghost use Rattle.remnant.specs.inside.Parts.{write_refusal, Fitting};
 
 use entry::Entry;
-use frame::numbers;
+use frame::Refusal;
 use settings::Settings;
-use sound::Lent;
-use vault::Answer;
 
 // The bytes of a remnant: those of the vault's own part.
 pub const SIZE: usize = own::SIZE;
@@ -31,31 +30,23 @@ const ROOM: usize = 256;
 
 // ---- write
 
-// Refusals 1 to 3 in their order, 0 where the record is sound and there is room for its remnant.
-fn write_refusal(rec: &[u8], room: usize) -> u8
-    ensures { result ≡ write_refusal rec.now room }
+// Refusals 1 to 3 in their order.
+fn write_refusal(rec: &[u8], room: usize) -> Result<(), Refusal>
+    ensures { number_in result ≡ write_refusal rec.now room }
 {
     if room < SIZE {
-        return numbers::REFUSED_OUTPUT;
+        return Err(Refusal::Output);
     }
-    let lent = sound::classify(rec);
-    match lent {
-        Lent::Blank => numbers::REFUSED_BLANK,
-        Lent::Unsound => numbers::REFUSED_UNSOUND,
-        Lent::Sound => 0,
-    }
+    sound::lent_refusal(rec)
 }
 
 // Writes the remnant of a sound record at the start of the output.
-pub fn write_remnant(rec: &[u8], out: &mut [u8]) -> Answer
+pub fn write_remnant(rec: &[u8], out: &mut [u8]) -> Result<usize, Refusal>
     ensures { left_by result rec.now out.new ≡ remnant_left rec.now out.old }
 {
-    let why = write_refusal(rec, out.len());
-    if why != 0 {
-        return Answer::Refused(why);
-    }
+    write_refusal(rec, out.len())?;
     own::load(rec, out);
-    Answer::Written(SIZE)
+    Ok(SIZE)
 }
 
 // ---- restart
@@ -65,7 +56,7 @@ fn makes_sound(remnant: &[u8], set: Settings) -> bool
     requires { (length remnant.now ≡ remnant_size) × (set ≡ settings_in remnant.now) }
     ensures { result ≡ is_sound (lent_is (encode_record (restored remnant.now))) }
 {
-    if settings::settings_refusal(set) != 0 {
+    if settings::settings_refusal(set).is_err() {
         return false;
     }
     row::is_sound(remnant, set)
@@ -93,26 +84,25 @@ fn come_back(rec: &mut [u8], remnant: &[u8], set: Settings, out: &mut [u8]) -> u
 }
 
 // Makes a record of a remnant, where the lent record is blank.
-pub fn restart(rec: &mut [u8], remnant: &[u8], out: &mut [u8]) -> Answer
+pub fn restart(rec: &mut [u8], remnant: &[u8], out: &mut [u8]) -> Result<usize, Refusal>
     ensures { left_by result rec.new out.new ≡ restart_left rec.old remnant.now out.old }
 {
     if out.len() < ROOM {
-        return Answer::Refused(numbers::REFUSED_OUTPUT);
+        return Err(Refusal::Output);
     }
     if rec.len() != record::SIZE {
-        return Answer::Refused(numbers::REFUSED_STARTED);
+        return Err(Refusal::Started);
     }
     let held = record::settings_of(rec);
     if held.n != 0 {
-        return Answer::Refused(numbers::REFUSED_STARTED);
+        return Err(Refusal::Started);
     }
     if remnant.len() != SIZE {
-        return Answer::Refused(numbers::REFUSED_REMNANT_LENGTH);
+        return Err(Refusal::RemnantLength);
     }
     let set = own::settings_in(remnant);
     if !makes_sound(remnant, set) {
-        return Answer::Refused(numbers::REFUSED_REMNANT_UNSOUND);
+        return Err(Refusal::RemnantUnsound);
     }
-    let count = come_back(rec, remnant, set, out);
-    Answer::Written(count)
+    Ok(come_back(rec, remnant, set, out))
 }

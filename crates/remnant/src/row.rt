@@ -79,7 +79,7 @@ fn frame_sound(set: Settings, view: u32, f: Frame) -> bool
     if above(view, f.kind, f.view) {
         return false;
     }
-    frame::frame_refusal(f, set.n, set.id) == 0
+    frame::frame_refusal(f, set.n, set.id).is_ok()
 }
 
 // A slot has no plan that its kind's frames have not.

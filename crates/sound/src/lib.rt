@@ -10,10 +10,10 @@ ghost use Rattle.record.specs.inside.Slots.{RowPlace};
 ghost use Rattle.record.specs.Layout.{slot_size, place, slot_in, decode_record};
 ghost use Rattle.record.specs.Size.{record_size};
 ghost use Rattle.record.specs.Kept.{reports_in};
-ghost use Rattle.sound.specs.inside.Sound.{all, reports_absent, empty_at, frame_sound, place_sound, kind_sound, rows_sound, stands, previous_sound, votes_sound, sound_in, lent_is};
+ghost use Rattle.sound.specs.inside.Sound.{all, reports_absent, empty_at, frame_sound, place_sound, kind_sound, rows_sound, stands, previous_sound, votes_sound, sound_in, lent_is, lent_refusal};
 ghost use Rattle.sound.specs.inside.Bulk.{group_size, zero_in, absent_from, told_absent, empty_from, Run, Marked, PlanSound, told_frame, report_fits};
 
-use frame::{Report, numbers};
+use frame::{Refusal, Report, numbers};
 use settings::Settings;
 
 // What lent bytes are.
@@ -397,7 +397,7 @@ pub fn sound_in(rec: &[u8], set: Settings, view: u32) -> bool
     requires { length rec.now ≡ record_size }
     ensures { result ≡ sound_in (slot_of (decode_record rec.now)) set view }
 {
-    if settings::settings_refusal(set) != 0 {
+    if settings::settings_refusal(set).is_err() {
         return false;
     }
     if !rows_sound(rec, set, view) {
@@ -421,4 +421,15 @@ pub fn classify(rec: &[u8]) -> Lent
         return Lent::Sound;
     }
     Lent::Unsound
+}
+
+// Refusals 2 and 3, of lent bytes that are a blank record and of unsound ones.
+pub fn lent_refusal(rec: &[u8]) -> Result<(), Refusal>
+    ensures { result ≡ lent_refusal (lent_is rec.now) }
+{
+    match classify(rec) {
+        Lent::Blank => Err(Refusal::Blank),
+        Lent::Unsound => Err(Refusal::Unsound),
+        Lent::Sound => Ok(()),
+    }
 }

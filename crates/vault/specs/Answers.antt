@@ -1,11 +1,11 @@
 -- What the public calls' answers mean: each leaves what document 01's call leaves ('Refusals, place by place').
 -- Assumes nothing.
-use Rattle.std.specs.Prelude.{ℕ, List}
+use Rattle.std.specs.Prelude.{ℕ, Result, Ok, Err, List}
 use Rattle.contents.specs.Left.{Left, wrote, gave}
-use Rattle.vault.specs.declared.Answer.{Answer}
-use Rattle.vault.specs.declared.Answer.TheVariants.{Written, Refused}
+use Rattle.frame.specs.declared.Refusal.{Refusal}
+use Rattle.frame.specs.Refusal.{number_of}
 
 -- 'Accepted calls return the byte count written', and 'Each gives its number': with the record's and the output's bytes.
-abbrev pub left_by : Answer → List ℕ → List ℕ → Left
-left_by (Written n) rec out = wrote n rec out
-left_by (Refused k) rec out = gave k rec out
+abbrev pub left_by : Result ℕ Refusal → List ℕ → List ℕ → Left
+left_by (Ok n) rec out = wrote n rec out
+left_by (Err why) rec out = gave (number_of why) rec out

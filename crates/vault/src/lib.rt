@@ -3,7 +3,7 @@
 #![tactic(auto)]
 
 ghost use Rattle.std.specs.Prelude.{◌≤◌, ◌<◌, ◌≡◌, length};
-ghost use Rattle.frame.specs.Refusal.{first};
+ghost use Rattle.frame.specs.Refusal.{first, number_in};
 ghost use Rattle.settings.specs.Settings.{setting_rows};
 ghost use Rattle.record.specs.Slots.{rows};
 ghost use Rattle.record.specs.Layout.{decode_record};
@@ -19,16 +19,8 @@ ghost use Rattle.vault.specs.Answers.{left_by};
 ghost use Rattle.vault.specs.inside.Answers.{way_in, Held, Read, read_left, TimerGives};
 
 use entry::Entry;
-use frame::{Frame, Reading, numbers};
+use frame::{Frame, Refusal, numbers};
 use settings::Settings;
-use sound::Lent;
-
-// What a call answers: how many bytes it wrote, or the number of a refusal.
-#[derive(Clone, Copy)]
-pub enum Answer {
-    Written(usize),
-    Refused(u8),
-}
 
 // The output space that every call asks for.
 const ROOM: usize = 256;
@@ -55,42 +47,33 @@ fn begin(rec: &mut [u8], set: Settings, plan: u64, out: &mut [u8]) -> usize
 }
 
 // Start, with settings and a starting plan.
-pub fn start(rec: &mut [u8], set: Settings, plan: u64, out: &mut [u8]) -> Answer
+pub fn start(rec: &mut [u8], set: Settings, plan: u64, out: &mut [u8]) -> Result<usize, Refusal>
     ensures { left_by result rec.new out.new ≡ start_left rec.old set plan out.old }
 {
     if out.len() < ROOM {
-        return Answer::Refused(numbers::REFUSED_OUTPUT);
+        return Err(Refusal::Output);
     }
     if rec.len() != record::SIZE {
-        return Answer::Refused(numbers::REFUSED_STARTED);
+        return Err(Refusal::Started);
     }
     let held = record::settings_of(rec);
     if held.n != 0 {
-        return Answer::Refused(numbers::REFUSED_STARTED);
+        return Err(Refusal::Started);
     }
-    let why = settings::settings_refusal(set);
-    if why != 0 {
-        return Answer::Refused(why);
-    }
-    let begun = begin(rec, set, plan, out);
-    Answer::Written(begun)
+    settings::settings_refusal(set)?;
+    Ok(begin(rec, set, plan, out))
 }
 
 // ---- the way in to a vault's record, for frame and timer
 
-// Refusals 1 to 3 in their order, 0 where the record is sound.
-fn way_in(rec: &[u8], room: usize) -> u8
-    ensures { result ≡ way_in rec.now room }
+// Refusals 1 to 3 in their order.
+fn way_in(rec: &[u8], room: usize) -> Result<(), Refusal>
+    ensures { number_in result ≡ way_in rec.now room }
 {
     if room < ROOM {
-        return numbers::REFUSED_OUTPUT;
+        return Err(Refusal::Output);
     }
-    let lent = sound::classify(rec);
-    match lent {
-        Lent::Blank => numbers::REFUSED_BLANK,
-        Lent::Unsound => numbers::REFUSED_UNSOUND,
-        Lent::Sound => 0,
-    }
+    sound::lent_refusal(rec)
 }
 
 // ---- frame
@@ -105,56 +88,46 @@ fn hear(rec: &mut [u8], set: Settings, f: Frame, out: &mut [u8]) -> usize
 }
 
 // A frame that the reader accepted, against the record.
-fn frame_read(rec: &mut [u8], set: Settings, f: Frame, out: &mut [u8]) -> Answer
+fn frame_read(rec: &mut [u8], set: Settings, f: Frame, out: &mut [u8]) -> Result<usize, Refusal>
     requires { Read rec.old set f × (256 ≤ length out.old) }
     ensures { left_by result rec.new out.new ≡ read_left rec.old f out.old }
 {
     let view = record::view_of(rec);
-    let why = record::keeping::keep_refusal(rec, view, f.sender, f.kind, f.view);
-    if why != 0 {
-        return Answer::Refused(why);
-    }
-    let heard = hear(rec, set, f, out);
-    Answer::Written(heard)
+    record::keeping::keep_refusal(rec, view, f.sender, f.kind, f.view)?;
+    Ok(hear(rec, set, f, out))
 }
 
 // Frame on a sound record. The reader's refusal is passed on, with the record unchanged.
-fn frame_in(rec: &mut [u8], sender: u8, bytes: &[u8], out: &mut [u8]) -> Answer
+fn frame_in(rec: &mut [u8], sender: u8, bytes: &[u8], out: &mut [u8]) -> Result<usize, Refusal>
     requires { (lent_is rec.old ≡ Sound) × (256 ≤ length out.old) }
     ensures { left_by result rec.new out.new ≡ frame_left rec.old sender bytes.now out.old }
 {
     let set = record::settings_of(rec);
-    let got = frame::reader::read(bytes, sender, set.n, set.id);
-    let Reading::Accepted(f) = got else {
-        return Answer::Refused(frame::refusal_of(got));
-    };
+    let f = frame::reader::read(bytes, sender, set.n, set.id)?;
     frame_read(rec, set, f, out)
 }
 
 // Frame: bytes that came over the link from a sender.
-pub fn frame(rec: &mut [u8], sender: u8, bytes: &[u8], out: &mut [u8]) -> Answer
+pub fn frame(rec: &mut [u8], sender: u8, bytes: &[u8], out: &mut [u8]) -> Result<usize, Refusal>
     ensures { left_by result rec.new out.new ≡ frame_left rec.old sender bytes.now out.old }
 {
-    let why = way_in(rec, out.len());
-    if why != 0 {
-        return Answer::Refused(why);
-    }
+    way_in(rec, out.len())?;
     frame_in(rec, sender, bytes, out)
 }
 
 // ---- timer
 
-// Refusals 18 and 19 of a timer for a view, in their order; 0 where none is given.
-fn timer_refusal(current: u32, view: u32) -> u8
-    ensures { TimerGives current view result }
+// Refusals 18 and 19 of a timer for a view, in their order.
+fn timer_refusal(current: u32, view: u32) -> Result<(), Refusal>
+    ensures { TimerGives current view (number_in result) }
 {
     if view != current {
-        return numbers::REFUSED_TIMER;
+        return Err(Refusal::Timer);
     }
     if current == LAST {
-        return numbers::REFUSED_LAST_VIEW;
+        return Err(Refusal::LastView);
     }
-    0
+    Ok(())
 }
 
 // The view that an accepted timer asks for: that of the own view-change where it is above the current view, else the next one.
@@ -184,27 +157,20 @@ fn time_out(rec: &mut [u8], set: Settings, view: u32, out: &mut [u8]) -> usize
 }
 
 // Timer on a sound record.
-fn timer_in(rec: &mut [u8], view: u32, out: &mut [u8]) -> Answer
+fn timer_in(rec: &mut [u8], view: u32, out: &mut [u8]) -> Result<usize, Refusal>
     requires { (lent_is rec.old ≡ Sound) × (256 ≤ length out.old) }
     ensures { left_by result rec.new out.new ≡ timer_left rec.old view out.old }
 {
     let current = record::view_of(rec);
-    let why = timer_refusal(current, view);
-    if why != 0 {
-        return Answer::Refused(why);
-    }
+    timer_refusal(current, view)?;
     let set = record::settings_of(rec);
-    let count = time_out(rec, set, current, out);
-    Answer::Written(count)
+    Ok(time_out(rec, set, current, out))
 }
 
 // Timer, for the view that the host names.
-pub fn timer(rec: &mut [u8], view: u32, out: &mut [u8]) -> Answer
+pub fn timer(rec: &mut [u8], view: u32, out: &mut [u8]) -> Result<usize, Refusal>
     ensures { left_by result rec.new out.new ≡ timer_left rec.old view out.old }
 {
-    let why = way_in(rec, out.len());
-    if why != 0 {
-        return Answer::Refused(why);
-    }
+    way_in(rec, out.len())?;
     timer_in(rec, view, out)
 }

@@ -3,6 +3,7 @@
 #![tactic(auto)]
 
 ghost use Rattle.std.specs.Prelude.{◌≡◌, length, drop};
+ghost use Rattle.frame.specs.Refusal.{number_of};
 ghost use Rattle.record.specs.Size.{record_size};
 ghost use Rattle.contents.specs.Calls.{start_left, frame_left, timer_left};
 ghost use Rattle.own.specs.Size.{remnant_size};
@@ -16,10 +17,8 @@ ghost use Rattle.vault_c.specs.inside.Numbers.{code, Short};
 ghost use Rattle.vault_c.specs.Numbers.{seen, numbered};
 ghost use Rattle.vault_c.specs.Asked.{version, told, tell_current, tell_decision, with_room, reach_number};
 
-use questions::{Current, Decision};
-use reach::Reach;
+use frame::Refusal;
 use settings::Settings;
-use vault::Answer;
 
 // What a call that is accepted gives, less the bytes that it wrote.
 const ACCEPTED: u32 = 256;
@@ -28,19 +27,26 @@ const ACCEPTED: u32 = 256;
 const DECIDED: u32 = 257;
 
 // The refusal where the host lent too little room.
-const SHORT: u32 = frame::numbers::REFUSED_OUTPUT as u32;
+const SHORT: u32 = Refusal::Output as u32;
 
 // Major * 10000 + minor * 100 + patch.
 const VERSION: u32 = 10400;
 
+// The number of a refusal.
+fn refused(why: Refusal) -> u32
+    ensures { result ≡ number_of why }
+{
+    u8::from(why) as u32
+}
+
 // The number that stands for an answer.
-fn number(a: Answer) -> u32
+fn number(a: Result<usize, Refusal>) -> u32
     requires { Short a }
     ensures { result ≡ code a }
 {
     match a {
-        Answer::Written(count) => ACCEPTED + count as u32,
-        Answer::Refused(refusal) => refusal as u32,
+        Ok(count) => ACCEPTED + count as u32,
+        Err(why) => refused(why),
     }
 }
 
@@ -129,14 +135,13 @@ pub extern "C" fn vault_current(rec: &[u8], out: &mut [u32]) -> u32
     if out.len() < 2 {
         return SHORT;
     }
-    let current = questions::current_of(rec);
-    match current {
-        Current::Entered { view, millis } => {
-            out[0] = view;
-            out[1] = millis;
+    match questions::current_of(rec) {
+        Ok(current) => {
+            out[0] = current.view;
+            out[1] = current.millis;
             ACCEPTED
         }
-        Current::Refused(number) => number as u32,
+        Err(why) => refused(why),
     }
 }
 
@@ -148,15 +153,14 @@ pub extern "C" fn vault_decision(rec: &[u8], out: &mut [u64]) -> u32
     if out.len() < 2 {
         return SHORT;
     }
-    let decision = questions::decision_of(rec);
-    match decision {
-        Decision::Made { view, plan } => {
-            out[0] = view as u64;
-            out[1] = plan;
+    match questions::decision_of(rec) {
+        Ok(Some(decision)) => {
+            out[0] = decision.view as u64;
+            out[1] = decision.plan;
             DECIDED
         }
-        Decision::Open => ACCEPTED,
-        Decision::Refused(number) => number as u32,
+        Ok(None) => ACCEPTED,
+        Err(why) => refused(why),
     }
 }
 
@@ -174,10 +178,9 @@ pub extern "C" fn vault_equivocators(records: &[u8], lengths: &[u32], out: &mut 
 pub extern "C" fn vault_claim_reach(reports: &[u8], plan: u64) -> u64
     ensures { result ≡ reach_number (claim_reach reports.now plan) }
 {
-    let reach = reach::claim_reach(reports, plan);
-    match reach {
-        Reach::View(view) => ACCEPTED as u64 + view as u64,
-        Reach::Refused(number) => number as u64,
+    match reach::claim_reach(reports, plan) {
+        Ok(view) => ACCEPTED as u64 + view as u64,
+        Err(why) => refused(why) as u64,
     }
 }
 

@@ -2,7 +2,7 @@
 -- to what stands there. Since every string of 11,703 bytes spells a record, what a record of document 01 can't hold (a mark that
 -- is neither 0 nor 1, an absent slot that is not zero, a report without its frame, a plan beside a view-change) is unsound here.
 -- Assumes nothing.
-use Rattle.std.specs.Prelude.{ℕ, zero, suc, ◌+◌, Bool, true, not, ◌&&◌, ◌||◌, cond, List, ◌++◌, ltb, eqb, length}
+use Rattle.std.specs.Prelude.{Result, Ok, Err, ℕ, zero, suc, ◌+◌, Bool, true, not, ◌&&◌, ◌||◌, cond, List, ◌++◌, ltb, eqb, length}
 use Rattle.frame.specs.declared.Report.{Report}
 use Rattle.frame.specs.declared.Frame.{Frame}
 use Rattle.frame.specs.Refusal.{first, present, absent, bad_form, bad_previous, content_rows, leader_rows}
@@ -12,6 +12,8 @@ use Rattle.record.specs.Slots.{rows, kinds, Record, frame_slot, report_slot, pre
 use Rattle.record.specs.Layout.{decode_record}
 use Rattle.record.specs.Size.{record_size}
 use Rattle.record.specs.Kept.{frame_held}
+use Rattle.frame.specs.declared.Refusal.{Refusal}
+use Rattle.frame.specs.declared.Refusal.TheVariants as why
 use Rattle.sound.specs.declared.Lent.{Lent}
 use Rattle.sound.specs.declared.Lent.TheVariants.{Blank, Unsound, Sound}
 
@@ -97,3 +99,9 @@ lent_is s =
     cond (eqb (length s) record_size)
     (cond (is_blank (decode_record s)) Blank (cond (sound (decode_record s)) Sound Unsound))
     Unsound
+
+-- 'frame or timer on a blank record' gives 2, 'on an unsound record' 3; a sound one is not refused.
+abbrev pub lent_refusal : Lent → Result Unit Refusal
+lent_refusal Blank = Err why.Blank
+lent_refusal Unsound = Err why.Unsound
+lent_refusal Sound = Ok tt
