@@ -2,7 +2,7 @@
 -- document 02, wish 4). Its count is carried from view to view, and is that of the claimers at the view (`counted_claimers`).
 -- Assumes nothing.
 use Prim.Native.Nat.{ℕ, zero, suc, ◌+◌, ◌-◌, ◌≤◌, ◌<◌}
-use mathlib.Core.Path.{◌≡◌, refl, sym, ◌∙◌, ap}
+use mathlib.Core.Path.{◌≡◌, refl, sym, ◌∙◌, ap, subst}
 use mathlib.Core.Bool.{Bool, true, false, cond, not, ◌&&◌}
 use mathlib.Core.List.{List}
 use mathlib.Core.Logic.{◌⊎◌, inl, inr}
@@ -115,15 +115,13 @@ module _ {t standings : List ℕ} {n k from : ℕ} {first plans : List ℕ} {cou
       listed = record { number = weigh_step (λ i. 1) (stands_at standings k) r count share l.listed.number is; plan = λ p. plan_more p };
     }
 
-  module _ (total : ℕ) (all : total ≡ weigh (λ i. 1) (stands_at standings k) n) where
-    -- While some are missing, not all vaults were looked at.
-    pub listing_left : count < total → r < n
-    listing_left few = go (ℕ_discrete r n)
-      where
-        go : Dec (r ≡ n) → r < n
-        go (yes done) = let is : count ≡ weigh (λ i. 1) (stands_at standings k) n = rw done at l.listed.number in absurd (omega arith)
-        go (no more) = omega (arith, l.within)
+  -- All vaults were looked at.
+  pub listing_full : n ≤ r → (length plans ≡ rows_size) × SameBelow first plans from × Listed t standings n k plans from count
+  listing_full done =
+      let same : r ≡ n = omega (arith, l.within) in
+      (l.size, l.same, subst (λ (m : ℕ). Listed t standings m k plans from count) same l.listed)
 
+  module _ (total : ℕ) (all : total ≡ weigh (λ i. 1) (stands_at standings k) n) where
     -- All are listed: the other vaults do not stand there.
     pub listing_all : total ≤ count → (length plans ≡ rows_size) × SameBelow first plans from × Listed t standings n k plans from count
     listing_all enough = (l.size, l.same, record { number = omega (arith, l.listed.number, rest); plan = λ p. found p })

@@ -2,7 +2,7 @@
 // A plan's walk goes down the candidate views with one count and ends at the first one that serves the plan. So does the lock search, by spans.
 #![tactic(auto)]
 
-ghost use Rattle.std.specs.Prelude.{◌+◌, ◌-◌, ◌*◌, ◌≤◌, ◌<◌, max, ◌≡◌, cond, not, leb, eqb, length, set};
+ghost use Rattle.std.specs.Prelude.{◌+◌, ◌-◌, ◌*◌, ◌≤◌, ◌<◌, ◌≡◌, cond, not, leb, eqb, length, set};
 ghost use Rattle.rules.specs.Sets.{weigh};
 ghost use Rattle.claims.specs.inside.Rows.{rows_size, for_plan, FitsRow, added, SameBelow};
 ghost use Rattle.claims.specs.inside.Spans.{stands_at, covered_views, highest_to, Within, AreSpans};
@@ -80,17 +80,11 @@ pub fn is_quorum(count: usize, n: usize, f: usize) -> bool
     n - f <= count
 }
 
-pub fn larger(a: u32, b: u32) -> u32
-    ensures { result ≡ max a b }
-{
-    if a < b { b } else { a }
-}
-
 // What a vault adds to those that stand at k: its number is its standing in the row of claims, and the end of its span in the search over locks.
 fn share_at(s: u32, k: u32) -> u32
     ensures { result ≡ cond (eqb s k) 1 0 }
 {
-    if s == k { 1 } else { 0 }
+    u32::from(s == k)
 }
 
 // Whether vault r has reported.
@@ -107,14 +101,7 @@ pub fn reported<'a>(table: &'a [u64], r: usize) -> bool
 fn view_of(above: u64) -> u64
     ensures { result ≡ above - 1 }
 {
-    if above == 0 { 0 } else { above - 1 }
-}
-
-// The later of two views.
-fn higher(a: u64, b: u64) -> u64
-    ensures { result ≡ max a b }
-{
-    if a < b { b } else { a }
+    above.saturating_sub(1)
 }
 
 // A vote that a report tells: its view, 0 where there is none, and its plan.
@@ -138,7 +125,7 @@ pub fn reach(highest: Vote, previous: Vote, p: u64) -> u64
 {
     let every = view_if(previous.view, true);
     let own = view_if(highest.view, highest.plan == p);
-    higher(own, every)
+    own.max(every)
 }
 
 // How far the report of vault r reaches for plan p.
@@ -176,7 +163,7 @@ fn claim_end<'a>(table: &'a [u64], r: usize, p: u64, end: u32) -> u32
 fn views_from(end: u32, u: u32) -> u32
     ensures { result ≡ end - u }
 {
-    if u < end { end - u } else { 0 }
+    end.saturating_sub(u)
 }
 
 // A plan that is not x: a report claims all of these alike, where x is the plan of its highest vote.
@@ -249,11 +236,12 @@ fn list_at<'a>(
 {
     let total = count_at(standings, n, k);
     let mut count: usize = 0;
-    let mut r: usize = 0;
-    while count < total {
+    for r in 0..n {
+        if count == total {
+            return count;
+        }
         plans[from + count] = table[VOTED + r];
         count += share_at(standings[r], k) as usize;
-        r += 1;
     }
     count
 }
@@ -275,11 +263,7 @@ fn write_row<'a>(table: &'a [u64], standings: &'a [u32], n: usize, plans: &mut [
     let both = list_at(table, standings, n, OWN_NEXT_OTHERS_HERE, plans, 0);
     let only = list_at(table, standings, n, OWN_NEXT, plans, both);
     let here = list_at(table, standings, n, OWN_HERE, plans, both + only);
-    Row {
-        both: both,
-        only: only,
-        here: here,
-    }
+    Row { both, only, here }
 }
 
 // Who claims which plan at the candidate views below end: who comes in at each, by the row that is written.
@@ -345,14 +329,14 @@ pub fn coming_at(c: Search, w: u32) -> Coming
 fn plan_share(x: u64, p: u64) -> usize
     ensures { result ≡ cond (eqb x p) 1 0 }
 {
-    if x == p { 1 } else { 0 }
+    usize::from(x == p)
 }
 
 // What it adds to those that are for every plan but it.
 fn other_share(x: u64, p: u64) -> usize
     ensures { result ≡ cond (not (eqb x p)) 1 0 }
 {
-    if x == p { 0 } else { 1 }
+    usize::from(x != p)
 }
 
 // How many of the first k plans are not p.
@@ -397,16 +381,11 @@ pub fn serving_view<'a>(plans: &'a [u64], c: Search, low: u32, p: u64) -> u32
         let from = coming.from;
         let some = coming.some;
         claimers = claimers + (coming.every + others_for(plans, coming.others, p));
-        let mut r: usize = 0;
-        'reporters: loop {
-            if r == some {
-                if is_blocking(claimers, c.f) {
-                    break 'views w;
-                }
-                break 'reporters;
-            }
+        'reporters: for r in 0..some {
             claimers += plan_share(plans[from + r], p);
-            r += 1;
+        }
+        if is_blocking(claimers, c.f) {
+            break 'views w;
         }
         end = w;
     };
@@ -429,7 +408,7 @@ fn highest_to<'a>(spans: &'a [u32], n: usize, w: u32) -> u32
 {
     let mut best: u32 = 0;
     for r in 0..n {
-        best = larger(best, span_to(spans[r], w));
+        best = best.max(span_to(spans[r], w));
     }
     best
 }
@@ -447,16 +426,11 @@ pub fn lowest_cleared<'a>(spans: &'a [u32], n: usize, f: usize, v: u32) -> u32
         if t == 0 {
             break 'views 0;
         }
-        let mut r: usize = 0;
-        'reporters: loop {
-            if r == n {
-                if is_blocking(locks as usize, f) {
-                    break 'views t;
-                }
-                break 'reporters;
-            }
+        'reporters: for r in 0..n {
             locks += share_at(spans[r], t);
-            r += 1;
+        }
+        if is_blocking(locks as usize, f) {
+            break 'views t;
         }
         t = highest_to(spans, n, t - 1);
     };

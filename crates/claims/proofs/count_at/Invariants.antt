@@ -1,7 +1,7 @@
 -- `claims::count_at` meets its contract.
 -- The count is that of the first r vaults that stand there.
 -- Assumes nothing.
-use Prim.Native.Nat.{◌-◌, ◌≤◌}
+use Prim.Native.Nat.{◌≤◌}
 use mathlib.Core.Path.{◌≡◌}
 use Rattle.claims.specs.inside.Spans.{stands_at}
 use Rattle.rules.specs.Sets.{weigh}
@@ -9,6 +9,3 @@ use Rattle.claims.proofs.count_at.Given as goal
 
 abbrev pub invariant-loop-r : goal.invariant-loop-r
 invariant-loop-r l = (l.r ≤ l.n) × (l.count ≤ l.r) × (l.count ≡ weigh (λ i. 1) (stands_at l.standings l.k) l.r)
-
-abbrev pub decreases-loop-r : goal.decreases-loop-r
-decreases-loop-r l = l.n - l.r

@@ -37,9 +37,6 @@ overflow_add-count c =
       share_most (eqb (get_or a.plans.now (a.at + at.r) 0) a.p) 1 c.plan_share-count.result c.plan_share-count.ensures,
     )
 
-pub overflow_add-r : goal.overflow_add-r
-overflow_add-r c = omega (arith, c.requires.2)
-
 pub loop-r-preserved : goal.loop-r-preserved
 loop-r-preserved c =
     let a = c.args in

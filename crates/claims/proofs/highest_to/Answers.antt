@@ -16,7 +16,7 @@ pub loop-r-preserved : goal.loop-r-preserved
 loop-r-preserved c =
     let at = c.loop-r in
     let a = c.args in
-    let step = c.larger-best.ensures ∙ (λ i. max (at.invariant.1 i) (c.span_to.ensures i)) in
+    let step = c.max-best.ensures ∙ (λ i. max (at.invariant.1 i) (c.span_to.ensures i)) in
     (omega arith, step ∙ sym (highest_more a.spans.now a.w at.r))
 
 pub returns : goal.returns

@@ -1,13 +1,10 @@
 -- `claims::highest_to` meets its contract.
 -- The loop keeps the highest of the first r spans that are not above w, and `highest_more` adds one span.
 -- Assumes nothing.
-use Prim.Native.Nat.{◌≤◌, ◌-◌}
+use Prim.Native.Nat.{◌≤◌}
 use mathlib.Core.Path.{◌≡◌}
 use Rattle.claims.specs.inside.Spans.{highest_to}
 use Rattle.claims.proofs.highest_to.Given as goal
 
 abbrev pub invariant-loop-r : goal.invariant-loop-r
 invariant-loop-r l = (l.r ≤ l.n) × (l.best ≡ highest_to l.spans l.w l.r)
-
-abbrev pub decreases-loop-r : goal.decreases-loop-r
-decreases-loop-r l = l.n - l.r

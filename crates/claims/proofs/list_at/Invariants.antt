@@ -1,12 +1,8 @@
 -- `claims::list_at` meets its contract.
 -- The plans of the first r vaults that stand there are listed; `listing_more` looks at one more. While some are missing there is one (`listing_left`).
 -- Assumes nothing.
-use Prim.Native.Nat.{◌-◌}
 use Rattle.claims.proofs.Walk.{Listing}
 use Rattle.claims.proofs.list_at.Given as goal
 
-abbrev pub invariant-loop-count : goal.invariant-loop-count
-invariant-loop-count l = Listing l.table l.standings l.n l.k l.from l.initial.plans l.plans l.count l.r
-
-abbrev pub decreases-loop-count : goal.decreases-loop-count
-decreases-loop-count l = l.n - l.r
+abbrev pub invariant-loop-r : goal.invariant-loop-r
+invariant-loop-r l = Listing l.table l.standings l.n l.k l.from l.initial.plans l.plans l.count l.r

@@ -56,7 +56,7 @@ counted : (c : After-is_blocking)
     → c.reporters.locks ≡ c.views.locks + weigh (λ i. 1) (stands_at c.args.spans.now c.views.t) c.args.n
 counted c =
     let last = c.reporters in
-    last.invariant.2 ∙ ap (λ (k : ℕ). c.views.locks + weigh (λ i. 1) (stands_at c.args.spans.now c.views.t) k) c.if-r-n.true
+    last.invariant.2 ∙ ap (λ (k : ℕ). c.views.locks + weigh (λ i. 1) (stands_at c.args.spans.now c.views.t) k) (omega arith)
 
 pub views-preserved : goal.views-preserved
 views-preserved c =

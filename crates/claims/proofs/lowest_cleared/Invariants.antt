@@ -3,7 +3,7 @@
 -- vaults those whose span ends at the candidate have come in. A candidate that f + 1 cover is the highest view with enough (`locks_found`);
 -- else the count goes on with the search (`locks_next`), and without a candidate left no view has enough (`locks_none`).
 -- Assumes nothing.
-use Prim.Native.Nat.{◌+◌, ◌-◌, ◌≤◌}
+use Prim.Native.Nat.{◌+◌, ◌≤◌}
 use mathlib.Core.Path.{◌≡◌}
 use Rattle.claims.specs.inside.Spans.{stands_at, LocksCarried}
 use Rattle.claims.specs.Table.{column}
@@ -12,9 +12,6 @@ use Rattle.claims.proofs.lowest_cleared.Given as goal
 
 abbrev pub invariant-reporters : goal.invariant-reporters
 invariant-reporters l = (l.r ≤ l.n) × (l.locks ≤ l.initial.locks + l.r) × (l.locks ≡ l.initial.locks + weigh (λ i. 1) (stands_at l.spans l.t) l.r) × (l.initial.locks ≤ column)
-
-abbrev pub decreases-reporters : goal.decreases-reporters
-decreases-reporters l = l.n - l.r
 
 abbrev pub invariant-views : goal.invariant-views
 invariant-views l = LocksCarried l.spans l.n l.f l.v l.t l.locks

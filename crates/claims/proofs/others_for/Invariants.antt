@@ -1,13 +1,10 @@
 -- `claims::others_for` meets its contract.
 -- The count is that of the first r plans that are not p.
 -- Assumes nothing.
-use Prim.Native.Nat.{◌-◌, ◌≤◌}
+use Prim.Native.Nat.{◌≤◌}
 use mathlib.Core.Path.{◌≡◌}
 use Rattle.claims.specs.inside.Walk.{others_of}
 use Rattle.claims.proofs.others_for.Given as goal
 
 abbrev pub invariant-loop-r : goal.invariant-loop-r
 invariant-loop-r l = (l.r ≤ l.k) × (l.count ≤ l.r) × (l.count ≡ others_of l.plans l.r l.p)
-
-abbrev pub decreases-loop-r : goal.decreases-loop-r
-decreases-loop-r l = l.k - l.r

@@ -6,4 +6,4 @@ use mathlib.Core.Path.{◌∙◌}
 use Rattle.claims.proofs.reach.Goals as goal
 
 pub returns : goal.returns
-returns c = c.higher.ensures ∙ (λ i. max (c.view_if-own.ensures i) (c.view_if-every.ensures i))
+returns c = c.max.ensures ∙ (λ i. max (c.view_if-own.ensures i) (c.view_if-every.ensures i))

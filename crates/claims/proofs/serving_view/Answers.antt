@@ -99,7 +99,7 @@ comes c =
     let t = c.coming_at-coming.result in
     let at = c.reporters in
     let was = c.views.claimers in
-    let all : at.r ≡ t.some = c.if-r-some.true in
+    let all : at.r ≡ t.some = omega arith in
     let sum : at.claimers ≡ was + coming_for a.plans.now t a.p
     = omega (arith, at.invariant.2, c.others_for.ensures, ap (λ (k : ℕ). count_of a.plans.now t.from k a.p) all) in
     sum ∙ ap (λ (t : Coming). was + coming_for a.plans.now t a.p) c.coming_at-coming.ensures

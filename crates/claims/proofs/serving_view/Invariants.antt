@@ -14,9 +14,6 @@ invariant-reporters l =
     (l.r ≤ l.some) × (l.claimers ≤ l.initial.claimers + l.r) × (l.claimers ≡ l.initial.claimers + count_of l.plans l.from l.r l.p) × (l.from ≤ column) × (l.some ≤ column)
     × (l.initial.claimers ≤ 900000000000)
 
-abbrev pub decreases-reporters : goal.decreases-reporters
-decreases-reporters l = l.some - l.r
-
 abbrev pub invariant-views : goal.invariant-views
 invariant-views l =
     (l.initial.claimers ≡ 0) × (l.end ≤ l.initial.end) × (l.claimers ≤ 3 * column * (l.initial.end - l.end)) × Walked l.plans l.c l.low l.p l.end l.claimers

@@ -1,7 +1,7 @@
 -- `claims::standings` meets its contract.
 -- The first r places tell where the first r vaults stand, and `spans_more` writes one more.
 -- Assumes nothing.
-use Prim.Native.Nat.{◌-◌, ◌≤◌}
+use Prim.Native.Nat.{◌≤◌}
 use mathlib.Core.Path.{◌≡◌}
 use lib.ListN.{length}
 use Rattle.claims.specs.inside.Spans.{AreSpans}
@@ -11,6 +11,3 @@ use Rattle.claims.proofs.standings.Given as goal
 
 abbrev pub invariant-loop-r : goal.invariant-loop-r
 invariant-loop-r l = (l.r ≤ l.n) × (length l.found ≡ column) × AreSpans l.found l.r (standing l.table l.u l.end)
-
-abbrev pub decreases-loop-r : goal.decreases-loop-r
-decreases-loop-r l = l.n - l.r
