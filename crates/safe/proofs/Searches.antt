@@ -15,6 +15,9 @@ use native.Mathlib.Decide.{ℕ_discrete, dec_lt}
 use lib.Dec.{leb, ltb, eqb}
 use lib.ListN.{length, get_or}
 use borrow.Author.Tests.{leb-true, leb-false, lt-ltb, le-ltb, ltb-true, ltb-false, eqb-true, eqb-false, eq-eqb, ne_eqb, not-true, not-false}
+use Rattle.std.specs.Prelude as prelude
+use Rattle.std.specs.Prelude.{Some, None}
+use Rattle.std.specs.Option.{is_some}
 use Rattle.rules.specs.inside.Bools.{any_below}
 use Rattle.rules.specs.Sets.{Vaults, equals}
 use Rattle.rules.specs.Quorums.{is_blocking}
@@ -32,7 +35,7 @@ use Rattle.claims.specs.inside.Walk.{FitsComing, coming_at, counted, claimed_in,
 use Rattle.claims.specs.Table.{column}
 use Rattle.claims.proofs.Rows.{count_where}
 use Rattle.claims.proofs.Walk.{serving_none, serving_next, end_bounds, counted_claimers, counted_next, row_has, told_kept}
-use Rattle.safe.specs.Choices.{rule_of}
+use Rattle.safe.specs.Choices.{rule_of, chosen}
 use Rattle.safe.specs.inside.Choices.{apart, Found, better}
 use Rattle.safe.specs.inside.Searches.{lock_row, allowed_in, served_from, safe_in, passes_in, tried_at, tried_count, smallest_from, smallest_of, Pair}
 use Rattle.safe.specs.inside.Searches.{two, unclaimed, lone, Falling, Laid, Prepared, every_safe, Begun}
@@ -173,6 +176,11 @@ end_here c below = go (ltb (c.u + 1) c.v)
     go : (b : Bool) → c.u < cond b (c.u + 2) c.v
     go true = omega arith
     go false = below
+
+-- A plan of the code's is one of the rules'.
+pub is_chosen : (o : prelude.Option ℕ) → is_some o ≡ not (is_none (chosen o))
+is_chosen None = refl
+is_chosen (Some p) = refl
 
 module _ (next here : ℕ → Bool) (m : Option ℕ) (found : Found next m) where
   -- No plan is claimed at the next view.

@@ -5,7 +5,6 @@
 ghost use Rattle.std.specs.Prelude.{◌+◌, ◌-◌, ◌*◌, ◌≤◌, ◌<◌, ◌≡◌, cond, not, true, false, ◌&&◌, length, get_or};
 ghost use Rattle.rules.specs.Sets.{equals};
 ghost use Rattle.settings.specs.Vaults.{vaults_of};
-ghost use Rattle.rules.specs.Options.{is_none};
 ghost use Rattle.rules.specs.Rules.{reporting, unlocked, allows, rule3};
 ghost use Rattle.rules.specs.inside.Counts.{free, two_sets, safe, smaller, choice};
 ghost use Rattle.rules.specs.inside.Views.{lock_span, lowest_view, Lowest};
@@ -40,13 +39,7 @@ fn unlocked_share<'a>(table: &'a [u64], r: usize) -> usize
     requires { (length table.now ≡ table_size) × (r < column) }
     ensures { result ≡ cond (reporting (reports_in_table table.now) unlocked r) 1 0 }
 {
-    if claims::reported(table, r) {
-        if lock_of(table, r) == 0 {
-            return 1;
-        }
-        return 0;
-    }
-    0
+    usize::from(claims::reported(table, r) && lock_of(table, r) == 0)
 }
 
 // Whether 'some quorum q of reporters has no lock at all'.
@@ -71,10 +64,7 @@ fn lock_span<'a>(table: &'a [u64], r: usize, v: u32) -> u32
         if (v as u64) < above {
             return v;
         }
-        if above == 0 {
-            return 0;
-        }
-        return (above - 1) as u32;
+        return above.saturating_sub(1) as u32;
     }
     v
 }
@@ -146,13 +136,13 @@ fn prepare<'a>(table: &'a [u64], n: usize, f: usize, u: u32, v: u32, plans: &mut
     let here = coming.here;
     let locks = locks_at(table, n, u, plans);
     Search {
-        n: n,
-        f: f,
-        u: u,
-        v: v,
-        next: next,
-        here: here,
-        locks: locks,
+        n,
+        f,
+        u,
+        v,
+        next,
+        here,
+        locks,
     }
 }
 
@@ -187,41 +177,29 @@ fn safe_one<'a>(plans: &'a [u64], c: Search, p: u64) -> bool
 
 // ---- the two-set clause
 
-// A plan, or none.
-#[derive(Clone, Copy)]
-pub enum Choice {
-    Plan(u64),
-    Nothing,
-}
-
-fn is_plan(c: Choice) -> bool
-    ensures { result ≡ not (is_none (chosen c)) }
-{
-    match c {
-        Choice::Plan(x) => true,
-        Choice::Nothing => false,
-    }
-}
-
 // Whether x is not the plan to be left out, if any.
-fn differs(except: Choice, x: u64) -> bool
+fn differs(except: Option<u64>, x: u64) -> bool
     ensures { result ≡ apart x (chosen except) }
 {
-    match except {
-        Choice::Plan(m) => x != m,
-        Choice::Nothing => true,
-    }
+    except.is_none_or(|m| x != m)
 }
 
 // Plan 0, or 1 where 0 is left out: it stands for all plans that are in no row.
-fn first_plan(except: Choice) -> u64
+fn first_plan(except: Option<u64>) -> u64
     ensures { apart result (chosen except) ≡ true }
 {
     if differs(except, 0) { 0 } else { 1 }
 }
 
 // Whether plan x is not left out and is claimed at view w. The plan tried last, which did not pass, is not tried again.
-fn other_claimed<'a>(plans: &'a [u64], c: Search, w: u32, except: Choice, last: u64, x: u64) -> bool
+fn other_claimed<'a>(
+    plans: &'a [u64],
+    c: Search,
+    w: u32,
+    except: Option<u64>,
+    last: u64,
+    x: u64,
+) -> bool
     requires { Laid c plans.now × ((apart last (chosen except) && served_from plans.now c w last) ≡ false) }
     ensures { result ≡ (apart x (chosen except) && served_from plans.now c w x) }
 {
@@ -234,13 +212,13 @@ fn other_claimed<'a>(plans: &'a [u64], c: Search, w: u32, except: Choice, last: 
 }
 
 // A plan that is claimed at the candidate view w, if any, and is not left out: the first plan, or one of those that come in up to there.
-fn find_claimed<'a>(plans: &'a [u64], c: Search, w: u32, except: Choice) -> Choice
+fn find_claimed<'a>(plans: &'a [u64], c: Search, w: u32, except: Option<u64>) -> Option<u64>
     requires { Laid c plans.now × Falling plans.now c × (c.u ≤ w) × (w < end_of c) }
     ensures { Found (λ x. apart x (chosen except) && claimed_in plans.now c x w) (chosen result) }
 {
     let first = first_plan(except);
     if served(plans, c, w, first) {
-        return Choice::Plan(first);
+        return Some(first);
     }
     let coming = claims::coming_at(c, w);
     let end = coming.from + coming.some;
@@ -248,11 +226,11 @@ fn find_claimed<'a>(plans: &'a [u64], c: Search, w: u32, except: Choice) -> Choi
     for r in 0..end {
         let x = plans[r];
         if other_claimed(plans, c, w, except, last, x) {
-            return Choice::Plan(x);
+            return Some(x);
         }
         last = x;
     }
-    Choice::Nothing
+    None
 }
 
 // The two-set clause at view u: a plan that is claimed at the next view, and another plan that is claimed at u.
@@ -260,9 +238,9 @@ fn two_sets<'a>(plans: &'a [u64], c: Search) -> bool
     requires { Laid c plans.now × Falling plans.now c × (c.u + 1 < c.v) }
     ensures { Pair (λ x. claimed_in plans.now c x (c.u + 1)) (λ x. claimed_in plans.now c x c.u) result }
 {
-    let next = find_claimed(plans, c, c.u + 1, Choice::Nothing);
-    if is_plan(next) {
-        return is_plan(find_claimed(plans, c, c.u, next));
+    let next = find_claimed(plans, c, c.u + 1, None);
+    if next.is_some() {
+        return find_claimed(plans, c, c.u, next).is_some();
     }
     false
 }
@@ -344,13 +322,10 @@ pub fn safe_by<'a>(table: &'a [u64], set: Settings, v: u32, p: u64, three: bool)
 // ---- step C
 
 // Whether x is smaller than the plan chosen so far, if any.
-fn improves(best: Choice, x: u64) -> bool
+fn improves(best: Option<u64>, x: u64) -> bool
     ensures { result ≡ better x (chosen best) }
 {
-    match best {
-        Choice::Plan(y) => x < y,
-        Choice::Nothing => true,
-    }
+    best.is_none_or(|y| x < y)
 }
 
 // Whether view u serves a lock's plan, or the next view a highest vote's.
@@ -374,8 +349,8 @@ fn smaller_passing<'a>(
     locked: bool,
     last: u64,
     x: u64,
-    best: Choice,
-) -> Choice
+    best: Option<u64>,
+) -> Option<u64>
     requires { Laid c plans.now × (smaller (passes_in plans.now c locked last) last (chosen best) ≡ chosen best) }
     ensures { chosen result ≡ smaller (passes_in plans.now c locked x) x (chosen best) }
 {
@@ -384,7 +359,7 @@ fn smaller_passing<'a>(
     }
     if improves(best, x) {
         if passes(plans, c, locked, x) {
-            return Choice::Plan(x);
+            return Some(x);
         }
         return best;
     }
@@ -405,7 +380,13 @@ fn tried_count(c: Search, locked: bool) -> usize
 }
 
 // The smallest plan that passes, of one row, or the best so far where that is smaller. The plan start does not pass.
-fn smallest_in<'a>(plans: &'a [u64], c: Search, locked: bool, start: u64, best: Choice) -> Choice
+fn smallest_in<'a>(
+    plans: &'a [u64],
+    c: Search,
+    locked: bool,
+    start: u64,
+    best: Option<u64>,
+) -> Option<u64>
     requires { Laid c plans.now × (passes_in plans.now c locked start ≡ false) }
     ensures { chosen result ≡ smallest_from (chosen best) (passes_in plans.now c locked) (λ i. get_or plans.now (tried_at locked + i) 0) (tried_count c locked) }
 {
@@ -422,32 +403,32 @@ fn smallest_in<'a>(plans: &'a [u64], c: Search, locked: bool, start: u64, best: 
 }
 
 // The smallest plan that is safe by Rule 1, where start is not: of the locks at view u, and of the votes that come in at the next view.
-fn smallest_safe<'a>(plans: &'a [u64], c: Search, start: u64) -> Choice
+fn smallest_safe<'a>(plans: &'a [u64], c: Search, start: u64) -> Option<u64>
     requires { Laid c plans.now × (passes_in plans.now c true start ≡ false) × (passes_in plans.now c false start ≡ false) }
     ensures { chosen result ≡ smallest_of plans.now c }
 {
-    let best = smallest_in(plans, c, true, start, Choice::Nothing);
+    let best = smallest_in(plans, c, true, start, None);
     smallest_in(plans, c, false, start, best)
 }
 
 // Step C: 'proposes its starting plan if that is safe by Rule 1, else the smallest safe plan, else waits'.
-pub fn choose<'a>(table: &'a [u64], set: Settings, v: u32, start: u64) -> Choice
+pub fn choose<'a>(table: &'a [u64], set: Settings, v: u32, start: u64) -> Option<u64>
     requires { (length table.now ≡ table_size) × (set.n ≤ 64) × (set.f < set.n) }
     ensures { chosen result ≡ choice (vaults_of set) (reports_in_table table.now) v start }
 {
     let n = set.n as usize;
     let f = set.f as usize;
     if every_safe(table, n, f, v) {
-        return Choice::Plan(start);
+        return Some(start);
     }
     let u = lowest_view(table, n, f, v);
     if u < v {
         let mut plans = [0u64; ROOM];
         let s = begin(table, n, f, u, v, &mut plans);
         if safe_one(&plans, s, start) {
-            return Choice::Plan(start);
+            return Some(start);
         }
         return smallest_safe(&plans, s, start);
     }
-    Choice::Nothing
+    None
 }

@@ -1,7 +1,7 @@
 -- `safe::find_claimed` meets its contract.
 -- Neither the plan tried last nor the first r of the row pass; where none of those does that come in up to the view, none is claimed (`none_found`).
 -- Assumes nothing.
-use Prim.Native.Nat.{◌-◌, ◌*◌, ◌≤◌}
+use Prim.Native.Nat.{◌*◌, ◌≤◌}
 use mathlib.Core.Bool.{false}
 use mathlib.Core.Path.{◌≡◌}
 use Rattle.claims.specs.Table.{column}
@@ -12,6 +12,3 @@ use Rattle.safe.proofs.find_claimed.Given as goal
 abbrev pub invariant-loop-r : goal.invariant-loop-r
 invariant-loop-r l =
     (l.r ≤ l.end) × (tried l.plans l.c l.w (chosen l.except) l.last ≡ false) × NonePass l.plans l.c l.w (chosen l.except) l.r × (l.end ≤ 2 * column)
-
-abbrev pub decreases-loop-r : goal.decreases-loop-r
-decreases-loop-r l = l.end - l.r

@@ -21,12 +21,6 @@ span_of c =
 pub returns-then-v-above : goal.returns-then-v-above
 returns-then-v-above c = omega (arith, span_of (goal.at.returns-then-v-above c).After-lock_of-above)
 
-pub returns-then-above-eq0 : goal.returns-then-above-eq0
-returns-then-above-eq0 c = omega (arith, span_of (goal.at.returns-then-above-eq0 c).After-lock_of-above)
-
-pub overflow_sub-result : goal.overflow_sub-result
-overflow_sub-result c = omega arith
-
 pub overflow_cast-result : goal.overflow_cast-result
 overflow_cast-result c = omega arith
 

@@ -1,7 +1,7 @@
 -- `safe::lock_spans` meets its contract.
 -- The first r places hold the spans of the first r reports, and `spans_more` writes one more.
 -- Assumes nothing.
-use Prim.Native.Nat.{◌-◌, ◌≤◌}
+use Prim.Native.Nat.{◌≤◌}
 use mathlib.Core.Path.{◌≡◌}
 use lib.ListN.{length}
 use Rattle.claims.specs.inside.Spans.{AreSpans}
@@ -11,6 +11,3 @@ use Rattle.safe.proofs.lock_spans.Given as goal
 
 abbrev pub invariant-loop-r : goal.invariant-loop-r
 invariant-loop-r l = (l.r ≤ l.n) × (length l.spans ≡ column) × AreSpans l.spans l.r (λ i. lock_span l.v (reports_in_table l.table i))
-
-abbrev pub decreases-loop-r : goal.decreases-loop-r
-decreases-loop-r l = l.n - l.r

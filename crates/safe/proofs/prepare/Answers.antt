@@ -3,7 +3,6 @@
 -- Assumes nothing.
 use mathlib.Core.Path.{refl}
 use native.Mathlib.Omega.{arith}
-use borrow.Author.Rules.{rules}
 use Rattle.claims.proofs.Walk.{end_bounds}
 use Rattle.claims.specs.Table.{reports_in_table}
 use Rattle.safe.proofs.Searches.{prepares}

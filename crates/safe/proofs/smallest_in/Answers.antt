@@ -38,9 +38,6 @@ bounds-plans-at c = omega (arith, c.requires.0.size)
 pub smaller_passing-found-requires : goal.smaller_passing-found-requires
 smaller_passing-found-requires c = (c.requires.0, c.loop-r.invariant.2)
 
-pub overflow_add-r : goal.overflow_add-r
-overflow_add-r c = omega arith
-
 pub loop-r-preserved : goal.loop-r-preserved
 loop-r-preserved c =
     let a = c.args in
