@@ -20,7 +20,7 @@ use Rattle.rules.proofs.Quorums.{weigh_none, weigh_more, weigh_step, weigh_mono,
 use Rattle.rules.proofs.Least.{least_from}
 use Rattle.rules.specs.Options.{holds}
 use Rattle.frame.specs.declared.Report.{Report}
-use Rattle.tally.specs.inside.Changes.{asks, news_from, askers, enough, asking, Gathered, raised_at, Highest}
+use Rattle.tally.specs.inside.Changes.{asks, news_from, askers, enough, asking, Gathered, raised_to, Highest}
 
 -- ---- a slot
 
@@ -155,8 +155,8 @@ module _ (views : List ℕ) (need low : ℕ) where
         go (no last) = let here : j ≡ i = omega arith in rw here (this (rw here at enough))
 
     -- One place more, by what `raised` gives there.
-    pub search_more : Searched views need low (i + 1) (raised_at views i need best)
-    unfolding raised_at
+    pub search_more : Searched views need low (i + 1) (raised_to views (get_or views i 0) need best)
+    unfolding raised_to
     search_more = go (dec_lt best x) (dec_lt (asking views (length views) x) need)
       where
         x : ℕ
@@ -202,22 +202,22 @@ module _ (views : List ℕ) (need low : ℕ) where
 
 -- ---- one place
 
-module _ (views : List ℕ) (i need best w : ℕ) (is : w ≡ get_or views i 0) where
+module _ (views : List ℕ) (need best w : ℕ) where
   -- A view not above the highest so far changes nothing.
-  pub raised_low : w ≤ best → best ≡ raised_at views i need best
-  unfolding raised_at
-  raised_low low = rw (← is, le-ltb best w low)
+  pub raised_low : w ≤ best → best ≡ raised_to views w need best
+  unfolding raised_to
+  raised_low low = rw (le-ltb best w low)
 
   module _ (c : ℕ) (count : c ≡ asking views (length views) w) (above : best < w) where
     -- Nor does one that not enough ask for.
-    pub raised_few : c < need → best ≡ raised_at views i need best
-    unfolding raised_at
-    raised_few few = rw (← is, lt-ltb best w above, lt-leb need (asking views (length views) w) (omega arith))
+    pub raised_few : c < need → best ≡ raised_to views w need best
+    unfolding raised_to
+    raised_few few = rw (lt-ltb best w above, lt-leb need (asking views (length views) w) (omega arith))
 
     -- One that enough ask for is the highest so far.
-    pub raised_many : need ≤ c → w ≡ raised_at views i need best
-    unfolding raised_at
-    raised_many many = rw (← is, lt-ltb best w above, le-leb need (asking views (length views) w) (omega arith))
+    pub raised_many : need ≤ c → w ≡ raised_to views w need best
+    unfolding raised_to
+    raised_many many = rw (lt-ltb best w above, le-leb need (asking views (length views) w) (omega arith))
 
 -- ---- from the gathered views to the view-changes
 

@@ -12,12 +12,11 @@ ghost use Rattle.record.specs.Layout.{slot_size, shared_size, slot_in};
 ghost use Rattle.record.specs.inside.Layout.{block_size};
 ghost use Rattle.safe.specs.Choices.{chosen};
 ghost use Rattle.tally.specs.inside.Parts.{block_place};
-ghost use Rattle.tally.specs.inside.Changes.{asks, change_in, news_from, enough, asking, raised_at, Gathered, Highest};
+ghost use Rattle.tally.specs.inside.Changes.{asks, change_in, news_from, enough, asking, raised_to, Gathered, Highest};
 ghost use Rattle.tally.specs.inside.Votes.{voted, vote_in_block, row_votes, lead_with, lead_after, agreed_in, Leads};
 ghost use Rattle.tally.specs.inside.Reports.{reports_by, above_of, with_vote, with_report, Filled};
 
 use frame::{Report, numbers};
-use safe::Choice;
 use settings::Settings;
 
 // 'its leader is vault (view mod n)'.
@@ -38,14 +37,14 @@ pub fn change_above(shared: &[u8], at: usize, low: u32) -> u32
     if shared[at] != numbers::PRESENT {
         return low;
     }
-    claims::larger(low, record::view_at(shared, at))
+    low.max(record::view_at(shared, at))
 }
 
 // What a view adds to those above low.
 fn share_above(low: u32, w: u32) -> usize
     ensures { result ≡ cond (ltb low w) 1 0 }
 {
-    if low < w { 1 } else { 0 }
+    usize::from(low < w)
 }
 
 // Gathers the views above low that the view-changes of n senders are for, and answers how many they are. Each is put at the next
@@ -70,7 +69,7 @@ fn views_above(shared: &[u8], n: usize, need: usize, low: u32, views: &mut [u32]
 fn share_asking(x: u32, w: u32) -> u32
     ensures { result ≡ cond (leb w x) 1 0 }
 {
-    if w <= x { 1 } else { 0 }
+    u32::from(w <= x)
 }
 
 // How many of the views ask for w.
@@ -79,18 +78,17 @@ fn count_asking(views: &[u32], w: u32) -> usize
     ensures { result ≡ asking views.now (length views.now) w }
 {
     let mut count: u32 = 0;
-    for j in 0..views.len() {
-        count += share_asking(views[j], w);
+    for &x in views {
+        count += share_asking(x, w);
     }
     count as usize
 }
 
-// The highest view so far, once the one at a place is tried.
-fn raised(views: &[u32], i: usize, need: usize, best: u32) -> u32
-    requires { (i < length views.now) × (length views.now ≤ rows) }
-    ensures { result ≡ raised_at views.now i need best }
+// The highest view so far, once w is tried.
+fn raised(views: &[u32], w: u32, need: usize, best: u32) -> u32
+    requires { length views.now ≤ rows }
+    ensures { result ≡ raised_to views.now w need best }
 {
-    let w = views[i];
     if w <= best {
         return best;
     }
@@ -110,8 +108,8 @@ fn highest_of(views: &[u32], need: usize, low: u32) -> u32
         return low;
     }
     let mut best = low;
-    for i in 0..views.len() {
-        best = raised(views, i, need, best);
+    for &w in views {
+        best = raised(views, w, need, best);
     }
     best
 }
@@ -301,13 +299,7 @@ fn vote_share(block: &[u8], at: usize, v: u32, p: u64) -> usize
     requires { at + slot_size ≤ length block.now }
     ensures { result ≡ cond (holds (eqb p) (voted v (slot_in block.now at))) 1 0 }
 {
-    if is_of_view(block, at, v) {
-        if record::plan_at(block, at) == p {
-            return 1;
-        }
-        return 0;
-    }
-    0
+    usize::from(is_of_view(block, at, v) && p == record::plan_at(block, at))
 }
 
 // How many of the n votes from a place on are of view v and for p.
@@ -323,7 +315,7 @@ fn votes_for(block: &[u8], from: usize, n: usize, v: u32, p: u64) -> usize
 }
 
 // The plan that a quorum of the votes of view v from a place on is for. Where the votes are too few, those for the plan are not counted.
-pub fn agreed_plan(block: &[u8], from: usize, set: Settings, v: u32) -> Choice
+pub fn agreed_plan(block: &[u8], from: usize, set: Settings, v: u32) -> Option<u64>
     requires { (from + slot_size * set.n ≤ length block.now) × (set.n ≤ rows) × (3 * set.f < set.n) }
     ensures { chosen result ≡ agreed_in (row_votes block.now v from) set.n set.f }
 {
@@ -332,11 +324,11 @@ pub fn agreed_plan(block: &[u8], from: usize, set: Settings, v: u32) -> Choice
     let quorum = n - f;
     let b = lead_of(block, from, n, f, v);
     if b.votes < quorum {
-        return Choice::Nothing;
+        return None;
     }
     let count = votes_for(block, from, n, v, b.plan);
     if count < quorum {
-        return Choice::Nothing;
+        return None;
     }
-    Choice::Plan(b.plan)
+    Some(b.plan)
 }

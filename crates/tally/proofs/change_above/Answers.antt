@@ -14,5 +14,5 @@ returns-then-shared-at-ne-PRESENT c =
 pub returns : goal.returns
 returns c =
     let a = c.args in
-    c.larger.ensures ∙ ap (λ (w : ℕ). max a.low w) c.view_at.ensures
+    c.max.ensures ∙ ap (λ (w : ℕ). max a.low w) c.view_at.ensures
     ∙ news_some a.low (slot_in a.shared.now a.at) c.if-shared-at-ne-PRESENT.false

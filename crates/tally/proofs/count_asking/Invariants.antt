@@ -1,13 +1,10 @@
 -- `tally::count_asking` meets its contract. The invariant: of the views passed as many ask for w as were counted.
 -- Assumes nothing.
-use Prim.Native.Nat.{◌-◌, ◌≤◌}
+use Prim.Native.Nat.{◌≤◌}
 use mathlib.Core.Path.{◌≡◌}
 use lib.ListN.{length}
 use Rattle.tally.specs.inside.Changes.{asking}
 use Rattle.tally.proofs.count_asking.Given as goal
 
-abbrev pub invariant-loop-j : goal.invariant-loop-j
-invariant-loop-j l = (l.j ≤ length l.views) × (l.count ≡ asking l.views l.j l.w) × (l.count ≤ l.j)
-
-abbrev pub decreases-loop-j : goal.decreases-loop-j
-decreases-loop-j l = length l.views - l.j
+abbrev pub invariant-loop-x : goal.invariant-loop-x
+invariant-loop-x l = (l.x-index ≤ length l.views) × (l.count ≡ asking l.views l.x-index l.w) × (l.count ≤ l.x-index)

@@ -12,19 +12,19 @@ returns-then-views-need c =
     let a = c.args in
     search_few a.views.now a.need a.low c.if-views-need.true
 
-pub loop-i-init : goal.loop-i-init
-loop-i-init c = (omega arith, search_none _ _ _)
+pub loop-w-init : goal.loop-w-init
+loop-w-init c = (omega arith, search_none _ _ _)
 
-pub loop-i-preserved : goal.loop-i-preserved
-loop-i-preserved c =
+pub loop-w-preserved : goal.loop-w-preserved
+loop-w-preserved c =
     let a = c.args in
-    let at = c.loop-i in
-    let next = search_more a.views.now a.need a.low at.i at.best at.invariant.1 in
-    (omega arith, subst (λ (b : ℕ). Searched a.views.now a.need a.low (at.i + 1) b) (sym c.raised-best.ensures) next)
+    let at = c.loop-w in
+    let next = search_more a.views.now a.need a.low at.w-index at.best at.invariant.1 in
+    (omega arith, subst (λ (b : ℕ). Searched a.views.now a.need a.low (at.w-index + 1) b) (sym c.raised-best.ensures) next)
 
 pub returns : goal.returns
 returns c =
     let a = c.args in
-    let at = c.loop-i in
-    let all : at.i ≡ length a.views.now = omega arith in
-    search_done a.views.now a.need a.low at.i at.best at.invariant.1 c.requires.1 all
+    let at = c.loop-w in
+    let all : at.w-index ≡ length a.views.now = omega arith in
+    search_done a.views.now a.need a.low at.w-index at.best at.invariant.1 c.requires.1 all

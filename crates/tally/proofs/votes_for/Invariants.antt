@@ -1,6 +1,6 @@
 -- `tally::votes_for` meets its contract. The invariant: the votes passed are counted.
 -- Assumes nothing.
-use Prim.Native.Nat.{◌-◌, ◌≤◌}
+use Prim.Native.Nat.{◌≤◌}
 use mathlib.Core.Path.{◌≡◌}
 use Rattle.tally.specs.inside.Votes.{row_votes}
 use Rattle.tally.proofs.Votes.{tally}
@@ -8,6 +8,3 @@ use Rattle.tally.proofs.votes_for.Given as goal
 
 abbrev pub invariant-loop-j : goal.invariant-loop-j
 invariant-loop-j l = (l.j ≤ l.n) × (l.count ≤ l.j) × (l.count ≡ tally (row_votes l.block l.v l.from) l.p l.j)
-
-abbrev pub decreases-loop-j : goal.decreases-loop-j
-decreases-loop-j l = l.n - l.j

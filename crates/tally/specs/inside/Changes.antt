@@ -39,9 +39,9 @@ pub record Gathered (change : ℕ → Option ℕ) (n need low : ℕ) (views : Li
   pub most : count ≤ n
   pub same : (w : ℕ) → low < w → leb need (asking views count w) ≡ enough change n need w
 
--- The highest view so far, once the one at place i is tried: it is above that, and enough ask for it.
-unfoldable pub raised_at : List ℕ → ℕ → ℕ → ℕ → ℕ
-raised_at views i need best = cond (ltb best (get_or views i 0) && leb need (asking views (length views) (get_or views i 0))) (get_or views i 0) best
+-- The highest view so far, once w is tried: it is above that, and enough ask for it.
+unfoldable pub raised_to : List ℕ → ℕ → ℕ → ℕ → ℕ
+raised_to views w need best = cond (ltb best w && leb need (asking views (length views) w)) w best
 
 -- 'Take the highest ..': the highest view above low that passes a test, low where there is none.
 pub record Highest (test : ℕ → Bool) (low best : ℕ) : Type 0 where
