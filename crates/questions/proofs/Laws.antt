@@ -2,6 +2,7 @@
 -- Assumes nothing.
 use Prim.Native.Nat.{ℕ, ◌*◌}
 use mathlib.Core.Path.{◌≡◌, refl, sym, ap, ◌∙◌}
+use mathlib.Core.Bool.{true≢false}
 use mathlib.Core.List.{List}
 use borrow.Author.Tests.{eq-eqb, ne_eqb}
 use Rattle.frame.specs.declared.Report.{Report}
@@ -10,10 +11,13 @@ use Rattle.settings.specs.Settings.{delay_of}
 use Rattle.record.specs.Slots.{decision_slot}
 use Rattle.record.specs.Layout.{decode_record}
 use Rattle.sound.specs.declared.Lent.{Lent}
-use Rattle.sound.specs.inside.Sound.{lent_is}
+use Rattle.sound.specs.declared.Lent.TheVariants.{Blank, Unsound, Sound}
+use Rattle.sound.specs.inside.Sound.{lent_refusal, lent_is}
 use Rattle.protocol.specs.Record.{reported}
 use Rattle.contents.specs.Contents.{contents, contents_in}
-use Rattle.std.specs.Prelude.{Option, Some, None}
+use Rattle.std.specs.Prelude.{Option, Some, None, Result, Ok, Err, is_ok}
+use Rattle.frame.specs.declared.Refusal.{Refusal}
+use Rattle.frame.specs.declared.Refusal.TheVariants as why
 use Rattle.questions.specs.declared.Current.{Current}
 use Rattle.questions.specs.declared.Decision.{Decision}
 use Rattle.questions.specs.Stored.{entered_by, current_by, current_of, made_by, decision_by, decision_of}
@@ -27,6 +31,41 @@ current_is rec l e = ap (λ (k : Lent). current_by k (contents_in rec)) (sym e)
 pub decision_is : (rec : List ℕ) (l : Lent) → lent_is rec ≡ l → decision_by l (contents_in rec) ≡ decision_of rec
 unfolding decision_of
 decision_is rec l e = ap (λ (k : Lent). decision_by k (contents_in rec)) (sym e)
+
+-- Which refusal an answer gives, one where it gives none.
+abbrev why_in : Result Unit Refusal → Refusal
+why_in (Ok x) = why.Blank
+why_in (Err w) = w
+
+-- Equal answers give the same refusal.
+why_is : {v w : Refusal} → Err v ≡ Err w → v ≡ w
+why_is e = ap why_in e
+
+-- Lent bytes that give no refusal are a sound record.
+pub sound_lent : (l : Lent) (x : Unit) → Ok x ≡ lent_refusal l → l ≡ Sound
+sound_lent Blank x e = absurd (true≢false (ap is_ok e))
+sound_lent Unsound x e = absurd (true≢false (ap is_ok e))
+sound_lent Sound x e = refl
+
+-- Where they give one, that is the answer on the view,
+pub unsound_current : (rec : List ℕ) (why : Refusal) → Err why ≡ lent_refusal (lent_is rec) → Err why ≡ current_of rec
+unfolding current_of
+unsound_current rec why e = go (lent_is rec) e
+  where
+    go : (l : Lent) → Err why ≡ lent_refusal l → Err why ≡ current_by l (contents_in rec)
+    go Blank e = ap (λ (w : Refusal). Err w) (why_is e)
+    go Unsound e = ap (λ (w : Refusal). Err w) (why_is e)
+    go Sound e = absurd (true≢false (sym (ap is_ok e)))
+
+-- and on the decision.
+pub unsound_decision : (rec : List ℕ) (why : Refusal) → Err why ≡ lent_refusal (lent_is rec) → Err why ≡ decision_of rec
+unfolding decision_of
+unsound_decision rec why e = go (lent_is rec) e
+  where
+    go : (l : Lent) → Err why ≡ lent_refusal l → Err why ≡ decision_by l (contents_in rec)
+    go Blank e = ap (λ (w : Refusal). Err w) (why_is e)
+    go Unsound e = ap (λ (w : Refusal). Err w) (why_is e)
+    go Sound e = absurd (true≢false (sym (ap is_ok e)))
 
 -- The contents' view and class are those of the bytes.
 pub entered_is : (rec : List ℕ) (set : Settings) (c : Current) → set ≡ (decode_record rec).set → c.view ≡ (decode_record rec).view

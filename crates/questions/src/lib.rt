@@ -61,11 +61,11 @@ fn made(rec: &[u8]) -> Option<Decision>
 }
 
 // The decision of lent bytes: any bytes, of any length.
-pub fn decision_of(rec: &[u8]) -> Result<Option<Decision>, Refusal>
-    ensures { result ≡ decision_of rec.now }
+pub fn decision_of(bytes: &[u8]) -> Result<Option<Decision>, Refusal>
+    ensures { result ≡ decision_of bytes.now }
 {
-    sound::lent_refusal(rec)?;
-    Ok(made(rec))
+    sound::lent_refusal(bytes)?;
+    Ok(made(bytes))
 }
 
 // ---- sentences

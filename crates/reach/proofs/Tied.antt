@@ -6,7 +6,9 @@ use mathlib.Core.Path.{◌≡◌}
 use mathlib.Core.List.{List}
 use contract.Lifetimes.{Lfts}
 use denote.Ref.{Bor}
-use Rattle.reach.specs.Call.{claim_reach}
+use Rattle.std.specs.Prelude.{Result}
+use Rattle.frame.specs.declared.Refusal.{Refusal}
+use Rattle.reach.specs.Call.{reached, claim_reach}
 use Rattle.reach.proofs.claim_reach.Reads as of_reach
 
 -- The call asks for nothing of what it is lent.
@@ -14,5 +16,5 @@ reach_takes : (κs : Lfts 1) (s : Bor (List ℕ)) (p : ℕ) → of_reach.Asked �
 reach_takes κs s p = tt
 
 -- What its caller learns: the answer.
-reach_said : (κs : Lfts 1) (s : Bor (List ℕ)) (p : ℕ) (a : Reach) → of_reach.Learnt κs (s, (p, tt)) a (s, (p, tt)) → a ≡ claim_reach s.now p
+reach_said : (κs : Lfts 1) (s : Bor (List ℕ)) (p : ℕ) (a : Result ℕ Refusal) → of_reach.Learnt κs (s, (p, tt)) a (s, (p, tt)) → reached a ≡ claim_reach s.now p
 reach_said κs s p a learnt = learnt

@@ -13,7 +13,7 @@ use borrow.Author.Tests.{lt-ltb, le-ltb, ltb-false, eq-eqb, ne_eqb}
 use Rattle.wire.specs.Fields.{Bytes}
 use Rattle.wire.specs.Placed.{placed}
 use Rattle.frame.specs.declared.Report.{Report}
-use Rattle.frame.specs.Refusal.{row, first}
+use Rattle.frame.specs.Refusal.{number_in, row, first}
 use Rattle.entry.specs.declared.Entry.{Entry}
 use Rattle.entry.specs.declared.Entry.TheVariants.{Timer}
 use Rattle.entry.specs.Layout.{entry_bytes, layout}
@@ -29,7 +29,7 @@ use Rattle.record.specs.inside.Layout.{HoldsRecord}
 use Rattle.record.proofs.Theorems.{encode_decode}
 use Rattle.sound.specs.declared.Lent.{Lent}
 use Rattle.sound.specs.declared.Lent.TheVariants.{Blank, Unsound, Sound}
-use Rattle.sound.specs.inside.Sound.{sound, lent_is}
+use Rattle.sound.specs.inside.Sound.{sound, lent_refusal, lent_is}
 use Rattle.sound.proofs.Laws.{sound_settings, lent_length, lent_blank, lent_other}
 use Rattle.contents.specs.Left.{Left, wrote, gave}
 use Rattle.own.specs.Size.{remnant_size}
@@ -120,6 +120,12 @@ none_first true lent none = absurd (omega (arith, none))
 none_first false Blank none = absurd (omega (arith, none))
 none_first false Unsound none = absurd (omega (arith, none))
 none_first false Sound none = (refl, refl)
+
+-- The number of the refusal that lent bytes give.
+pub lent_number : (l : Lent) → number_in (lent_refusal l) ≡ first (row 2 (is_blank l) ∷ row 3 (not (is_sound l)) ∷ [])
+lent_number Blank = refl
+lent_number Unsound = refl
+lent_number Sound = refl
 
 module _ (rec : List ℕ) where
   -- The refusal, by the space and by what the record is.

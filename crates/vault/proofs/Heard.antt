@@ -18,7 +18,6 @@ use Rattle.frame.specs.declared.Frame.{Frame}
 use Rattle.frame.specs.Refusal.{Reading, Accepted, Refused}
 use Rattle.frame.specs.Valid.{fits}
 use Rattle.frame.specs.Refusal.{first, present, link_rows, read_frame}
-use Rattle.frame.specs.inside.Reading.{refusal_of}
 use Rattle.frame.proofs.Laws.{neither}
 use Rattle.settings.specs.declared.Settings.{Settings}
 use Rattle.record.specs.Slots as slots
@@ -204,11 +203,10 @@ module _ (rec bytes : List ℕ) (link : ℕ) (out : List ℕ) where
         ap (λ (y : Reading). left_after rec out (answer (some (contents_in rec)) (frame y))) reads ∙ called_lent 3 rec out (frame reading) room Sound sound
 
     -- 'Each gives its number, .. record and output unchanged': the reader's refusal is passed on.
-    pub read_refused : (j k : ℕ) → x ≡ Refused j → k ≡ refusal_of x → gave k rec out ≡ frame_left rec link bytes out
+    pub read_refused : (k : ℕ) → x ≡ Refused k → gave k rec out ≡ frame_left rec link bytes out
     unfolding answer
-    read_refused j k e number =
-        ap (λ (i : ℕ). gave i rec out) (number ∙ ap refusal_of e)
-        ∙ ap (λ (y : Reading). left_after rec out (answer (some (contents_in rec)) (frame y))) (sym e) ∙ frame_answered
+    read_refused k e =
+        ap (λ (y : Reading). left_after rec out (answer (some (contents_in rec)) (frame y))) (sym e) ∙ frame_answered
 
     -- An accepted frame goes on against the record.
     pub read_accepted : (f : Frame) → x ≡ Accepted f → read_left rec f out ≡ frame_left rec link bytes out

@@ -12,10 +12,11 @@ use lib.Dec.{ltb}
 use borrow.Author.Tests.{lt-ltb, le-ltb, ltb-false}
 use Rattle.wire.specs.Fields.{Bytes}
 use Rattle.entry.specs.Layout.{layout}
+use Rattle.frame.specs.Refusal.{number_in}
 use Rattle.record.specs.Layout.{encode_record, decode_record}
 use Rattle.sound.specs.declared.Lent.{Lent}
 use Rattle.sound.specs.declared.Lent.TheVariants.{Blank, Unsound, Sound}
-use Rattle.sound.specs.inside.Sound.{lent_is}
+use Rattle.sound.specs.inside.Sound.{lent_refusal, lent_is}
 use Rattle.protocol.specs.Record.{Record}
 use Rattle.protocol.specs.Pass.{Out}
 use Rattle.protocol.specs.Calls.{Call, unless, refused, accepted, answer}
@@ -67,6 +68,12 @@ module _ (k : ℕ) (rec out : List ℕ) (a : Call) where
   called_lent room l e = sym (rw (le-ltb (length out) 256 room, e))
 
 -- ---- the way in, of a frame and of a timer
+
+-- The number of the refusal that lent bytes give.
+pub lent_number : (l : Lent) → number_in (lent_refusal l) ≡ by_lent l
+lent_number Blank = refl
+lent_number Unsound = refl
+lent_number Sound = refl
 
 module _ (rec : List ℕ) (room : ℕ) where
   -- Output space below 256 bytes: 1.

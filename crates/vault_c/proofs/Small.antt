@@ -23,8 +23,8 @@ use Rattle.frame.specs.Refusal.{read_frame}
 use Rattle.protocol.specs.Record.{Record}
 use Rattle.protocol.specs.Calls.{Call, start, frame, timer, Answer, refused, accepted, answer}
 use Rattle.protocol.proofs.Size.{output_short}
-use Rattle.vault.specs.declared.Answer.{Answer as Given}
-use Rattle.vault.specs.declared.Answer.TheVariants.{Written, Refused}
+use Rattle.std.specs.Prelude.{Result, Ok, Err}
+use Rattle.frame.specs.declared.Refusal as frames
 use Rattle.vault.specs.Answers.{left_by}
 use Rattle.equivocation.specs.Call.{equivocators_left}
 use Rattle.equivocation.proofs.Sentences.{named_rise}
@@ -91,12 +91,12 @@ Fits (wrote count rec out) = count ≤ 256
 Fits (gave number rec out) = Unit {0}
 
 -- The answer of such a call is short.
-pub short_fits : (a : Given) (rec out : List ℕ) (l : Left) → left_by a rec out ≡ l → Fits l → Short a
-short_fits (Written count) rec out l e h = subst Fits (sym e) h
-short_fits (Refused number) rec out l e h = tt
+pub short_fits : (a : Result ℕ frames.Refusal) (rec out : List ℕ) (l : Left) → left_by a rec out ≡ l → Fits l → Short a
+short_fits (Ok count) rec out l e h = subst Fits (sym e) h
+short_fits (Err why) rec out l e h = tt
 
 -- So is that of a call that leaves little.
-pub short_by : (a : Given) (rec out : List ℕ) (l : Left) → left_by a rec out ≡ l → Small l → Short a
+pub short_by : (a : Result ℕ frames.Refusal) (rec out : List ℕ) (l : Left) → left_by a rec out ≡ l → Small l → Short a
 short_by a rec out l e h = short_fits a rec out l e (fits l h)
   where
     fits : (l : Left) → Small l → Fits l
@@ -116,13 +116,13 @@ fits_restart rec remnant out =
     few = let whole = append-nil (entry_bytes (timer_back (restored remnant))) in rw whole (omega (arith, (entry_span (timer_back (restored remnant))).1))
 
 -- The answer of the call that names vaults is short: it names n at most.
-pub short_named : (a : Given) (records lengths out left : List ℕ) → left_by a records left ≡ equivocators_left records lengths out → Short a
-short_named (Written count) records lengths out left e =
+pub short_named : (a : Result ℕ frames.Refusal) (records lengths out left : List ℕ) → left_by a records left ≡ equivocators_left records lengths out → Short a
+short_named (Ok count) records lengths out left e =
     let few = named_rise records lengths out left count (sym e) in
     omega (arith, few.0, few.1)
-short_named (Refused number) records lengths out left e = tt
+short_named (Err why) records lengths out left e = tt
 
 -- a host sees the number of the answer, with what the call left
-pub seen_by : (r : ℕ) (a : Given) (rec out : List ℕ) (l : Left) → r ≡ code a → left_by a rec out ≡ l → seen r rec out ≡ numbered l
-seen_by r (Written count) rec out l q e = ap (λ (k : ℕ). seen k rec out) q ∙ ap numbered e
-seen_by r (Refused number) rec out l q e = ap (λ (k : ℕ). seen k rec out) q ∙ ap numbered e
+pub seen_by : (r : ℕ) (a : Result ℕ frames.Refusal) (rec out : List ℕ) (l : Left) → r ≡ code a → left_by a rec out ≡ l → seen r rec out ≡ numbered l
+seen_by r (Ok count) rec out l q e = ap (λ (k : ℕ). seen k rec out) q ∙ ap numbered e
+seen_by r (Err why) rec out l q e = ap (λ (k : ℕ). seen k rec out) q ∙ ap numbered e

@@ -35,8 +35,8 @@ first_settings-set-requires c =
     let (long, least, most) = fits_hold a.records.now a.lengths.now (not-true _ (on c.collected.ensures c.if-not-collected.false)) in
     omega (arith, long, least)
 
-pub name_all-count-requires : goal.name_all-count-requires
-name_all-count-requires c =
+pub name_all-requires : goal.name_all-requires
+name_all-requires c =
     let first = c.first_settings-set.ensures in
     let a = c.args in
     let (long, least, most) = fits_hold a.records.now a.lengths.now (not-true _ (on c.collected.ensures c.if-not-collected.false)) in
@@ -50,4 +50,4 @@ returns c =
     let good = not-true _ (on c.collected.ensures c.if-not-collected.false) in
     let first = c.first_settings-set.ensures in
     let names = ap (λ (set : Settings). rising (twice_in records (length lengths)) set.n) first ∙ sym (named_is records lengths good) in
-    names_left records lengths a.out.now _ _ c.if-out-lt-ROOM.false good (put_as names c.name_all-count.ensures)
+    names_left records lengths a.out.now _ _ c.if-out-lt-ROOM.false good (put_as names c.name_all.ensures)

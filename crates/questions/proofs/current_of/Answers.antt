@@ -1,21 +1,22 @@
--- `stored::current_of` meets its contract: by what the lent bytes are, a refusal or the view of a sound record.
+-- `questions::current_of` meets its contract: by what the lent bytes are, a refusal or what a sound record tells.
 -- Assumes nothing.
-use mathlib.Core.Path.{sym, ◌∙◌}
-use Rattle.sound.specs.declared.Lent.TheVariants.{Blank, Unsound, Sound}
-use Rattle.questions.proofs.Laws.{current_is}
+use mathlib.Core.Path.{◌≡◌, ap, ◌∙◌}
+use borrow.Author.Rules.{rules}
+use Rattle.std.specs.Prelude.{Ok, Err}
+use Rattle.sound.specs.declared.Lent.TheVariants.{Sound}
+use Rattle.sound.specs.inside.Sound.{lent_is}
+use Rattle.questions.proofs.Laws.{unsound_current, sound_lent, current_is}
 use Rattle.questions.proofs.current_of.Goals as goal
 
 pub entered-requires : goal.entered-requires
-entered-requires c = sym c.classify-lent.ensures ∙ c.in-Sound.is
+entered-requires c = sound_lent (lent_is c.args.rec.now) _ c.in_ok-lent_refusal.ensures
 
-pub returns-in-Blank : goal.returns-in-Blank
-returns-in-Blank c =
-    current_is c.args.rec.now Blank (sym c.classify-lent.ensures ∙ c.in-Blank.is)
+pub returns-in_err-lent_refusal : goal.returns-in_err-lent_refusal
+returns-in_err-lent_refusal c =
+    let is : c.from_residual.result ≡ Err c.in_err-lent_refusal.field-0.0 = search rules in
+    rw is (unsound_current c.args.rec.now _ c.in_err-lent_refusal.ensures)
 
-pub returns-in-Unsound : goal.returns-in-Unsound
-returns-in-Unsound c =
-    current_is c.args.rec.now Unsound (sym c.classify-lent.ensures ∙ c.in-Unsound.is)
-
-pub returns-in-Sound : goal.returns-in-Sound
-returns-in-Sound c =
-    c.entered.ensures ∙ current_is c.args.rec.now Sound (sym c.classify-lent.ensures ∙ c.in-Sound.is)
+pub returns : goal.returns
+returns c =
+    let is = sound_lent (lent_is c.args.rec.now) _ c.in_ok-lent_refusal.ensures in
+    ap (λ x. Ok x) c.entered.ensures ∙ current_is c.args.rec.now Sound is

@@ -33,8 +33,8 @@ returns-then-not-makes_sound c =
     let blank = blank_by a.rec.now c.if-rec-ne-SIZE.false c.settings_of-held.ensures c.if-held-ne0.false in
     remnant_unsound a.rec.now a.remnant.now a.out.now c.if-out-lt-ROOM.false blank c.if-remnant-ne-SIZE.false (off c.makes_sound.ensures c.if-not-makes_sound.true)
 
-pub come_back-count-requires : goal.come_back-count-requires
-come_back-count-requires c =
+pub come_back-requires : goal.come_back-requires
+come_back-requires c =
     let a = c.args in
     let fitting : Fitting a.remnant.now c.settings_in-set.result = record {
       size = c.if-remnant-ne-SIZE.false;
@@ -47,5 +47,5 @@ pub returns : goal.returns
 returns c =
     let a = c.args in
     let blank = blank_by a.rec.now c.if-rec-ne-SIZE.false c.settings_of-held.ensures c.if-held-ne0.false in
-    c.come_back-count.ensures
+    c.come_back.ensures
     ∙ remnant_taken a.rec.now a.remnant.now a.out.now c.if-out-lt-ROOM.false blank c.if-remnant-ne-SIZE.false (on c.makes_sound.ensures c.if-not-makes_sound.false)

@@ -1,8 +1,9 @@
 -- `remnant::write_refusal` meets its contract: by the space, then by what the record is.
 -- Assumes nothing.
-use mathlib.Core.Path.{◌∙◌, sym}
-use Rattle.sound.specs.declared.Lent.TheVariants.{Blank, Unsound, Sound}
-use Rattle.remnant.proofs.Laws.{write_short, write_lent}
+use mathlib.Core.Path.{◌∙◌, refl, ap}
+use Rattle.frame.specs.Refusal.{number_in}
+use Rattle.sound.specs.inside.Sound.{lent_is}
+use Rattle.remnant.proofs.Laws.{write_short, write_lent, lent_number}
 use Rattle.remnant.proofs.write_refusal.Goals as goal
 
 pub returns-then-room-lt-SIZE : goal.returns-then-room-lt-SIZE
@@ -10,17 +11,7 @@ returns-then-room-lt-SIZE c =
     let a = c.args in
     write_short a.rec.now a.room c.if-room-lt-SIZE.true
 
-pub returns-in-Blank : goal.returns-in-Blank
-returns-in-Blank c =
+pub returns : goal.returns
+returns c =
     let a = c.args in
-    write_lent a.rec.now a.room c.if-room-lt-SIZE.false Blank (sym c.classify-lent.ensures ∙ c.in-Blank.is)
-
-pub returns-in-Unsound : goal.returns-in-Unsound
-returns-in-Unsound c =
-    let a = c.args in
-    write_lent a.rec.now a.room c.if-room-lt-SIZE.false Unsound (sym c.classify-lent.ensures ∙ c.in-Unsound.is)
-
-pub returns-in-Sound : goal.returns-in-Sound
-returns-in-Sound c =
-    let a = c.args in
-    write_lent a.rec.now a.room c.if-room-lt-SIZE.false Sound (sym c.classify-lent.ensures ∙ c.in-Sound.is)
+    ap number_in c.lent_refusal.ensures ∙ lent_number (lent_is a.rec.now) ∙ write_lent a.rec.now a.room c.if-room-lt-SIZE.false (lent_is a.rec.now) refl

@@ -1,16 +1,21 @@
 -- `vault::frame` meets its contract: by the way in.
 -- Assumes nothing.
+use mathlib.Core.Path.{◌≡◌, refl}
+use borrow.Author.Rules.{rules}
+use Rattle.std.specs.Prelude.{Err}
+use Rattle.frame.proofs.Laws.{numbered}
 use Rattle.vault.proofs.Laws.{way_open}
 use Rattle.vault.proofs.Heard.{frame_refused}
 use Rattle.vault.proofs.frame.Goals as goal
 
-pub returns-then-why-ne0 : goal.returns-then-why-ne0
-returns-then-why-ne0 c =
+pub returns-in_err-way_in : goal.returns-in_err-way_in
+returns-in_err-way_in c =
     let rec = c.args.rec.now in
     let out = c.args.out.now in
-    frame_refused rec c.args.sender c.args.bytes.now out c.way_in-why.result c.way_in-why.ensures c.if-why-ne0.true
+    let is : c.from_residual.result ≡ Err c.in_err-way_in.field-0.0 = search rules in
+    rw is (frame_refused rec c.args.sender c.args.bytes.now out _ c.in_err-way_in.ensures (numbered _))
 
 pub frame_in-requires : goal.frame_in-requires
 frame_in-requires c =
     let a = c.args in
-    way_open a.rec.now a.out.now _ c.way_in-why.ensures c.if-why-ne0.false
+    way_open a.rec.now a.out.now 0 c.in_ok-way_in.ensures refl

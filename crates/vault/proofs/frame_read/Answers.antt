@@ -1,32 +1,36 @@
 -- `vault::frame_read` meets its contract: by rows 16 and 17.
 -- Assumes nothing.
-use mathlib.Core.Path.{◌∙◌}
+use mathlib.Core.Path.{◌≡◌, refl, ◌∙◌}
+use borrow.Author.Rules.{rules}
+use Rattle.std.specs.Prelude.{Err}
+use Rattle.frame.proofs.Laws.{numbered}
 use Rattle.protocol.specs.Calls.{heard}
 use Rattle.contents.specs.Contents.{contents_in}
 use Rattle.vault.proofs.Laws.{accepted_left}
 use Rattle.vault.proofs.Heard.{place_of, rows_pass, rows_refused, rows_accepted}
 use Rattle.vault.proofs.frame_read.Goals as goal
 
-pub keep_refusal-why-requires : goal.keep_refusal-why-requires
-keep_refusal-why-requires c = (place_of c.requires.0, c.requires.0.held.ready.size)
+pub keep_refusal-requires : goal.keep_refusal-requires
+keep_refusal-requires c = (place_of c.requires.0, c.requires.0.held.ready.size)
 
-pub returns-then-why-ne0 : goal.returns-then-why-ne0
-returns-then-why-ne0 c =
+pub returns-in_err-keep_refusal : goal.returns-in_err-keep_refusal
+returns-in_err-keep_refusal c =
     let out = c.args.out.now in
-    rows_refused c.requires.0
-    c.view_of-view.result c.view_of-view.ensures c.keep_refusal-why.result c.keep_refusal-why.ensures out c.if-why-ne0.true
+    let is : c.from_residual.result ≡ Err c.in_err-keep_refusal.field-0.0 = search rules in
+    rw is (rows_refused c.requires.0
+    c.view_of-view.result c.view_of-view.ensures _ c.in_err-keep_refusal.ensures out (numbered _))
 
-pub hear-heard-requires : goal.hear-heard-requires
-hear-heard-requires c =
+pub hear-requires : goal.hear-requires
+hear-requires c =
     let passed = rows_pass c.requires.0
-    c.view_of-view.result c.view_of-view.ensures c.keep_refusal-why.result c.keep_refusal-why.ensures c.if-why-ne0.false in
+    c.view_of-view.result c.view_of-view.ensures 0 c.in_ok-keep_refusal.ensures refl in
     (c.requires.0, passed, c.requires.1)
 
 pub returns : goal.returns
 returns c =
     let rec = c.args.rec.now in
     let out = c.args.out.now in
-    accepted_left (heard (contents_in rec) c.args.f) rec c.hear-heard.new.rec out c.hear-heard.new.out c.hear-heard.result
-    (λ i. (c.type_inv.rec i).fits) c.hear-heard.ensures
+    accepted_left (heard (contents_in rec) c.args.f) rec c.hear.new.rec out c.hear.new.out c.hear.result
+    (λ i. (c.type_inv.rec i).fits) c.hear.ensures
     ∙ rows_accepted c.requires.0
-    c.view_of-view.result c.view_of-view.ensures c.keep_refusal-why.result c.keep_refusal-why.ensures out c.if-why-ne0.false
+    c.view_of-view.result c.view_of-view.ensures 0 c.in_ok-keep_refusal.ensures out refl

@@ -1,6 +1,9 @@
 -- `vault::start` meets its contract: by the output, the record's length and its n, and the settings.
 -- Assumes nothing.
 use mathlib.Core.Path.{◌≡◌, sym, ◌∙◌, ap}
+use borrow.Author.Rules.{rules}
+use Rattle.std.specs.Prelude.{Err}
+use Rattle.frame.proofs.Laws.{numbered}
 use Rattle.settings.specs.declared.Settings.{Settings}
 use Rattle.record.specs.Layout.{decode_record}
 use Rattle.protocol.specs.Calls.{started}
@@ -27,20 +30,21 @@ returns-then-held-ne0 c =
     let is : c.settings_of-held.result.n ≡ (decode_record rec).set.n = ap (λ (x : Settings). x.n) c.settings_of-held.ensures in
     start_held rec c.args.set c.args.plan out c.if-out-lt-ROOM.false c.if-rec-ne-SIZE.false (λ (e : (decode_record rec).set.n ≡ 0). c.if-held-ne0.true (is ∙ e))
 
-pub returns-then-why-ne0 : goal.returns-then-why-ne0
-returns-then-why-ne0 c =
+pub returns-in_err-settings_refusal : goal.returns-in_err-settings_refusal
+returns-in_err-settings_refusal c =
     let rec = c.args.rec.now in
     let out = c.args.out.now in
+    let answer : c.from_residual.result ≡ Err c.in_err-settings_refusal.field-0.0 = search rules in
     let is : c.settings_of-held.result.n ≡ (decode_record rec).set.n = ap (λ (x : Settings). x.n) c.settings_of-held.ensures in
-    start_refused rec c.args.set c.args.plan out c.if-out-lt-ROOM.false c.if-rec-ne-SIZE.false (sym is ∙ c.if-held-ne0.false)
-    c.settings_refusal-why.result c.settings_refusal-why.ensures c.if-why-ne0.true
+    rw answer (start_refused rec c.args.set c.args.plan out c.if-out-lt-ROOM.false c.if-rec-ne-SIZE.false (sym is ∙ c.if-held-ne0.false)
+    _ c.in_err-settings_refusal.ensures (numbered _))
 
 pub returns : goal.returns
 returns c =
     let rec = c.args.rec.now in
     let out = c.args.out.now in
     let is : c.settings_of-held.result.n ≡ (decode_record rec).set.n = ap (λ (x : Settings). x.n) c.settings_of-held.ensures in
-    accepted_left (started c.args.set c.args.plan) rec c.begin-begun.new.rec out c.begin-begun.new.out c.begin-begun.result
-    (λ i. (c.type_inv.rec i).fits) c.begin-begun.ensures
+    accepted_left (started c.args.set c.args.plan) rec c.begin.new.rec out c.begin.new.out c.begin.result
+    (λ i. (c.type_inv.rec i).fits) c.begin.ensures
     ∙ start_accepted rec c.args.set c.args.plan out c.if-out-lt-ROOM.false c.if-rec-ne-SIZE.false (sym is ∙ c.if-held-ne0.false)
-    (sym c.settings_refusal-why.ensures ∙ c.if-why-ne0.false)
+    (sym c.in_ok-settings_refusal.ensures)

@@ -1,8 +1,9 @@
 -- `vault::way_in` meets its contract: by the output's space, then by what the record is.
 -- Assumes nothing.
-use mathlib.Core.Path.{◌∙◌, sym}
-use Rattle.sound.specs.declared.Lent.TheVariants.{Blank, Unsound, Sound}
-use Rattle.vault.proofs.Laws.{way_short, way_lent}
+use mathlib.Core.Path.{◌∙◌, refl, ap}
+use Rattle.frame.specs.Refusal.{number_in}
+use Rattle.sound.specs.inside.Sound.{lent_is}
+use Rattle.vault.proofs.Laws.{way_short, way_lent, lent_number}
 use Rattle.vault.proofs.way_in.Goals as goal
 
 pub returns-then-room-lt-ROOM : goal.returns-then-room-lt-ROOM
@@ -10,17 +11,7 @@ returns-then-room-lt-ROOM c =
     let rec = c.args.rec.now in
     way_short rec c.args.room c.if-room-lt-ROOM.true
 
-pub returns-in-Blank : goal.returns-in-Blank
-returns-in-Blank c =
+pub returns : goal.returns
+returns c =
     let rec = c.args.rec.now in
-    way_lent rec c.args.room c.if-room-lt-ROOM.false Blank (sym c.classify-lent.ensures ∙ c.in-Blank.is)
-
-pub returns-in-Unsound : goal.returns-in-Unsound
-returns-in-Unsound c =
-    let rec = c.args.rec.now in
-    way_lent rec c.args.room c.if-room-lt-ROOM.false Unsound (sym c.classify-lent.ensures ∙ c.in-Unsound.is)
-
-pub returns-in-Sound : goal.returns-in-Sound
-returns-in-Sound c =
-    let rec = c.args.rec.now in
-    way_lent rec c.args.room c.if-room-lt-ROOM.false Sound (sym c.classify-lent.ensures ∙ c.in-Sound.is)
+    ap number_in c.lent_refusal.ensures ∙ lent_number (lent_is rec) ∙ way_lent rec c.args.room c.if-room-lt-ROOM.false (lent_is rec) refl

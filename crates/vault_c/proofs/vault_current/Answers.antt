@@ -8,13 +8,13 @@ use Rattle.vault_c.proofs.vault_current.Goals as goal
 pub returns-then-out-lt2 : goal.returns-then-out-lt2
 returns-then-out-lt2 c = no_room c.args.out.now _ c.if-out-lt2.true
 
-pub returns-in-Entered : goal.returns-in-Entered
-returns-in-Entered c =
+pub returns-in_ok-current : goal.returns-in_ok-current
+returns-in_ok-current c =
     let out = c.args.out.now in
-    current_told out _ _ _ c.if-out-lt2.false (sym c.in-Entered.is ∙ c.current_of-current.ensures)
+    current_told out _ _ _ c.if-out-lt2.false (sym c.in_ok-current.is ∙ c.current_of.ensures)
     (ap (told 256) (two_set out _ _ c.if-out-lt2.false))
 
-pub returns-in-Refused : goal.returns-in-Refused
-returns-in-Refused c =
+pub returns-in_err-why : goal.returns-in_err-why
+returns-in_err-why c =
     let out = c.args.out.now in
-    current_told out _ _ _ c.if-out-lt2.false (sym c.in-Refused.is ∙ c.current_of-current.ensures) refl
+    current_told out _ _ _ c.if-out-lt2.false (sym c.in_err-why.is ∙ c.current_of.ensures) refl

@@ -8,18 +8,18 @@ use Rattle.vault_c.proofs.vault_decision.Goals as goal
 pub returns-then-out-lt2 : goal.returns-then-out-lt2
 returns-then-out-lt2 c = no_room c.args.out.now _ c.if-out-lt2.true
 
-pub returns-in-Made : goal.returns-in-Made
-returns-in-Made c =
+pub returns-in_ok-Some-decision : goal.returns-in_ok-Some-decision
+returns-in_ok-Some-decision c =
     let out = c.args.out.now in
-    decision_told out _ _ _ c.if-out-lt2.false (sym c.in-Made.is ∙ c.decision_of-decision.ensures)
+    decision_told out _ _ _ c.if-out-lt2.false (sym c.in_ok-Some-decision.is ∙ c.decision_of.ensures)
     (ap (told 257) (two_set out _ _ c.if-out-lt2.false))
 
-pub returns-in-Open : goal.returns-in-Open
-returns-in-Open c =
+pub returns-in_ok-None : goal.returns-in_ok-None
+returns-in_ok-None c =
     let out = c.args.out.now in
-    decision_told out _ _ _ c.if-out-lt2.false (sym c.in-Open.is ∙ c.decision_of-decision.ensures) refl
+    decision_told out _ _ _ c.if-out-lt2.false (sym c.in_ok-None.is ∙ c.decision_of.ensures) refl
 
-pub returns-in-Refused : goal.returns-in-Refused
-returns-in-Refused c =
+pub returns-in_err-why : goal.returns-in_err-why
+returns-in_err-why c =
     let out = c.args.out.now in
-    decision_told out _ _ _ c.if-out-lt2.false (sym c.in-Refused.is ∙ c.decision_of-decision.ensures) refl
+    decision_told out _ _ _ c.if-out-lt2.false (sym c.in_err-why.is ∙ c.decision_of.ensures) refl
