@@ -38,7 +38,7 @@ why_in (Ok x) = why.Blank
 why_in (Err w) = w
 
 -- Equal answers give the same refusal.
-why_is : {v w : Refusal} → Err v ≡ Err w → v ≡ w
+why_is : {v w : Refusal} → ◌≡◌ {A = Result Unit Refusal} (Err v) (Err w) → v ≡ w
 why_is e = ap why_in e
 
 -- Lent bytes that give no refusal are a sound record.

@@ -29,8 +29,6 @@ copy_slot-requires c = (
       (arith, c.place_of.ensures.1, c.requires.2, c.loop-t.invariant.1),
 )
 
-pub overflow_add-t : goal.overflow_add-t
-overflow_add-t c = omega (arith, c.loop-t-test.true)
 
 pub loop-t-smaller : goal.loop-t-smaller
 loop-t-smaller c = omega (arith, c.loop-t-test.true)

@@ -12,5 +12,5 @@ view_of-requires c = size_sound c.args.rec.now c.requires
 
 pub returns : goal.returns
 returns c =
-    entered_is c.args.rec.now c.settings_of-set.result c.view_of.result c.timer_millis.result
+    entered_is c.args.rec.now c.settings_of-set.result _
     c.settings_of-set.ensures c.view_of.ensures c.timer_millis.ensures
