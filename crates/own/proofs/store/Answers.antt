@@ -25,12 +25,6 @@ store_slot-requires c =
     let p = c.requires in
     (p.long, p.row, c.loop-t-test.true, c.loop-t.invariant.1.size)
 
-pub overflow_add-t : goal.overflow_add-t
-overflow_add-t c = omega (arith, c.loop-t-test.true)
-
-pub loop-t-smaller : goal.loop-t-smaller
-loop-t-smaller c = omega (arith, c.loop-t-test.true)
-
 pub loop-t-preserved : goal.loop-t-preserved
 loop-t-preserved c =
     let i = c.loop-t.invariant in (
