@@ -13,22 +13,6 @@ use Rattle.own.proofs.load_slots.Goals as goal
 pub loop-t-init : goal.loop-t-init
 loop-t-init c = (omega arith, refl, slots_none _ _ _)
 
-pub own_slot-requires : goal.own_slot-requires
-own_slot-requires c = (omega (arith, c.requires.1), c.loop-t-test.true)
-
-pub place_of-from-requires : goal.place_of-from-requires
-place_of-from-requires c = c.own_slot.ensures.1
-
-pub place_of-requires : goal.place_of-requires
-place_of-requires c = c.loop-t-test.true
-
-pub copy-requires : goal.copy-requires
-copy-requires c = (
-  omega (arith, c.place_of-from.ensures.1, c.requires.0),
-  omega
-      (arith, c.place_of.ensures.1, c.requires.2, c.loop-t.invariant.1),
-)
-
 pub loop-t-preserved : goal.loop-t-preserved
 loop-t-preserved c =
     let own = c.own_slot.ensures in
@@ -40,9 +24,6 @@ loop-t-preserved c =
           i.2
           own.0 own.1 c.place_of-from.ensures c.place_of.ensures.0 c.copy.ensures,
     )
-
-pub shape_of-own : goal.shape_of-own
-shape_of-own c = c.loop-t.invariant.1
 
 pub returns : goal.returns
 returns c =
