@@ -1,19 +1,20 @@
 -- Laws of an own part that is read off a record and put back. Read, its bytes are the remnant of the record, since each of its parts is copied as it stands;
 -- put back, they make the record that they say with what was heard.
 -- Assumes nothing.
-use Prim.Native.Nat.{ℕ, ◌+◌, ◌*◌, ◌≤◌, ◌<◌}
+use Prim.Native.Nat.{ℕ, ◌+◌, ◌-◌, ◌*◌, ◌≤◌, ◌<◌}
 use mathlib.Core.Path.{◌≡◌, refl, sym, ap, subst, ◌∙◌}
 use mathlib.Core.List.{List, [], ◌∷◌, ◌++◌, append_assoc, append-nil}
 use native.Mathlib.Numerals.{add-one}
 use native.Mathlib.Nat.{zero-add}
 use native.Mathlib.Omega.{arith}
-use lib.ListN.{length, get_or, set, take, drop, length-append, length-drop, length-set, drop_of_length-le}
+use lib.ListN.{length, get_or, take, drop, length-append, length-drop, drop_of_length-le}
+use borrow.Rule.Slice.PartMut.{put_mid}
 use lib.Seq.{take-add, drop-drop, drop-cons, length-take-le}
 use Rattle.wire.specs.Fields.{Bytes}
 use Rattle.wire.specs.Digits.{number_at, digits}
 use Rattle.wire.specs.Placed.{placed}
 use Rattle.wire.proofs.Laws.{length_digits, number_digits, digits_number}
-use Rattle.wire.proofs.Output.{placed_none, placed_more, placed_one, placed_next, length_placed}
+use Rattle.wire.proofs.Output.{placed_none, placed_more}
 use Rattle.frame.specs.declared.Report.{Report}
 use Rattle.settings.specs.declared.Settings.{Settings}
 use Rattle.record.specs.Slots.{Record, rows, slot_count, slot_of}
@@ -31,76 +32,18 @@ use Rattle.own.proofs.Slots.{over_more, over_none}
 
 -- ---- bytes copied
 
--- Four bytes read, and then written one after the other.
-pub four_copied : (src dst : List ℕ) (from to : ℕ) → from + 4 ≤ length src → to + 4 ≤ length dst
-    → set (set (set (set dst to (get_or src from 0)) (to + 1) (get_or src (from + 1) 0)) (to + 2) (get_or src (from + 2) 0)) (to + 3) (get_or src (from + 3) 0)
-    ≡ placed dst to (take 4 (drop from src))
-four_copied src dst from to room space =
-    let a = get_or src from 0 in
-    let b = get_or src (from + 1) 0 in
-    let c = get_or src (from + 2) 0 in
-    let d = get_or src (from + 3) 0 in
-    let one : List ℕ = set dst to a in
-    let two : List ℕ = set one (to + 1) b in
-    let three : List ℕ = set two (to + 2) c in
-    let l1 : length one ≡ length dst = length-set dst to a in
-    let l2 : length two ≡ length dst = length-set one (to + 1) b ∙ l1 in
-    let l3 : length three ≡ length dst = length-set two (to + 2) c ∙ l2 in
-    let e2 : to + 1 + 1 ≡ to + 2 = omega arith in
-    let e3 : to + 2 + 1 ≡ to + 3 = omega arith in
-    placed_one three (to + 3) d (omega (arith, l3))
-    ∙ ap (λ (n : ℕ). placed three n (d ∷ [])) (sym e3) ∙ placed_next two (to + 2) c (d ∷ []) (omega (arith, l2))
-    ∙ ap (λ (n : ℕ). placed two n (c ∷ d ∷ [])) (sym e2) ∙ placed_next one (to + 1) b (c ∷ d ∷ []) (omega (arith, l1))
-    ∙ placed_next dst to a (b ∷ c ∷ d ∷ []) (omega arith)
-    ∙ ap (placed dst to) (sym four_taken)
-  where
-    next : (at : ℕ) → at < length src → drop at src ≡ get_or src at 0 ∷ drop (at + 1) src
-    next at low = drop-cons src at 0 low ∙ ap (λ (n : ℕ). get_or src at 0 ∷ drop n src) (sym (add-one at))
-
-    four_taken : take 4 (drop from src) ≡ get_or src from 0 ∷ get_or src (from + 1) 0 ∷ get_or src (from + 2) 0 ∷ get_or src (from + 3) 0 ∷ []
-    four_taken =
-        let e2 : from + 1 + 1 ≡ from + 2 = omega arith in
-        let e3 : from + 2 + 1 ≡ from + 3 = omega arith in
-        let p = next from (omega arith) in
-        let q = next (from + 1) (omega arith) ∙ ap (λ (n : ℕ). get_or src (from + 1) 0 ∷ drop n src) e2 in
-        let r = next (from + 2) (omega arith) ∙ ap (λ (n : ℕ). get_or src (from + 2) 0 ∷ drop n src) e3 in
-        let s = next (from + 3) (omega arith) in
-        ap (take 4) p ∙ (λ i. get_or src from 0 ∷ take 3 (q i)) ∙ (λ i. get_or src from 0 ∷ get_or src (from + 1) 0 ∷ take 2 (r i))
-        ∙ (λ i. get_or src from 0 ∷ get_or src (from + 1) 0 ∷ get_or src (from + 2) 0 ∷ take 1 (s i))
-
--- Bytes copied behind those that were copied before.
-pub copied_more : (src dst : List ℕ) (from to n m : ℕ) → from + n ≤ length src → to ≤ length dst
-    → placed (placed dst to (take n (drop from src))) (to + n) (take m (drop (from + n) src)) ≡ placed dst to (take (n + m) (drop from src))
-copied_more src dst from to n m room low =
-    let part : List ℕ = take n (drop from src) in
+-- Bytes written over a part of as many are put there.
+pub part_copied : (src dst : List ℕ) (from to n : ℕ) (part : List ℕ) → from + n ≤ length src → part ≡ take (from + n - from) (drop from src)
+    → put_mid to (to + n - to) dst part ≡ placed dst to (take n (drop from src))
+unfolding placed
+part_copied src dst from to n part room same =
+    let few : from + n - from ≡ n = omega arith in
     let has : n ≤ length (drop from src) = rw length-drop (omega arith) in
-    let long : length part ≡ n = length-take-le n (drop from src) has in
-    ap (λ (k : ℕ). placed (placed dst to part) (to + k) (take m (drop (from + n) src))) (sym long)
-    ∙ placed_more dst to part (take m (drop (from + n) src)) low
-    ∙ ap (placed dst to) (ap (λ (l : List ℕ). part ++ take m l) (sym (drop-drop n from src)) ∙ sym (take-add n m (drop from src)))
-
-module _ (src dst : List ℕ) (from to : ℕ) {one two : List ℕ} (first : one ≡ placed dst to (take 4 (drop from src)))
-    (second : two ≡ placed one (to + 4) (take 4 (drop (from + 4) src))) where
-  -- Twice four are a head.
-  pub head_copied : from + head_size ≤ length src → to + head_size ≤ length dst → two ≡ placed dst to (take head_size (drop from src))
-  head_copied room space =
-      second ∙ ap (λ (l : List ℕ). placed l (to + 4) (take 4 (drop (from + 4) src))) first ∙ copied_more src dst from to 4 4 (omega arith) (omega arith)
-
-  -- Three times four and one more are a slot.
-  pub slot_copied : {three : List ℕ} → three ≡ placed two (to + 8) (take 4 (drop (from + 8) src)) → from + slot_size ≤ length src → to + slot_size ≤ length dst
-      → set three (to + 12) (get_or src (from + 12) 0) ≡ placed dst to (take slot_size (drop from src))
-  slot_copied {three} third room space =
-      let twelve : List ℕ = take 12 (drop from src) in
-      let all : three ≡ placed dst to twelve =
-      third ∙ ap (λ (l : List ℕ). placed l (to + 8) (take 4 (drop (from + 8) src))) (head_copied (omega arith) (omega arith))
-      ∙ copied_more src dst from to 8 4 (omega arith) (omega arith) in
-      let has : 12 ≤ length (drop from src) = rw length-drop (omega arith) in
-      let wide : length twelve ≡ 12 = length-take-le 12 (drop from src) has in
-      let long : length three ≡ length dst = ap length all ∙ length_placed dst to twelve (omega (arith, wide)) in
-      placed_one three (to + 12) (get_or src (from + 12) 0) (omega (arith, long))
-      ∙ ap (λ (l : List ℕ). placed three (to + 12) (take 1 l)) (sym (drop-cons src (from + 12) 0 (omega arith)))
-      ∙ ap (λ (l : List ℕ). placed l (to + 12) (take 1 (drop (from + 12) src))) all
-      ∙ copied_more src dst from to 12 1 (omega arith) (omega arith)
+    let long : length (take n (drop from src)) ≡ n = length-take-le n (drop from src) has in
+    let rest : to + (to + n - to) ≡ to + length (take n (drop from src)) = omega arith in
+    let copied : part ≡ take n (drop from src) = same ∙ ap (λ (m : ℕ). take m (drop from src)) few in
+    (λ i. take to dst ++ (copied i ++ drop (to + n - to) (drop to dst)))
+    ∙ ap (λ (l : List ℕ). take to dst ++ (take n (drop from src) ++ l)) (drop-drop (to + n - to) to dst ∙ ap (λ (m : ℕ). drop m dst) rest)
 
 module _ (s : List ℕ) (bytes : Bytes s) where
   -- The thirteen bytes of a slot are those that spell what is read there.

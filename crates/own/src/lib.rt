@@ -117,39 +117,12 @@ pub fn put_view(own: &mut [u8], w: u32)
 
 // ---- off a record
 
-// Copies four bytes from a place to another. They are read before the first is written, so that the compiler moves all four at once.
-fn copy_four(src: &[u8], from: usize, dst: &mut [u8], to: usize)
-    requires { (from + 4 ≤ length src.now) × (to + 4 ≤ length dst.old) }
-    ensures { dst.new ≡ placed dst.old to (take 4 (drop from src.now)) }
+// Copies some bytes from a place to another.
+fn copy<const N: usize>(src: &[u8], from: usize, dst: &mut [u8], to: usize)
+    requires { (from + N ≤ length src.now) × (to + N ≤ length dst.old) }
+    ensures { dst.new ≡ placed dst.old to (take N (drop from src.now)) }
 {
-    let first = src[from];
-    let second = src[from + 1];
-    let third = src[from + 2];
-    let fourth = src[from + 3];
-    dst[to] = first;
-    dst[to + 1] = second;
-    dst[to + 2] = third;
-    dst[to + 3] = fourth;
-}
-
-// Copies the bytes of a slot.
-fn copy_slot(src: &[u8], from: usize, dst: &mut [u8], to: usize)
-    requires { (from + slot_size ≤ length src.now) × (to + slot_size ≤ length dst.old) }
-    ensures { dst.new ≡ placed dst.old to (take slot_size (drop from src.now)) }
-{
-    copy_four(src, from, dst, to);
-    copy_four(src, from + 4, dst, to + 4);
-    copy_four(src, from + 8, dst, to + 8);
-    dst[to + 12] = src[from + 12];
-}
-
-// Copies the bytes of a head.
-fn copy_head(src: &[u8], from: usize, dst: &mut [u8], to: usize)
-    requires { (from + head_size ≤ length src.now) × (to + head_size ≤ length dst.old) }
-    ensures { dst.new ≡ placed dst.old to (take head_size (drop from src.now)) }
-{
-    copy_four(src, from, dst, to);
-    copy_four(src, from + 4, dst, to + 4);
+    dst[to..to + N].copy_from_slice(&src[from..from + N]);
 }
 
 // Settings and current view as they stand in the record's first head, the starting plan as it stands in the second.
@@ -157,8 +130,8 @@ fn load_head(rec: &[u8], own: &mut [u8])
     requires { (length rec.now ≡ record_size) × (remnant_size ≤ length own.old) }
     ensures { own.new ≡ placed own.old 0 (head_bytes (decode_record rec.now)) }
 {
-    copy_head(rec, 0, own, 0);
-    copy_head(rec, record::SHARED, own, PLAN);
+    copy::<{ record::HEAD }>(rec, 0, own, 0);
+    copy::<{ record::HEAD }>(rec, record::SHARED, own, PLAN);
 }
 
 // The slots behind the head, one after the other.
@@ -168,7 +141,7 @@ fn load_slots(rec: &[u8], id: u8, own: &mut [u8])
 {
     for t in 0..SLOTS {
         let from = record::place_of(own_slot(id, t));
-        copy_slot(rec, from, own, place_of(t));
+        copy::<{ record::SLOT }>(rec, from, own, place_of(t));
     }
 }
 
@@ -190,7 +163,7 @@ pub fn store_slot(own: &[u8], id: u8, t: u8, rec: &mut [u8])
     ensures { HoldsRecord rec.new (with_slot (decode_record rec.old) (own_slot id t) (own_in own.now t)) }
 {
     let to = record::place_of(own_slot(id, t));
-    copy_slot(own, place_of(t), rec, to);
+    copy::<{ record::SLOT }>(own, place_of(t), rec, to);
 }
 
 // Puts an own part back: its view, and all of its slots. Settings and starting plan are there.

@@ -12,7 +12,7 @@ use Rattle.own.proofs.load_head.Goals as goal
 pub returns : goal.returns
 returns c =
     let rec = c.args.rec.now in
-    c.copy_head-2.ensures ∙ ap (λ (l : List ℕ). placed l head_size (take head_size (drop shared_size rec)))
-    c.copy_head.ensures
+    c.copy-2.ensures ∙ ap (λ (l : List ℕ). placed l head_size (take head_size (drop shared_size rec)))
+    c.copy.ensures
     ∙ head_loaded rec (λ i. (c.type_inv.rec i).fits) c.requires.0
     c.args.own.now c.requires.1

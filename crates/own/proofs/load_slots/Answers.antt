@@ -13,40 +13,17 @@ use Rattle.own.proofs.load_slots.Goals as goal
 pub loop-t-init : goal.loop-t-init
 loop-t-init c = (omega arith, refl, slots_none _ _ _)
 
-pub own_slot-requires : goal.own_slot-requires
-own_slot-requires c = (omega (arith, c.requires.1), c.loop-t-test.true)
-
-pub place_of-from-requires : goal.place_of-from-requires
-place_of-from-requires c = c.own_slot.ensures.1
-
-pub place_of-requires : goal.place_of-requires
-place_of-requires c = c.loop-t-test.true
-
-pub copy_slot-requires : goal.copy_slot-requires
-copy_slot-requires c = (
-  omega (arith, c.place_of-from.ensures.1, c.requires.0),
-  omega
-      (arith, c.place_of.ensures.1, c.requires.2, c.loop-t.invariant.1),
-)
-
-
-pub loop-t-smaller : goal.loop-t-smaller
-loop-t-smaller c = omega (arith, c.loop-t-test.true)
-
 pub loop-t-preserved : goal.loop-t-preserved
 loop-t-preserved c =
     let own = c.own_slot.ensures in
     let i = c.loop-t.invariant in (
       omega (arith, c.loop-t-test.true),
-      c.copy_slot.auto.dst ∙ i.1,
+      c.copy.auto.dst ∙ i.1,
       slots_copied c.args.own.now c.args.rec.now c.args.id _ _ c.loop-t.t
           (λ i. (c.type_inv.rec i).fits) c.requires.0 c.requires.2
           i.2
-          own.0 own.1 c.place_of-from.ensures c.place_of.ensures.0 c.copy_slot.ensures,
+          own.0 own.1 c.place_of-from.ensures c.place_of.ensures.0 c.copy.ensures,
     )
-
-pub shape_of-own : goal.shape_of-own
-shape_of-own c = c.loop-t.invariant.1
 
 pub returns : goal.returns
 returns c =

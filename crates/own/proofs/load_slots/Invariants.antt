@@ -1,6 +1,6 @@
 -- `own::load_slots` meets its contract. The invariant: the slots passed lie behind the head.
 -- Assumes nothing.
-use Prim.Native.Nat.{◌-◌, ◌≤◌}
+use Prim.Native.Nat.{◌≤◌}
 use mathlib.Core.Path.{◌≡◌}
 use lib.ListN.{length}
 use Rattle.wire.specs.Placed.{placed}
@@ -12,6 +12,3 @@ use Rattle.own.proofs.load_slots.Given as goal
 abbrev pub invariant-loop-t : goal.invariant-loop-t
 invariant-loop-t l =
     (l.t ≤ remnant_slots) × (length l.own ≡ length l.initial.own) × (l.own ≡ placed l.initial.own remnant_head (own_bytes (decode_record l.rec) l.id l.t))
-
-abbrev pub decreases-loop-t : goal.decreases-loop-t
-decreases-loop-t l = remnant_slots - l.t

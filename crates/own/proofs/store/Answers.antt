@@ -1,17 +1,11 @@
 -- `own::store` meets its contract. The invariant: the view and the slots passed are put back, and no others.
 -- Assumes nothing.
-use mathlib.Core.Path.{◌≡◌, sym, ◌∙◌}
+use mathlib.Core.Path.{◌≡◌}
 use native.Mathlib.Omega.{arith}
 use Rattle.record.specs.Layout.{decode_record}
 use Rattle.own.specs.Part.{remnant_slots}
 use Rattle.own.proofs.Stored.{stored_none, stored_next, stored_all}
 use Rattle.own.proofs.store.Goals as goal
-
-pub view_in-view-requires : goal.view_in-view-requires
-view_in-view-requires c = c.requires.long
-
-pub put_view-requires : goal.put_view-requires
-put_view-requires c = c.requires.size
 
 pub loop-t-init : goal.loop-t-init
 loop-t-init c = (
@@ -20,15 +14,6 @@ loop-t-init c = (
       c.put_view.ensures,
 )
 
-pub store_slot-requires : goal.store_slot-requires
-store_slot-requires c =
-    let p = c.requires in
-    (p.long, p.row, c.loop-t-test.true, c.loop-t.invariant.1.size)
-
-
-pub loop-t-smaller : goal.loop-t-smaller
-loop-t-smaller c = omega (arith, c.loop-t-test.true)
-
 pub loop-t-preserved : goal.loop-t-preserved
 loop-t-preserved c =
     let i = c.loop-t.invariant in (
@@ -36,9 +21,6 @@ loop-t-preserved c =
       stored_next (decode_record c.put_view.new.rec) c.args.id c.args.own.now
           c.loop-t.t i.1 c.store_slot.ensures,
     )
-
-pub shape_of-rec : goal.shape_of-rec
-shape_of-rec c = c.loop-t.invariant.1.size ∙ sym c.requires.size
 
 pub returns : goal.returns
 returns c =

@@ -10,4 +10,4 @@ returns c =
     slot_stored a.own.now a.rec.now a.id a.t
     (λ i. (c.type_inv.own i).fits) c.requires.0 c.requires.3 own.0 own.1
     c.place_of-to.ensures.0 c.place_of.ensures
-    c.copy_slot.ensures
+    c.copy.ensures
