@@ -17,8 +17,7 @@ use Rattle.runs.specs.Left.{Kept, LeavesWell}
 use Rattle.vault.specs.declared.Answer.{Answer}
 use Rattle.vault.specs.declared.Answer.TheVariants.{Written, Refused}
 use Rattle.vault.specs.Answers.{left_by}
-use Rattle.lines.specs.declared.Spelling.{Spelling}
-use Rattle.lines.specs.declared.Spelling.TheVariants.{Count, Bad}
+use Rattle.std.specs.Prelude.{Option as Counted, Some, None}
 use Rattle.lines.specs.Digits.{refusal_line, bytes_of}
 use Rattle.lines.specs.inside.Steps.{spells, spelling_count, OnPage, Enough, Answered}
 use Rattle.lines.proofs.Digits.{length_line}
@@ -116,34 +115,34 @@ share_enough rec s page at digits rec' page' next long put = go (dec_le 5 (lengt
         let (k, is) = short_refused rec zeroed s (omega arith) in
         omega (arith, put.lines.ends, ap (λ (l : Left). length (printed l)) is, length_line (253 ∷ k ∷ []))
 
-module _ (rec text page : List ℕ) (at : ℕ) (g : Spelling) (bytes : List ℕ) (is : spells g bytes ≡ bytes_of digit_limit text) where
+module _ (rec text page : List ℕ) (at : ℕ) (g : Counted ℕ) (bytes : List ℕ) (is : spells g bytes ≡ bytes_of digit_limit text) where
   -- '20 is tested before all else'.
-  pub bad_answered : g ≡ Bad → (page' : List ℕ) (next number : ℕ) → OnPage (refusal_line number) page at page' next → number ≡ 20
+  pub bad_answered : g ≡ None → (page' : List ℕ) (next number : ℕ) → OnPage (refusal_line number) page at page' next → number ≡ 20
       → Line rec text page at rec page' next
   unfolding line_left vault_lines
   bad_answered bad page' next number put is20 =
       let shown : OnPage (refusal_line 20) page at page' next = subst (λ (k : ℕ). OnPage (refusal_line k) page at page' next) is20 put in
-      let left : gave 20 rec zeroed ≡ line_left rec text = ap (spelled_left rec) (ap (λ (x : Spelling). spells x bytes) (sym bad) ∙ is) in (
+      let left : gave 20 rec zeroed ≡ line_left rec text = ap (spelled_left rec) (ap (λ (x : Counted ℕ). spells x bytes) (sym bad) ∙ is) in (
         record { left = ap record_in left; lines = subst (λ (l : Left). OnPage (printed l) page at page' next) left shown },
         omega (arith, shown.ends, length_line (253 ∷ 20 ∷ [])),
       )
 
   -- A text that spells bytes: the line leaves and prints what the call of those bytes does.
-  pub count_answered : (n : ℕ) → g ≡ Count n → (rec' page' : List ℕ) (next : ℕ)
+  pub count_answered : (n : ℕ) → g ≡ Some n → (rec' page' : List ℕ) (next : ℕ)
       → AnswerPut (call_left rec zeroed (call_of (take (n - 0) bytes))) page at rec' page' next → Line rec text page at rec' page' next
   unfolding line_left vault_lines
   count_answered n good rec' page' next put =
       let all : n - 0 ≡ n = omega arith in
       let spelt : some (take (n - 0) bytes) ≡ bytes_of digit_limit text =
-      ap (λ (k : ℕ). some (take k bytes)) all ∙ ap (λ (x : Spelling). spells x bytes) (sym good) ∙ is in
+      ap (λ (k : ℕ). some (take k bytes)) all ∙ ap (λ (x : Counted ℕ). spells x bytes) (sym good) ∙ is in
       let left : call_left rec zeroed (call_of (take (n - 0) bytes)) ≡ line_left rec text = ap (spelled_left rec) spelt in (
         record { left = put.kept ∙ ap record_in left; lines = subst (λ (l : Left). OnPage (printed l) page at page' next) left put.lines },
         share_enough rec (take (n - 0) bytes) page at (length text) rec' page' next (spelled_short digit_limit text (take (n - 0) bytes) (sym spelt)) put,
       )
 
 -- The bytes of a line are among those that `bytes_in` was lent.
-pub count_within : (g : Spelling) (n size : ℕ) → g ≡ Count n → spelling_count g ≤ size → n ≤ size
-count_within g n size is few = subst (λ (x : Spelling). spelling_count x ≤ size) is few
+pub count_within : (g : Counted ℕ) (n size : ℕ) → g ≡ Some n → spelling_count g ≤ size → n ≤ size
+count_within g n size is few = subst (λ (x : Counted ℕ). spelling_count x ≤ size) is few
 
 -- ---- what is kept of a line
 

@@ -13,7 +13,6 @@ ghost use Rattle.lines.specs.Steps.{Fed, Finished};
 ghost use Rattle.answers.specs.inside.Sizes.{piece_size, page_size};
 
 use frame::numbers;
-use lines::Spelling;
 use settings::Settings;
 use vault::Answer;
 
@@ -141,8 +140,7 @@ pub fn answer_line(rec: &mut [u8], text: &[u8], page: &mut [u8], at: usize) -> u
     ensures upper_bound { result ≤ at + line_share * (length text.now + 1) }
 {
     let mut bytes = [0u8; BYTES];
-    let spelling = lines::bytes_in(text, DIGITS, &mut bytes);
-    let Spelling::Count(count) = spelling else {
+    let Some(count) = lines::bytes_in(text, DIGITS, &mut bytes) else {
         return lines::put_refusal(page, at, numbers::REFUSED_LINE);
     };
     answer(rec, &bytes[0..count], page, at)

@@ -5,7 +5,7 @@
 ghost use Rattle.std.specs.Prelude.{◌≡◌, [], ◌∷◌, ◌++◌, ◌+◌, ◌*◌, ◌≤◌, ◌<◌, length, take, drop};
 ghost use Rattle.lines.specs.Digits.{value_of, digit_of, line_of, refusal_line, bytes_of};
 ghost use Rattle.lines.specs.inside.Lines.{first_line};
-ghost use Rattle.lines.specs.inside.Steps.{spells, spelling_count, digits_of, OnPage, KeptOf};
+ghost use Rattle.lines.specs.inside.Steps.{ValueOf, spells, spelling_count, digits_of, OnPage, KeptOf};
 
 // 'A line ends at byte 0a'.
 const LINE_END: u8 = 10;
@@ -15,14 +15,14 @@ pub const REFUSED: u8 = 253;
 
 // ---- digits
 
-// The value of a lower-case hexadecimal digit; 16 where the byte is none.
-fn value_of(b: u8) -> u8
-    ensures { result ≡ value_of b }
+// The value of a lower-case hexadecimal digit; None where the byte is none.
+fn value_of(b: u8) -> Option<u8>
+    ensures { ValueOf b result }
 {
     match b {
-        48..=57 => b - 48,
-        97..=102 => b - 87,
-        _ => 16,
+        48..=57 => Some(b - 48),
+        97..=102 => Some(b - 87),
+        _ => None,
     }
 }
 
@@ -34,37 +34,24 @@ fn digit_of(x: u8) -> u8
     if x < 10 { 48 + x } else { 87 + x }
 }
 
-// What a text spells: how many bytes, or none.
-#[derive(Clone, Copy)]
-pub enum Spelling {
-    Count(usize),
-    Bad,
-}
-
-// The bytes that a text of at most limit digits spells go to the start of bytes.
-pub fn bytes_in(text: &[u8], limit: usize, bytes: &mut [u8]) -> Spelling
+// The bytes that a text of at most limit digits spells go to the start of bytes. Answers how many they are, or None where it spells none.
+pub fn bytes_in(text: &[u8], limit: usize, bytes: &mut [u8]) -> Option<usize>
     requires { limit ≤ 2 * length bytes.old }
     ensures { (spells result bytes.new ≡ bytes_of limit text.now) × (spelling_count result ≤ length bytes.old) }
 {
     if limit < text.len() {
-        return Spelling::Bad;
+        return None;
     }
     if text.len() % 2 != 0 {
-        return Spelling::Bad;
+        return None;
     }
     let count = text.len() / 2;
     for i in 0..count {
-        let high = value_of(text[2 * i]);
-        let low = value_of(text[2 * i + 1]);
-        if 15 < high {
-            return Spelling::Bad;
-        }
-        if 15 < low {
-            return Spelling::Bad;
-        }
+        let high = value_of(text[2 * i])?;
+        let low = value_of(text[2 * i + 1])?;
         bytes[i] = high * 16 + low;
     }
-    Spelling::Count(count)
+    Some(count)
 }
 
 // ---- pages
@@ -75,8 +62,7 @@ pub fn put_digits(page: &mut [u8], at: usize, s: &[u8]) -> usize
     ensures { OnPage (digits_of s.now) page.old at page.new result }
 {
     let mut to = at;
-    for i in 0..s.len() {
-        let b = s[i];
+    for &b in s {
         page[to] = digit_of(b / 16);
         page[to + 1] = digit_of(b % 16);
         to += 2;
@@ -130,23 +116,15 @@ pub fn take_line(text: &mut [u8], len: usize, piece: &[u8], from: usize) -> Take
     ensures next_value { result.next ≡ from + length (first_line (drop from piece.now)) }
 {
     let mut to = len;
-    let mut i = from;
-    while i < piece.len() {
+    for i in from..piece.len() {
         let b = piece[i];
         if b == LINE_END {
             return Taken { len: to, next: i };
         }
         to = keep(text, to, b);
-        i += 1;
     }
-    Taken { len: to, next: i }
-}
-
-// ---- the input, read in pieces
-
-// How reading ended: the input ran dry, with so much kept of a line that has not ended; or it failed, and that line is dropped.
-#[derive(Clone, Copy)]
-pub enum Ended {
-    Dry(usize),
-    Failed,
+    Taken {
+        len: to,
+        next: piece.len(),
+    }
 }

@@ -26,8 +26,7 @@ use Rattle.runs.proofs.Left.{call_leaves_well}
 use Rattle.vault.specs.declared.Answer.{Answer}
 use Rattle.vault.specs.declared.Answer.TheVariants.{Written, Refused}
 use Rattle.vault.specs.Answers.{left_by}
-use Rattle.lines.specs.declared.Spelling.{Spelling}
-use Rattle.lines.specs.declared.Spelling.TheVariants.{Count, Bad}
+use Rattle.std.specs.Prelude.{Option as Counted, Some, None}
 use Rattle.lines.specs.Digits.{refusal_line, bytes_of}
 use Rattle.lines.specs.inside.Steps.{spells, OnPage, Answered}
 use Rattle.lines.proofs.Digits.{length_line}
@@ -252,14 +251,14 @@ share_enough : (at next digits size : ℕ) → 2 * size ≤ digits → next ≤ 
 share_enough at next digits size long few short =
     elim (dec_le 2 size) [ yes many ↦ omega arith | no one ↦ omega (arith, short (omega arith)) ]
 
-module _ (s text page : List ℕ) (at : ℕ) (g : Spelling) (bytes : List ℕ) (is : spells g bytes ≡ bytes_of digit_limit text) where
+module _ (s text page : List ℕ) (at : ℕ) (g : Counted ℕ) (bytes : List ℕ) (is : spells g bytes ≡ bytes_of digit_limit text) where
   -- 20 is tested before all else.
-  pub bad_obeyed : g ≡ Bad → (page' : List ℕ) (next number : ℕ) → OnPage (refusal_line number) page at page' next → number ≡ 20
+  pub bad_obeyed : g ≡ None → (page' : List ℕ) (next number : ℕ) → OnPage (refusal_line number) page at page' next → number ≡ 20
       → Line s text page at s page' next
   unfolding line_meant rehearsal done
   bad_obeyed bad page' next number put is20 =
       let shown : OnPage (refusal_line 20) page at page' next = subst (λ (k : ℕ). OnPage (refusal_line k) page at page' next) is20 put in
-      let refuses : refuse 20 ≡ line_meant s text = ap (spelled_meant s) (ap (λ (x : Spelling). spells x bytes) (sym bad) ∙ is) in
+      let refuses : refuse 20 ≡ line_meant s text = ap (spelled_meant s) (ap (λ (x : Counted ℕ). spells x bytes) (sym bad) ∙ is) in
       let does : record { stage = s; shown = refusal_line 20 } ≡ done s (line_meant s text) = ap (done s) refuses in (
         record {
           left = ap (λ (d : Done). d.stage) does;
@@ -269,14 +268,14 @@ module _ (s text page : List ℕ) (at : ℕ) (g : Spelling) (bytes : List ℕ) (
       )
 
   -- A text that spells bytes: the line does what those bytes do.
-  pub count_obeyed : (n : ℕ) → g ≡ Count n → (s' page' : List ℕ) (next : ℕ) → Obeyed s (take (n - 0) bytes) page at s' page' next
+  pub count_obeyed : (n : ℕ) → g ≡ Some n → (s' page' : List ℕ) (next : ℕ) → Obeyed s (take (n - 0) bytes) page at s' page' next
       → Line s text page at s' page' next
   unfolding line_meant rehearsal
   count_obeyed n good s' page' next (put, (few, short)) =
       let all : n - 0 ≡ n = omega arith in
       let b : List ℕ = take (n - 0) bytes in
       let spelt : some b ≡ bytes_of digit_limit text =
-      ap (λ (k : ℕ). some (take k bytes)) all ∙ ap (λ (x : Spelling). spells x bytes) (sym good) ∙ is in
+      ap (λ (k : ℕ). some (take k bytes)) all ∙ ap (λ (x : Counted ℕ). spells x bytes) (sym good) ∙ is in
       let does : done s (meant s b) ≡ done s (line_meant s text) = ap (λ (o : Option (List ℕ)). done s (spelled_meant s o)) spelt in (
         record {
           left = put.stage ∙ ap (λ (d : Done). d.stage) does;

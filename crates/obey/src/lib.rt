@@ -18,7 +18,6 @@ ghost use Rattle.obey.specs.Steps.{kept_size};
 ghost use Rattle.obey.specs.inside.Sizes.{answer_size, line_share, piece_size, page_size};
 
 use frame::numbers;
-use lines::Spelling;
 use stage::{Way, calls, places};
 use vault::Answer;
 
@@ -157,8 +156,7 @@ pub fn obey_line(stage: &mut [u8], text: &[u8], page: &mut [u8], at: usize) -> u
     ensures upper_bound { result ≤ at + line_share * (length text.now + 1) }
 {
     let mut bytes = [0u8; stage::BYTES];
-    let spelling = lines::bytes_in(text, stage::DIGITS, &mut bytes);
-    let Spelling::Count(count) = spelling else {
+    let Some(count) = lines::bytes_in(text, stage::DIGITS, &mut bytes) else {
         return lines::put_refusal(page, at, numbers::REFUSED_LINE);
     };
     obey(stage, &bytes[0..count], page, at)

@@ -5,15 +5,13 @@
 // There the proof stops, at the input and output calls: no contract can say what the runtime reads and writes.
 #![tactic(auto)]
 
-ghost use Rattle.std.specs.Prelude.{◌≡◌, ◌≤◌, ℕ, length, IfOk, OnErr};
-ghost use Rattle.lines.specs.declared.Ended.TheVariants.{Dry};
+ghost use Rattle.std.specs.Prelude.{◌≡◌, ◌≤◌, ℕ, Some, length, IfOk, OnErr};
 ghost use Rattle.lines.specs.inside.Reading.{EndedWell};
 ghost use Rattle.stage.specs.Stage.{stage_size};
 ghost use Rattle.stage.specs.Lines.{rehearsal};
 ghost use Rattle.obey.specs.Steps.{kept_size};
 ghost use Rattle.obey.specs.inside.Sizes.{page_size};
 
-use lines::Ended;
 use std::io::{self, Read};
 
 // Writes out what is on the page.
@@ -31,10 +29,10 @@ fn read_all(
     stage: &mut [u8],
     text: &mut [u8],
     page: &mut [u8],
-) -> io::Result<Ended>
+) -> io::Result<Option<usize>>
     requires { (length stage.old ≡ stage_size) × (length text.old ≡ kept_size) × (length page.old ≡ page_size) }
     ensures ok { IfOk result (λ ended. EndedWell rehearsal kept_size stage.old ended stage.new text.new) }
-    ensures err { OnErr result ((len : ℕ) × EndedWell rehearsal kept_size stage.old (Dry len) stage.new text.new) }
+    ensures err { OnErr result ((len : ℕ) × EndedWell rehearsal kept_size stage.old (Some len) stage.new text.new) }
 {
     let mut input = rt.reader();
     let mut piece = [0u8; obey::PIECE];
@@ -42,13 +40,13 @@ fn read_all(
     for _ in 0..u64::MAX {
         let count = input.read(&mut piece)?;
         if count == 0 {
-            return Ok(Ended::Dry(len));
+            return Ok(Some(len));
         }
         let place = obey::feed(stage, text, len, page, &piece[0..count]);
         flush(rt, page, place.at)?;
         len = place.len;
     }
-    Ok(Ended::Failed)
+    Ok(None)
 }
 
 // The input is read, and then its last line obeyed.
@@ -61,7 +59,7 @@ fn run(
     requires { (length stage.old ≡ stage_size) × (length text.old ≡ kept_size) × (length page.old ≡ page_size) }
 {
     let ended = read_all(rt, stage, text, page)?;
-    let Ended::Dry(len) = ended else {
+    let Some(len) = ended else {
         return Ok(());
     };
     let at = obey::finish(stage, text, len, page);

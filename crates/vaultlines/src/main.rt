@@ -5,13 +5,11 @@
 // There the proof stops, at the input and output calls: no contract can say what the runtime reads and writes.
 #![tactic(auto)]
 
-ghost use Rattle.std.specs.Prelude.{◌≡◌, ◌≤◌, ℕ, length, IfOk, OnErr};
-ghost use Rattle.lines.specs.declared.Ended.TheVariants.{Dry};
+ghost use Rattle.std.specs.Prelude.{◌≡◌, ◌≤◌, ℕ, Some, length, IfOk, OnErr};
 ghost use Rattle.lines.specs.inside.Reading.{EndedWell};
 ghost use Rattle.answers.specs.Lines.{kept_size, vault_lines};
 ghost use Rattle.answers.specs.inside.Sizes.{page_size};
 
-use lines::Ended;
 use std::io::{self, Read};
 
 // Writes out what is on the page.
@@ -29,10 +27,10 @@ fn read_all(
     rec: &mut [u8],
     text: &mut [u8],
     page: &mut [u8],
-) -> io::Result<Ended>
+) -> io::Result<Option<usize>>
     requires { (length text.old ≡ kept_size) × (length page.old ≡ page_size) }
     ensures ok { IfOk result (λ ended. EndedWell vault_lines kept_size rec.old ended rec.new text.new) }
-    ensures err { OnErr result ((len : ℕ) × EndedWell vault_lines kept_size rec.old (Dry len) rec.new text.new) }
+    ensures err { OnErr result ((len : ℕ) × EndedWell vault_lines kept_size rec.old (Some len) rec.new text.new) }
 {
     let mut input = rt.reader();
     let mut piece = [0u8; answers::PIECE];
@@ -40,13 +38,13 @@ fn read_all(
     for _ in 0..u64::MAX {
         let count = input.read(&mut piece)?;
         if count == 0 {
-            return Ok(Ended::Dry(len));
+            return Ok(Some(len));
         }
         let place = answers::feed(rec, text, len, page, &piece[0..count]);
         flush(rt, page, place.at)?;
         len = place.len;
     }
-    Ok(Ended::Failed)
+    Ok(None)
 }
 
 // The input is read, and then its last line answered.
@@ -59,7 +57,7 @@ fn run(
     requires { (length text.old ≡ kept_size) × (length page.old ≡ page_size) }
 {
     let ended = read_all(rt, rec, text, page)?;
-    let Ended::Dry(len) = ended else {
+    let Some(len) = ended else {
         return Ok(());
     };
     let at = answers::finish(rec, text, len, page);

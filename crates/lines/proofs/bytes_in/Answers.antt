@@ -1,7 +1,7 @@
 -- `lines::bytes_in` meets its contract: 'not an even count of lower-case hex digits', or more than the limit; else the bytes that the
 -- digits spell. The invariant is `SpelledTo`; the measure is what is left of the count.
 -- Assumes nothing.
-use mathlib.Core.Path.{refl}
+use mathlib.Core.Path.{refl, sym}
 use native.Mathlib.Omega.{arith}
 use Rattle.lines.proofs.Spelled.{long_spells_none, odd_spells_none, high_spells_none, low_spells_none, spelled_more, spelled_all, spelled_first}
 use Rattle.lines.proofs.bytes_in.Goals as goal
@@ -22,9 +22,6 @@ overflow_mul-i c = omega arith
 pub bounds-text-i : goal.bounds-text-i
 bounds-text-i c = omega arith
 
-pub value_of-high-requires : goal.value_of-high-requires
-value_of-high-requires c = tt
-
 pub overflow_mul-i-in-loop-i : goal.overflow_mul-i-in-loop-i
 overflow_mul-i-in-loop-i c = omega arith
 
@@ -34,28 +31,20 @@ overflow_add-i c = omega arith
 pub bounds-text-i-in-loop-i : goal.bounds-text-i-in-loop-i
 bounds-text-i-in-loop-i c = omega arith
 
-pub value_of-low-requires : goal.value_of-low-requires
-value_of-low-requires c = tt
-
-pub shape_of-bytes-then-high-gt15 : goal.shape_of-bytes-then-high-gt15
-shape_of-bytes-then-high-gt15 c = omega arith
-
-pub returns-then-high-gt15 : goal.returns-then-high-gt15
-returns-then-high-gt15 c =
-    let l = c.loop-i in (
-      high_spells_none _ _ l.bytes _ _ l.i l.invariant.1 c.loop-i-test.true _ _
-          c.value_of-high.ensures c.value_of-low.ensures c.if-high-gt15.true,
+pub returns-in_err-high : goal.returns-in_err-high
+returns-in_err-high c =
+    let l = c.loop-i in
+    rw c.from_residual.ensures (
+      high_spells_none _ _ l.bytes _ _ l.i l.invariant.1 c.loop-i-test.true 16 _ (sym (c.in_err-high.ensures)) refl (omega arith),
       omega arith,
     )
 
-pub shape_of-bytes-then-low-gt15 : goal.shape_of-bytes-then-low-gt15
-shape_of-bytes-then-low-gt15 c = omega arith
-
-pub returns-then-low-gt15 : goal.returns-then-low-gt15
-returns-then-low-gt15 c =
-    let l = c.loop-i in (
-      low_spells_none _ _ l.bytes _ _ l.i l.invariant.1 c.loop-i-test.true _ _
-          c.value_of-high.ensures c.value_of-low.ensures c.if-high-gt15.false c.if-low-gt15.true,
+pub returns-in_err-low : goal.returns-in_err-low
+returns-in_err-low c =
+    let l = c.loop-i in
+    let high = c.in_ok-high.ensures in
+    rw c.from_residual-in_err-low.ensures (
+      low_spells_none _ _ l.bytes _ _ l.i l.invariant.1 c.loop-i-test.true _ 16 high.0 (sym (c.in_err-low.ensures)) (omega (arith, high.1)) (omega arith),
       omega arith,
     )
 
@@ -68,18 +57,13 @@ overflow_add-bytes c = omega arith
 pub bounds-bytes-i : goal.bounds-bytes-i
 bounds-bytes-i c = omega arith
 
-pub overflow_add-i-in-loop-i : goal.overflow_add-i-in-loop-i
-overflow_add-i-in-loop-i c = omega arith
-
-pub loop-i-smaller : goal.loop-i-smaller
-loop-i-smaller c = omega arith
-
 pub loop-i-preserved : goal.loop-i-preserved
 loop-i-preserved c =
-    let l = c.loop-i in (
+    let l = c.loop-i in
+    let high = c.in_ok-high.ensures in
+    let low = c.in_ok-low.ensures in (
       l.invariant.0,
-      spelled_more _ _ l.bytes _ _ l.i l.invariant.1 c.loop-i-test.true _ _
-          c.value_of-high.ensures c.value_of-low.ensures c.if-high-gt15.false c.if-low-gt15.false,
+      spelled_more _ _ l.bytes _ _ l.i l.invariant.1 c.loop-i-test.true _ _ high.0 low.0 (omega (arith, high.1)) (omega (arith, low.1)),
     )
 
 pub shape_of-bytes : goal.shape_of-bytes

@@ -26,12 +26,6 @@ returns-then-b-eq-LINE_END c =
 pub keep-to-requires : goal.keep-to-requires
 keep-to-requires c = omega arith
 
-pub overflow_add-i : goal.overflow_add-i
-overflow_add-i c = omega arith
-
-pub loop-i-smaller : goal.loop-i-smaller
-loop-i-smaller c = omega arith
-
 pub loop-i-preserved : goal.loop-i-preserved
 loop-i-preserved c =
     let l = c.loop-i in
@@ -46,4 +40,4 @@ pub returns : goal.returns
 returns c =
     let l = c.loop-i in
     let all = taken_all _ _ _ _ l.text l.to l.i l.invariant c.loop-i-test.false in
-    record { kept_of = all.0; next_value = all.1 }
+    record { kept_of = all.0; next_value = omega (arith, all.1, l.invariant.within) }

@@ -1,24 +1,27 @@
 -- What the parts of a program over lines promise each other: the count of bytes that a text spells, what is kept of a line, digits and
 -- lines put on a page. And what follows for an input that is read in pieces (`AnySplit`).
 -- Assumes nothing.
-use Rattle.std.specs.Prelude.{ℕ, suc, ◌+◌, ◌/◌, ◌%◌, ◌≤◌, ◌≡◌, List, [], ◌∷◌, ◌++◌, length, take}
+use Rattle.std.specs.Prelude.{Option as Answer, Some, None, ℕ, suc, ◌+◌, ◌/◌, ◌%◌, ◌≤◌, ◌<◌, ◌≡◌, List, [], ◌∷◌, ◌++◌, length, take}
 use Rattle.std.proofs.Math.Option.{Option, none, some}
 use Rattle.wire.specs.Placed.{placed}
-use Rattle.lines.specs.declared.Spelling.{Spelling}
-use Rattle.lines.specs.declared.Spelling.TheVariants.{Count, Bad}
-use Rattle.lines.specs.Digits.{digit_of}
+use Rattle.lines.specs.Digits.{value_of, digit_of}
 use Rattle.lines.specs.Lines.{ended, begun, Program, after, prints, answers}
 use Rattle.lines.specs.Steps.{Finished, Reads}
 
+-- What the function `value_of` answers of a byte: the digit's value, or None where the byte is none.
+abbrev pub ValueOf : ℕ → Answer ℕ → Type 0
+ValueOf b (Some v) = (v ≡ value_of b) × (v < 16)
+ValueOf b None = value_of b ≡ 16
+
 -- The bytes that an answer of `bytes_in` stands for: the first ones of those that it left.
-abbrev pub spells : Spelling → List ℕ → Option (List ℕ)
-spells (Count n) bytes = some (take n bytes)
-spells Bad bytes = none
+abbrev pub spells : Answer ℕ → List ℕ → Option (List ℕ)
+spells (Some n) bytes = some (take n bytes)
+spells None bytes = none
 
 -- How many there are.
-abbrev pub spelling_count : Spelling → ℕ
-spelling_count (Count n) = n
-spelling_count Bad = 0
+abbrev pub spelling_count : Answer ℕ → ℕ
+spelling_count (Some n) = n
+spelling_count None = 0
 
 -- Bytes as digits, two for each, without a line's end: the beginning of a line.
 unfoldable pub digits_of : List ℕ → List ℕ

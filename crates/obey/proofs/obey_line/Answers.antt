@@ -10,21 +10,21 @@ pub returns-in_default : goal.returns-in_default
 returns-in_default c =
     let p = c.put_refusal in
     let a = c.args in
-    let both = bad_obeyed a.stage.now a.text.now a.page.now a.at c.bytes_in-spelling.result c.bytes_in-spelling.new.bytes
-    c.bytes_in-spelling.ensures.0 c.in_default.is p.new.page p.result _ p.ensures refl in
+    let both = bad_obeyed a.stage.now a.text.now a.page.now a.at c.bytes_in.result c.bytes_in.new.bytes
+    c.bytes_in.ensures.0 c.in_default.is p.new.page p.result _ p.ensures refl in
     record { answered = both.0; upper_bound = both.1 }
 
 pub slice_bounds-obey-end : goal.slice_bounds-obey-end
 slice_bounds-obey-end c =
-    let b = c.bytes_in-spelling in
-    let few = count_within b.result c.in-Count.count _ c.in-Count.is b.ensures.1 in
+    let b = c.bytes_in in
+    let few = count_within b.result c.in-Some.count _ c.in-Some.is b.ensures.1 in
     search rules
 
 pub returns : goal.returns
 returns c =
     let a = c.args in
     let e = c.obey.ensures in
-    let both = count_obeyed a.stage.now a.text.now a.page.now a.at c.bytes_in-spelling.result c.bytes_in-spelling.new.bytes
-    c.bytes_in-spelling.ensures.0 c.in-Count.count c.in-Count.is c.obey.new.stage c.obey.new.page c.obey.result
+    let both = count_obeyed a.stage.now a.text.now a.page.now a.at c.bytes_in.result c.bytes_in.new.bytes
+    c.bytes_in.ensures.0 c.in-Some.count c.in-Some.is c.obey.new.stage c.obey.new.page c.obey.result
     (e.done_at, e.upper_bound) in
     record { answered = both.0; upper_bound = both.1 }

@@ -2,7 +2,7 @@
 -- Assumes nothing.
 use mathlib.Core.Path.{◌≡◌}
 use lib.ListN.{length}
-use Rattle.lines.specs.declared.Ended.TheVariants.{Dry}
+use Rattle.std.specs.Prelude.{Some}
 use Rattle.lines.specs.inside.Reading.{EndedWell}
 use Rattle.obey.specs.Steps.{kept_size}
 use Rattle.stage.specs.Stage.{stage_size}
@@ -16,4 +16,4 @@ invariant-loop g l =
     × (length l.text ≡ kept_size)
     × (length l.page ≡ page_size)
     × (length l.piece ≡ piece_size)
-    × EndedWell rehearsal kept_size l.initial.stage (Dry l.len) l.stage l.text
+    × EndedWell rehearsal kept_size l.initial.stage (Some l.len) l.stage l.text

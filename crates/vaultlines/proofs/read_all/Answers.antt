@@ -2,7 +2,7 @@
 -- Assumes nothing.
 use mathlib.Core.Path.{refl, ◌∙◌}
 use borrow.Author.Rules.{rules}
-use Rattle.lines.specs.declared.Ended.TheVariants.{Dry}
+use Rattle.std.specs.Prelude.{Some}
 use Rattle.lines.specs.inside.Reading.{EndedWell}
 use Rattle.lines.proofs.Reading.{ended_none, ended_more}
 use Rattle.answers.specs.Lines.{kept_size, vault_lines}
@@ -16,7 +16,7 @@ returns-in_err-flush-clause-err g c =
     let l = c.loop in
     let f = c.feed-place in
     let e = f.ensures in
-    let fed : EndedWell vault_lines kept_size c.args.rec.now (Dry f.result.len) f.new.rec f.new.text =
+    let fed : EndedWell vault_lines kept_size c.args.rec.now (Some f.result.len) f.new.rec f.new.text =
     ended_more vault_lines kept_size _ l.rec l.text l.len l.invariant.4 _ f.new.rec f.new.text f.result.len _ e.fed e.len_le_kept_size.0 in
     search rules
 

@@ -2,7 +2,7 @@
 -- Assumes nothing.
 use mathlib.Core.Path.{◌≡◌}
 use lib.ListN.{length}
-use Rattle.lines.specs.declared.Ended.TheVariants.{Dry}
+use Rattle.std.specs.Prelude.{Some}
 use Rattle.lines.specs.inside.Reading.{EndedWell}
 use Rattle.answers.specs.Lines.{kept_size, vault_lines}
 use Rattle.answers.specs.inside.Sizes.{page_size, piece_size}
@@ -14,4 +14,4 @@ invariant-loop g l =
     × (length l.text ≡ kept_size)
     × (length l.page ≡ page_size)
     × (length l.piece ≡ piece_size)
-    × EndedWell vault_lines kept_size l.initial.rec (Dry l.len) l.rec l.text
+    × EndedWell vault_lines kept_size l.initial.rec (Some l.len) l.rec l.text
