@@ -117,12 +117,14 @@ pub fn put_view(own: &mut [u8], w: u32)
 
 // ---- off a record
 
-// Copies some bytes from a place to another.
+// Copies some bytes from a place to another. All are read before the first is written, so that it is compiled to a few moves, with no test whether they overlap.
 fn copy<const N: usize>(src: &[u8], from: usize, dst: &mut [u8], to: usize)
     requires { (from + N ≤ length src.now) × (to + N ≤ length dst.old) }
     ensures { dst.new ≡ placed dst.old to (take N (drop from src.now)) }
 {
-    dst[to..to + N].copy_from_slice(&src[from..from + N]);
+    let mut bytes = [0u8; N];
+    bytes.copy_from_slice(&src[from..from + N]);
+    dst[to..to + N].copy_from_slice(&bytes);
 }
 
 // Settings and current view as they stand in the record's first head, the starting plan as it stands in the second.
