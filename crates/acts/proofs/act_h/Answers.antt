@@ -4,6 +4,7 @@ use Prim.Native.Nat.{ℕ}
 use mathlib.Core.Path.{◌≡◌, sym, ◌∙◌, ap}
 use mathlib.Core.Option.{Option, none, some}
 use Rattle.safe.specs.Choices.{chosen}
+use Rattle.acts.specs.inside.Acts.{as_act}
 use Rattle.protocol.specs.Record.{each}
 use Rattle.protocol.specs.Pass.{decide, act_h}
 use Rattle.contents.specs.Contents.{contents_in}
@@ -23,8 +24,9 @@ told c o is =
     let r = c.requires in
     decides _ _ r c.if-block-eq-PRESENT.false _ c.vote_place.ensures.0 o (sym is ∙ c.agreed_plan.ensures) ∙ ap act_h r.spelt
 
-pub returns-in-Plan : goal.returns-in-Plan
-returns-in-Plan c = told (goal.at.returns-in-Plan c).After-agreed_plan (some c.in-Plan.p) (ap chosen c.in-Plan.is)
+pub returns-in_err-p : goal.returns-in_err-p
+returns-in_err-p c =
+    ap as_act c.from_residual.ensures ∙ told (goal.at.returns-in_err-p c).After-agreed_plan none (ap chosen c.in_err-p.was)
 
-pub returns-in-Nothing : goal.returns-in-Nothing
-returns-in-Nothing c = told (goal.at.returns-in-Nothing c).After-agreed_plan none (ap chosen c.in-Nothing.is)
+pub returns : goal.returns
+returns c = told (goal.at.returns c).After-agreed_plan (some c.in_ok-p.p) (ap chosen c.in_ok-p.was)

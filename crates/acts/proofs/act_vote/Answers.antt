@@ -4,6 +4,7 @@ use Prim.Native.Nat.{ℕ, ◌+◌}
 use mathlib.Core.Path.{◌≡◌, sym, ◌∙◌, ap}
 use mathlib.Core.Option.{Option, none, some}
 use Rattle.safe.specs.Choices.{chosen}
+use Rattle.acts.specs.inside.Acts.{as_act}
 use Rattle.protocol.specs.Record.{Record, each}
 use Rattle.protocol.specs.Pass.{cast, act_vote}
 use Rattle.contents.specs.Contents.{contents_in}
@@ -24,8 +25,9 @@ told c o is =
     vote_acts _ _ r c.args.k c.requires.2 _ c.sent.ensures c.if-sent.false _ c.vote_place.ensures.0 o (sym is ∙ c.agreed_plan.ensures)
     ∙ ap (λ (x : Record). act_vote x c.args.k) r.spelt
 
-pub returns-in-Plan : goal.returns-in-Plan
-returns-in-Plan c = told (goal.at.returns-in-Plan c).After-agreed_plan (some c.in-Plan.p) (ap chosen c.in-Plan.is)
+pub returns-in_err-p : goal.returns-in_err-p
+returns-in_err-p c =
+    ap as_act c.from_residual.ensures ∙ told (goal.at.returns-in_err-p c).After-agreed_plan none (ap chosen c.in_err-p.was)
 
-pub returns-in-Nothing : goal.returns-in-Nothing
-returns-in-Nothing c = told (goal.at.returns-in-Nothing c).After-agreed_plan none (ap chosen c.in-Nothing.is)
+pub returns : goal.returns
+returns c = told (goal.at.returns c).After-agreed_plan (some c.in_ok-p.p) (ap chosen c.in_ok-p.was)
