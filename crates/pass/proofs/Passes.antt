@@ -18,7 +18,8 @@ use Rattle.protocol.proofs.Passes.{pass_none, pass_more}
 use Rattle.contents.specs.Contents.{contents, contents_in}
 use Rattle.contents.specs.inside.Ready.{Ready}
 use Rattle.acts.specs.declared.Act as acts
-use Rattle.acts.specs.declared.Act.TheVariants.{Nothing}
+use Rattle.std.specs.Prelude as prelude
+use Rattle.std.specs.Prelude.{None}
 use Rattle.acts.specs.inside.Acts.{as_act, act_at}
 use Rattle.pass.specs.inside.Steps.{Room, Due, Ran}
 use Rattle.steps.specs.inside.Order.{step_at, ActOf}
@@ -32,13 +33,13 @@ pass_step k low c =
     ap (λ (l : List Step). pass l c) (drop-cons from_a k (λ c. taken c none) low) ∙ pass_more (step_at k) (steps_from (suc k)) c
 
 -- A step that has nothing to do.
-pub ran_idle : (k : ℕ) (act : acts.Act) (rec : List ℕ) → Ready rec → as_act act ≡ act_at k (contents_in rec) → act ≡ Nothing → (at : ℕ) (out : List ℕ)
+pub ran_idle : (k : ℕ) (act : prelude.Option acts.Act) (rec : List ℕ) → Ready rec → as_act act ≡ act_at k (contents_in rec) → act ≡ None → (at : ℕ) (out : List ℕ)
     → Ran (step_at k (contents_in rec)) at out out at rec
 ran_idle k act rec ready e is at out =
     ran_nothing (step_at k (contents_in rec)) at out rec (idle_step k (contents_in rec) (sym e ∙ ap as_act is)) ready
 
 -- The act of a step that is due says which step it is.
-module _ {k id : ℕ} {rec : List ℕ} (act : acts.Act) (due : Due k (as_act act) rec id) where
+module _ {k id : ℕ} {rec : List ℕ} (act : prelude.Option acts.Act) (due : Due k (as_act act) rec id) where
   pub number_is : {a : Act} → as_act act ≡ some a → ActOf k a
   number_is e = act_of (contents_in rec) k (sym due.is ∙ e)
 

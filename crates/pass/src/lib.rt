@@ -136,16 +136,16 @@ fn run_decide(rec: &mut [u8], id: u8, p: u64, out: &mut [u8], at: usize) -> usiz
 // ---- one step after the other, with the entries written from a place on
 
 // The step of a number, by what it is to do; where that is nothing, the own part is not loaded.
-fn take_step(rec: &mut [u8], id: u8, k: u8, act: Act, out: &mut [u8], at: usize) -> usize
+fn take_step(rec: &mut [u8], id: u8, k: u8, act: Option<Act>, out: &mut [u8], at: usize) -> usize
     requires { Due k (as_act act) rec.old id × Room (step_at k (contents_in rec.old)) at out.old }
     ensures { Ran (step_at k (contents_in rec.old)) at out.old out.new result rec.new }
 {
     match act {
-        Act::Ask(w) => run_ask(rec, id, w, out, at),
-        Act::Enter(w) => run_enter(rec, id, w, out, at),
-        Act::Cast(j, p) => run_cast(rec, id, j, p, out, at),
-        Act::Decide(p) => run_decide(rec, id, p, out, at),
-        Act::Nothing => at,
+        Some(Act::Ask(w)) => run_ask(rec, id, w, out, at),
+        Some(Act::Enter(w)) => run_enter(rec, id, w, out, at),
+        Some(Act::Cast(j, p)) => run_cast(rec, id, j, p, out, at),
+        Some(Act::Decide(p)) => run_decide(rec, id, p, out, at),
+        None => at,
     }
 }
 

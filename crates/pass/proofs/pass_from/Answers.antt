@@ -32,9 +32,6 @@ view_after-view-requires c =
     let ran = c.take_step-count.ensures in
     (ran.ready.size, λ ne. l.invariant.here ∙ sym (view_stays l.k l.rec ran ne))
 
-pub overflow_add-k : goal.overflow_add-k
-overflow_add-k c = omega arith
-
 pub loop-k-smaller : goal.loop-k-smaller
 loop-k-smaller c = omega arith
 
