@@ -9,8 +9,7 @@ ghost use Rattle.sound.specs.inside.Sound.{lent_is};
 ghost use Rattle.for_tests.specs.inside.Answers.{left, echo_entries, echo, laid, safe_plan, choose_plan, class_number};
 
 use entry::Entry;
-use frame::{Frame, Reading};
-use safe::Choice;
+use frame::Frame;
 use settings::Settings;
 use sound::Lent;
 
@@ -43,12 +42,10 @@ pub extern "C" fn frame_echo(s: &[u8], link: u8, n: u8, own: u8, out: &mut [u8])
     if out.len() < 256 {
         return 1;
     }
-    let got = frame::reader::read(s, link, n, own);
-    let Reading::Accepted(f) = got else {
-        return frame::refusal_of(got) as u32;
-    };
-    let count = put_echo(out, f);
-    256 + (count as u32)
+    match frame::reader::read(s, link, n, own) {
+        Ok(f) => 256 + (put_echo(out, f) as u32),
+        Err(why) => u32::from(u8::from(why)),
+    }
 }
 
 // ---- safe plans, over one lent table of reports
@@ -71,8 +68,8 @@ fn settings_for(n: u8, f: u8) -> Settings
     ensures { (result.n ≡ n) × (result.f ≡ f) }
 {
     Settings {
-        n: n,
-        f: f,
+        n,
+        f,
         id: 0,
         class: 0,
     }
@@ -106,16 +103,11 @@ pub extern "C" fn choose_plan<'a>(
 {
     if is_laid(table, n, f) {
         if 0 < out.len() {
-            let choice = safe::choose(table, settings_for(n, f), v, start);
-            match choice {
-                Choice::Plan(p) => {
-                    out[0] = p;
-                    return 1;
-                }
-                Choice::Nothing => {
-                    return 0;
-                }
-            }
+            let Some(p) = safe::choose(table, settings_for(n, f), v, start) else {
+                return 0;
+            };
+            out[0] = p;
+            return 1;
         }
         return 2;
     }

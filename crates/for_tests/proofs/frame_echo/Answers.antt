@@ -6,7 +6,6 @@ use mathlib.Core.Path.{ap, ◌∙◌}
 use native.Mathlib.Omega.{arith}
 use lib.ListN.{length}
 use borrow.Author.Tests.{lt-ltb, le-ltb}
-use Rattle.frame.specs.inside.Reading.{refusal_of}
 use Rattle.for_tests.specs.inside.Answers.{left, echo}
 use Rattle.for_tests.proofs.Laws.{count_short}
 use Rattle.for_tests.proofs.frame_echo.Goals as goal
@@ -15,23 +14,22 @@ pub returns-then-out-lt256 : goal.returns-then-out-lt256
 unfolding echo
 returns-then-out-lt256 c = simp (lt-ltb (length c.args.out.now) 256 (omega arith))
 
-pub returns-in_default : goal.returns-in_default
+pub returns-in-Err : goal.returns-in-Err
 unfolding echo
-returns-in_default c =
-    let g = c.in_default.is in
+returns-in-Err c =
     let out = c.args.out.now in
     simp (le-ltb (length out) 256 (omega arith))
-    (rw (← c.read-got.ensures, g) (ap (λ (k : ℕ). left k out) (c.refusal_of.ensures ∙ ap refusal_of g)))
+    (rw (← c.read.ensures, c.in-Err.is) (ap (λ (k : ℕ). left k out) (c.from-in-Err.ensures ∙ c.from.ensures)))
 
-pub overflow_cast-result-2 : goal.overflow_cast-result-2
-overflow_cast-result-2 c = omega (arith, count_short _ _ c.put_echo-count.ensures.0)
+pub overflow_cast-result : goal.overflow_cast-result
+overflow_cast-result c = omega (arith, count_short _ _ c.put_echo.ensures.0)
 
 pub overflow_add-result : goal.overflow_add-result
-overflow_add-result c = omega (arith, count_short _ _ c.put_echo-count.ensures.0)
+overflow_add-result c = omega (arith, count_short _ _ c.put_echo.ensures.0)
 
-pub returns : goal.returns
+pub returns-in-Ok : goal.returns-in-Ok
 unfolding echo
-returns c =
-    let all = c.put_echo-count.ensures in
+returns-in-Ok c =
+    let all = c.put_echo.ensures in
     simp (le-ltb (length c.args.out.now) 256 (omega arith))
-    (rw (← c.read-got.ensures, c.in-Accepted.is) (λ i. left (256 + all.0 i) (all.1 i)))
+    (rw (← c.read.ensures, c.in-Ok.is) (λ i. left (256 + all.0 i) (all.1 i)))
