@@ -1,7 +1,7 @@
 -- Laws of `all`, a test of every number below a bound: one more, in two parts, by another test that agrees, of two tests at once,
 -- and in pieces of w. And a number of w digits is 0 just where its digits are.
 -- Assumes nothing.
-use Prim.Native.Nat.{ℕ, zero, suc, ◌+◌, ◌*◌, ◌≤◌, ◌<◌}
+use Prim.Native.Nat.{ℕ, zero, suc, ◌+◌, ◌*◌, ◌≤◌, ◌<◌, max}
 use mathlib.Core.Path.{◌≡◌, refl, ap, sym, ◌∙◌}
 use mathlib.Core.Logic.{⊎_elim}
 use mathlib.Core.Bool.{Bool, true, false, ◌&&◌}
@@ -93,20 +93,11 @@ unfolding number_at all
 number_zero zero s at = refl
 number_zero (suc w) s at = step (number_at w s at) (get_or s (at + w) 0) ∙ ap (λ (b : Bool). b && eqb (get_or s (at + w) 0) 0) (number_zero w s at)
 
--- the larger of two is 0 just where both are: the first is the larger
-pub larger_left : (a b : ℕ) → b ≤ a → eqb a 0 ≡ (eqb a 0 && eqb b 0)
-larger_left a b h = go (eqb a 0) refl
+-- the larger of two is 0 just where both are
+pub larger : (a b : ℕ) → eqb (max a b) 0 ≡ (eqb a 0 && eqb b 0)
+larger a b = go (eqb a 0) refl (eqb b 0) refl
   where
-    go : (t : Bool) → eqb a 0 ≡ t → t ≡ (t && eqb b 0)
-    go true e = sym (eq-eqb b 0 (let x = eqb-true a 0 e in omega arith))
-    go false e = refl
-
--- and where the second is
-pub larger_right : (a b : ℕ) → a < b → eqb b 0 ≡ (eqb a 0 && eqb b 0)
-larger_right a b h =
-    let e : eqb b 0 ≡ false = ne_eqb b 0 (λ (z : b ≡ 0). omega arith) in
-    go (eqb a 0) ∙ ap (λ (t : Bool). eqb a 0 && t) (sym e)
-  where
-    go : (t : Bool) → eqb b 0 ≡ (t && false)
-    go true = ne_eqb b 0 (λ (z : b ≡ 0). omega arith)
-    go false = ne_eqb b 0 (λ (z : b ≡ 0). omega arith)
+    go : (x : Bool) → eqb a 0 ≡ x → (y : Bool) → eqb b 0 ≡ y → eqb (max a b) 0 ≡ (x && y)
+    go true p true q = eq-eqb (max a b) 0 (let x = eqb-true a 0 p in let y = eqb-true b 0 q in omega arith)
+    go true p false q = ne_eqb (max a b) 0 (λ (e : max a b ≡ 0). let y : b ≡ 0 = omega arith in eqb-false b 0 q y)
+    go false p y q = ne_eqb (max a b) 0 (λ (e : max a b ≡ 0). let x : a ≡ 0 = omega arith in eqb-false a 0 p x)

@@ -74,19 +74,13 @@ pub fn previous_stands(highest: Report, previous: Report) -> bool
 
 // ---- many slots
 
-fn larger(a: u8, b: u8) -> u8
-    ensures { eqb result 0 ≡ (eqb a 0 && eqb b 0) }
-{
-    if a < b { b } else { a }
-}
-
 // Whether every byte is 0. There is no way out of the loop, so that it is compiled to steps of 16 bytes and more.
 fn zero(s: &[u8]) -> bool
     ensures { result ≡ all (zero_in s.now) (length s.now) }
 {
     let mut most: u8 = 0;
-    for i in 0..s.len() {
-        most = larger(most, s[i]);
+    for &byte in s {
+        most = most.max(byte);
     }
     most == 0
 }

@@ -1,6 +1,6 @@
 -- `sound::rows_sound` meets its contract. The invariant: every kind passed is sound.
 -- Assumes nothing.
-use Prim.Native.Nat.{◌+◌, ◌-◌, ◌≤◌}
+use Prim.Native.Nat.{◌+◌, ◌≤◌}
 use mathlib.Core.Path.{◌≡◌}
 use mathlib.Core.Bool.{true}
 use Rattle.record.specs.Slots.{kinds, slot_of}
@@ -10,6 +10,3 @@ use Rattle.sound.proofs.rows_sound.Given as goal
 
 abbrev pub invariant-loop-k : goal.invariant-loop-k
 invariant-loop-k l = (l.k ≤ kinds) × (all (λ j. kind_sound (slot_of (decode_record l.rec)) l.set l.view (j + 1)) l.k ≡ true)
-
-abbrev pub decreases-loop-k : goal.decreases-loop-k
-decreases-loop-k l = kinds - l.k

@@ -3,25 +3,26 @@
 use mathlib.Core.Path.{◌≡◌, ap, sym, ◌∙◌}
 use mathlib.Core.Bool.{Bool, ◌&&◌}
 use native.Mathlib.Omega.{arith}
-use lib.ListN.{length}
+use Prim.Native.Nat.{ℕ}
+use lib.Dec.{eqb}
+use lib.ListN.{length, get_or}
 use Rattle.sound.specs.inside.Sound.{all}
 use Rattle.sound.specs.inside.Bulk.{zero_in}
 use Rattle.sound.proofs.Laws.{all_none}
-use Rattle.sound.proofs.All.{all_one}
+use Rattle.sound.proofs.All.{all_one, larger}
 use Rattle.sound.proofs.zero.Goals as goal
 
-pub loop-i-init : goal.loop-i-init
-loop-i-init c = (omega arith, sym (all_none _))
+pub loop-byte-init : goal.loop-byte-init
+loop-byte-init c = sym (all_none _)
 
-pub loop-i-preserved : goal.loop-i-preserved
-loop-i-preserved c =
-    let h = c.loop-i in
-    let s = c.args.s.now in
-    (omega arith, c.larger-most.ensures ∙ ap (λ (b : Bool). b && zero_in s h.i) h.invariant.1 ∙ sym (all_one (zero_in s) h.i))
+pub loop-byte-preserved : goal.loop-byte-preserved
+loop-byte-preserved c =
+    let l = c.loop-byte in
+    let test = zero_in c.args.s.now in
+    ap (λ (m : ℕ). eqb m 0) c.max-most.ensures ∙ larger l.most (get_or c.args.s.now l.byte-index 0)
+    ∙ ap (λ (b : Bool). b && test l.byte-index) l.invariant ∙ sym (all_one test l.byte-index)
 
 pub returns : goal.returns
 returns c =
-    let h = c.loop-i in
-    let s = c.args.s.now in
-    let e : h.i ≡ length s = omega arith in
-    h.invariant.1 ∙ ap (all (zero_in s)) e
+    let e : c.loop-byte.byte-index ≡ length c.args.s.now = omega arith in
+    c.loop-byte.invariant ∙ ap (all (zero_in c.args.s.now)) e
