@@ -40,13 +40,7 @@ const GROUP: usize = record::SLOT * record::ROWS;
 pub fn empty(slot: Report) -> bool
     ensures { result ≡ absent slot }
 {
-    if slot.mark != 0 {
-        return false;
-    }
-    if slot.view != 0 {
-        return false;
-    }
-    slot.plan == 0
+    slot.mark == 0 && slot.view == 0 && slot.plan == 0
 }
 
 pub fn well_formed(slot: Report) -> bool
@@ -63,13 +57,11 @@ fn follows(highest: Report, previous: Report) -> bool
 }
 
 // A previous vote against its highest.
+#[tactic(auto, unfolding(crate::specs::inside::Sound::stands))]
 pub fn previous_stands(highest: Report, previous: Report) -> bool
     ensures { result ≡ stands highest previous }
 {
-    if !well_formed(previous) {
-        return false;
-    }
-    follows(highest, previous)
+    well_formed(previous) && follows(highest, previous)
 }
 
 // ---- many slots
@@ -184,10 +176,7 @@ fn reports_fit(rec: &[u8], kind: u8, sender: u8, view: u32) -> bool
 fn above(set: Settings, view: u32, head: Head) -> bool
     ensures { result ≡ (eqb head.sender set.id && ltb view head.view) }
 {
-    if head.sender != set.id {
-        return false;
-    }
-    view < head.view
+    head.sender == set.id && view < head.view
 }
 
 // A kept proposal or vote, in a row below n.

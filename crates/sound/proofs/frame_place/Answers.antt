@@ -9,9 +9,6 @@ use Rattle.record.proofs.Laws.{place_fits}
 use Rattle.sound.proofs.Places.{place_frame}
 use Rattle.sound.proofs.frame_place.Goals as goal
 
-pub place_behind-requires : goal.place_behind-requires
-place_behind-requires c = (omega (arith, c.frame_slot.ensures.1), c.requires.row)
-
 pub returns : goal.returns
 returns c =
     let a = c.args in

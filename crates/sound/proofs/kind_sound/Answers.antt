@@ -13,10 +13,6 @@ use Rattle.sound.proofs.Laws.{off, on}
 use Rattle.sound.proofs.Rows.{kind_absent, kind_rest, kind_places}
 use Rattle.sound.proofs.kind_sound.Goals as goal
 
-pub frame_slot-from-requires : goal.frame_slot-from-requires
-frame_slot-from-requires c =
-    record { low = c.requires.1; high = c.requires.2; row = omega arith }
-
 pub slots_absent-requires : goal.slots_absent-requires
 slots_absent-requires c =
     let from = c.frame_slot-from.ensures in (

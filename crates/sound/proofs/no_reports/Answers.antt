@@ -15,10 +15,6 @@ returns-then-kind-lt-SUGGEST c =
     let a = c.args in
     sym (reports_short (slot_of (decode_record a.rec.now)) a.kind c.if-kind-lt-SUGGEST.true rows)
 
-pub report_slot-requires : goal.report_slot-requires
-report_slot-requires c =
-    (c.if-kind-lt-SUGGEST.false, omega arith, record { low = c.requires.0; high = c.requires.1; row = omega arith })
-
 pub slots_absent-requires : goal.slots_absent-requires
 slots_absent-requires c =
     let k = c.requires.1 in

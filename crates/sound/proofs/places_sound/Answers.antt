@@ -11,7 +11,7 @@ use Rattle.sound.proofs.Laws.{off, on, all_none, all_more, all_stop}
 use Rattle.sound.proofs.places_sound.Goals as goal
 
 pub loop-sender-init : goal.loop-sender-init
-loop-sender-init c = (omega arith, all_none _)
+loop-sender-init c = all_none _
 
 pub returns-then-not-place_sound : goal.returns-then-not-place_sound
 returns-then-not-place_sound c =
@@ -24,11 +24,11 @@ loop-sender-preserved c =
     let a = c.args in
     let test : ℕ → Bool = place_sound (slot_of (decode_record a.rec.now)) a.set a.view a.kind in
     let h = c.loop-sender in
-    (omega arith, all_more test h.sender h.invariant.1 (on c.place_sound.ensures c.if-not-place_sound.false))
+    all_more test h.sender h.invariant (on c.place_sound.ensures c.if-not-place_sound.false)
 
 pub returns : goal.returns
 returns c =
     let h = c.loop-sender in
     let a = c.args in
     let e : h.sender ≡ a.set.n = omega arith in
-    sym h.invariant.1 ∙ ap (all (place_sound (slot_of (decode_record a.rec.now)) a.set a.view a.kind)) e
+    sym h.invariant ∙ ap (all (place_sound (slot_of (decode_record a.rec.now)) a.set a.view a.kind)) e

@@ -1,6 +1,5 @@
 -- `sound::places_sound` meets its contract. The invariant: every sender passed is sound.
 -- Assumes nothing.
-use Prim.Native.Nat.{◌≤◌}
 use mathlib.Core.Path.{◌≡◌}
 use mathlib.Core.Bool.{true}
 use Rattle.record.specs.Slots.{slot_of}
@@ -9,4 +8,4 @@ use Rattle.sound.specs.inside.Sound.{all, place_sound}
 use Rattle.sound.proofs.places_sound.Given as goal
 
 abbrev pub invariant-loop-sender : goal.invariant-loop-sender
-invariant-loop-sender l = (l.sender ≤ l.set.n) × (all (place_sound (slot_of (decode_record l.rec)) l.set l.view l.kind) l.sender ≡ true)
+invariant-loop-sender l = all (place_sound (slot_of (decode_record l.rec)) l.set l.view l.kind) l.sender ≡ true

@@ -9,9 +9,6 @@ use Rattle.record.proofs.Laws.{place_fits}
 use Rattle.sound.proofs.Places.{place_report}
 use Rattle.sound.proofs.report_place.Goals as goal
 
-pub place_behind-requires : goal.place_behind-requires
-place_behind-requires c = (omega (arith, c.report_slot.ensures.2), c.requires.1.row)
-
 pub returns : goal.returns
 returns c =
     let a = c.args in

@@ -11,10 +11,6 @@ use Rattle.sound.proofs.Laws.{off, on}
 use Rattle.sound.proofs.Rows.{rest_frames, rest_short, rest_told}
 use Rattle.sound.proofs.rest_empty.Goals as goal
 
-pub frame_slot-requires : goal.frame_slot-requires
-frame_slot-requires c =
-    record { low = c.requires.1; high = c.requires.2; row = omega arith }
-
 pub slots_absent-requires : goal.slots_absent-requires
 slots_absent-requires c =
     let n = c.requires.0 in
@@ -40,10 +36,6 @@ returns-then-kind-lt-SUGGEST c =
     let from = c.frame_slot.ensures.0 in
     let e = c.slots_absent.ensures ∙ (λ i. all (absent_from (slot_of (decode_record a.rec.now)) (from i + a.n)) (rows - a.n)) in
     sym (rest_short (slot_of (decode_record a.rec.now)) a.kind a.n (rows - a.n) (on e c.if-not-slots_absent.false) c.if-kind-lt-SUGGEST.true)
-
-pub report_slot-requires : goal.report_slot-requires
-report_slot-requires c =
-    (c.if-kind-lt-SUGGEST.false, omega arith, record { low = c.requires.1; high = c.requires.2; row = omega arith })
 
 pub told_absent-requires : goal.told_absent-requires
 told_absent-requires c =

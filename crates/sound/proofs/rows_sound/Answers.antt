@@ -11,7 +11,7 @@ use Rattle.sound.proofs.Laws.{off, on, all_none, all_more, all_stop}
 use Rattle.sound.proofs.rows_sound.Goals as goal
 
 pub loop-k-init : goal.loop-k-init
-loop-k-init c = (omega arith, all_none _)
+loop-k-init c = all_none _
 
 pub returns-then-not-kind_sound : goal.returns-then-not-kind_sound
 unfolding rows_sound
@@ -25,11 +25,11 @@ loop-k-preserved c =
     let a = c.args in
     let test : ℕ → Bool = λ j. kind_sound (slot_of (decode_record a.rec.now)) a.set a.view (j + 1) in
     let h = c.loop-k in
-    (omega arith, all_more test h.k h.invariant.1 (on c.kind_sound.ensures c.if-not-kind_sound.false))
+    all_more test h.k h.invariant (on c.kind_sound.ensures c.if-not-kind_sound.false)
 
 pub returns : goal.returns
 unfolding rows_sound
 returns c =
     let h = c.loop-k in
     let e : h.k ≡ kinds = omega arith in
-    rw (← e) (sym h.invariant.1)
+    rw (← e) (sym h.invariant)

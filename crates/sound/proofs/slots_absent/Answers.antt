@@ -10,9 +10,6 @@ use Rattle.sound.specs.inside.Bulk.{zero_in, zero_from}
 use Rattle.sound.proofs.Places.{run_absent, run_fits, zero_part}
 use Rattle.sound.proofs.slots_absent.Goals as goal
 
-pub place_of-at-requires : goal.place_of-at-requires
-place_of-at-requires c = c.requires.0.below
-
 pub slice_bounds-zero-end : goal.slice_bounds-zero-end
 slice_bounds-zero-end c =
     let at = c.place_of-at.ensures.0 in

@@ -1,12 +1,10 @@
 -- `sound::zero` meets its contract. The invariant: the largest byte so far is 0 just where every byte passed is.
 -- Assumes nothing.
-use mathlib.Core.Path.{◌≡◌, ap, sym, ◌∙◌}
+use mathlib.Core.Path.{ap, sym, ◌∙◌}
 use mathlib.Core.Bool.{Bool, ◌&&◌}
-use native.Mathlib.Omega.{arith}
 use Prim.Native.Nat.{ℕ}
 use lib.Dec.{eqb}
-use lib.ListN.{length, get_or}
-use Rattle.sound.specs.inside.Sound.{all}
+use lib.ListN.{get_or}
 use Rattle.sound.specs.inside.Bulk.{zero_in}
 use Rattle.sound.proofs.Laws.{all_none}
 use Rattle.sound.proofs.All.{all_one, larger}
@@ -21,8 +19,3 @@ loop-byte-preserved c =
     let test = zero_in c.args.s.now in
     ap (λ (m : ℕ). eqb m 0) c.max-most.ensures ∙ larger l.most (get_or c.args.s.now l.byte-index 0)
     ∙ ap (λ (b : Bool). b && test l.byte-index) l.invariant ∙ sym (all_one test l.byte-index)
-
-pub returns : goal.returns
-returns c =
-    let e : c.loop-byte.byte-index ≡ length c.args.s.now = omega arith in
-    c.loop-byte.invariant ∙ ap (all (zero_in c.args.s.now)) e
