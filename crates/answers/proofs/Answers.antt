@@ -19,12 +19,11 @@ use Rattle.vault.specs.declared.Answer.TheVariants.{Written, Refused}
 use Rattle.vault.specs.Answers.{left_by}
 use Rattle.std.specs.Prelude.{Option as Counted, Some, None}
 use Rattle.lines.specs.Digits.{refusal_line, bytes_of}
-use Rattle.lines.specs.inside.Steps.{spells, spelling_count, OnPage, Enough, Answered}
+use Rattle.lines.specs.inside.Steps.{spells, spelling_count, OnPage, Answered}
 use Rattle.lines.proofs.Digits.{length_line}
-use Rattle.lines.proofs.Spelled.{kept_spells, spelled_short}
+use Rattle.lines.proofs.Spelled.{spelled_short}
 use Rattle.answers.specs.Lines.{entry_lines, call_of, call_left, zeroed, spelled_left, digit_limit, line_left, printed, vault_lines}
 use Rattle.answers.specs.inside.Steps.{output_size, answer_size, line_share, LaidOut, Printable, AnswerPut}
-use Rattle.answers.specs.Lines.{kept_size}
 use Rattle.answers.proofs.Entries.{laid_short}
 use Rattle.answers.proofs.Calls.{call_well, short_refused}
 
@@ -143,15 +142,3 @@ module _ (rec text page : List ℕ) (at : ℕ) (g : Counted ℕ) (bytes : List �
 -- The bytes of a line are among those that `bytes_in` was lent.
 pub count_within : (g : Counted ℕ) (n size : ℕ) → g ≡ Some n → spelling_count g ≤ size → n ≤ size
 count_within g n size is few = subst (λ (x : Counted ℕ). spelling_count x ≤ size) is few
-
--- ---- what is kept of a line
-
--- The first 91 bytes of a line leave what the line leaves.
-kept_left : (rec line : List ℕ) → line_left rec (take kept_size line) ≡ line_left rec line
-unfolding line_left
-kept_left rec line = ap (spelled_left rec) (kept_spells digit_limit line)
-
--- So a line may be cut at 91 bytes while it is read, however long it is.
-pub kept_enough : Enough vault_lines kept_size
-unfolding vault_lines
-kept_enough = record { next = λ rec line. ap record_in (kept_left rec line); says = λ rec line. ap printed (kept_left rec line) }

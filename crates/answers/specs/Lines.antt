@@ -58,7 +58,7 @@ spelled_left rec (some s) = call_left rec zeroed (call_of s)
 abbrev pub digit_limit : ℕ
 digit_limit = 90
 
--- What is kept of a line's text: one byte beyond the digits, so that 20 is given where the line gives it (`kept_enough`, proofs/Answers).
+-- What is kept of a line's text: one byte beyond the digits, so that 20 is given where the line gives it (`kept_enough`, specs/inside/Kept).
 abbrev pub kept_size : ℕ
 kept_size = suc digit_limit
 

@@ -10,9 +10,12 @@ ghost use Rattle.lines.specs.inside.Steps.{OnPage, Answered};
 ghost use Rattle.answers.specs.Lines.{is_kind, start_of, timer_of, frame_of, call_of, call_left, zeroed, entry_lines, printed, vault_lines, kept_size};
 ghost use Rattle.answers.specs.inside.Steps.{answer_size, line_share, LaidOut, Printable, AnswerPut};
 ghost use Rattle.lines.specs.Steps.{Fed, Finished};
-ghost use Rattle.answers.specs.inside.Sizes.{piece_size, page_size};
+ghost use Rattle.answers.specs.inside.Sizes.{piece_size, page_size, vault_sizes};
+ghost use Rattle.answers.specs.inside.Kept.{kept_enough};
+ghost use Rattle.std.proofs.Common.{rules};
 
 use frame::numbers;
+use lines::pieces::{self, LineProgram, Place};
 use settings::Settings;
 use vault::Answer;
 
@@ -156,11 +159,23 @@ pub const PIECE: usize = 4096;
 
 pub const PAGE: usize = 293858;
 
-// How much is kept of the line that has begun, and how much is on the page.
-#[derive(Clone, Copy)]
-pub struct Place {
-    pub len: usize,
-    pub at: usize,
+// The line program, for the reading of its input in pieces (crate lines). The record may have any length.
+pub struct VaultLines;
+
+impl LineProgram for VaultLines {
+    ghost program = { vault_lines };
+
+    ghost sizes = { vault_sizes };
+
+    ghost may_be = { λ n. Unit {0} };
+
+    ghost enough = { kept_enough };
+
+    ghost some_piece = { Prim.search rules };
+
+    fn answer_line(state: &mut [u8], text: &[u8], page: &mut [u8], at: usize) -> usize {
+        answer_line(state, text, page, at)
+    }
 }
 
 // A piece of input. The first len bytes of text are what is kept of the line that has begun; the page starts empty.
@@ -169,21 +184,7 @@ pub fn feed(rec: &mut [u8], text: &mut [u8], len: usize, page: &mut [u8], piece:
     ensures fed { Fed vault_lines kept_size rec.old (take len text.old) piece.now rec.new (take result.len text.new) (take result.at page.new) }
     ensures len_le_kept_size { (result.len ≤ kept_size) × (result.at ≤ page_size) }
 {
-    let mut kept = len;
-    let mut at = 0;
-    let mut i = 0;
-    while i < piece.len() {
-        let taken = lines::take_line(text, kept, piece, i);
-        let to = taken.len;
-        let end = taken.next;
-        if end == piece.len() {
-            return Place { len: to, at };
-        }
-        at = answer_line(rec, &text[0..to], page, at);
-        kept = 0;
-        i = end + 1;
-    }
-    Place { len: kept, at }
+    pieces::feed::<VaultLines>(rec, text, len, page, piece)
 }
 
 // The input's end: 'A line ends at byte 0a or at the input's end; after a final 0a there is no further line'.
@@ -192,8 +193,5 @@ pub fn finish(rec: &mut [u8], text: &[u8], len: usize, page: &mut [u8]) -> usize
     ensures finished { Finished vault_lines rec.old (take len text.now) rec.new (take result page.new) }
     ensures upper_bound { result ≤ page_size }
 {
-    if len == 0 {
-        return 0;
-    }
-    answer_line(rec, &text[0..len], page, 0)
+    pieces::finish::<VaultLines>(rec, text, len, page)
 }

@@ -7,6 +7,8 @@ ghost use Rattle.lines.specs.Digits.{value_of, digit_of, line_of, refusal_line, 
 ghost use Rattle.lines.specs.inside.Lines.{first_line};
 ghost use Rattle.lines.specs.inside.Steps.{ValueOf, spells, spelling_count, digits_of, OnPage, KeptOf};
 
+pub mod pieces;
+
 // 'A line ends at byte 0a'.
 const LINE_END: u8 = 10;
 

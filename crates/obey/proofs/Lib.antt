@@ -1,4 +1,3 @@
 pub mod Sent
 pub mod Answers
-pub mod Kept
 pub mod Whole

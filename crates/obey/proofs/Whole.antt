@@ -5,7 +5,7 @@ use Rattle.lines.proofs.Whole.{any_split}
 use Rattle.stage.specs.Stage.{empty_stage}
 use Rattle.stage.specs.Lines.{digit_limit, rehearsal}
 use Rattle.obey.specs.Steps.{WholeInput}
-use Rattle.obey.proofs.Kept.{kept_enough}
+use Rattle.obey.specs.inside.Kept.{kept_enough}
 
 -- The promise of the rehearsal whole.
 pub whole_input : WholeInput

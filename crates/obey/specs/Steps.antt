@@ -6,7 +6,7 @@ use Rattle.lines.specs.Steps.{Finished, Reads}
 use Rattle.stage.specs.Stage.{empty_stage}
 use Rattle.stage.specs.Lines.{digit_limit, rehearsal, rehearsal_prints}
 
--- What is kept of a line's text: one byte beyond the digits, so that 20 is given where the line gives it (`kept_enough`, proofs/Kept).
+-- What is kept of a line's text: one byte beyond the digits, so that 20 is given where the line gives it (`kept_enough`, specs/inside/Kept).
 abbrev pub kept_size : ℕ
 kept_size = suc digit_limit
 

@@ -15,9 +15,12 @@ ghost use Rattle.stage.specs.Lines.{sent, entry_done, entries_done, vault_in, li
 ghost use Rattle.stage.specs.inside.Parts.{frame_most, on_way, Named};
 ghost use Rattle.obey.specs.inside.Parts.{head_of, put_by, DoneAt, IsEntry};
 ghost use Rattle.obey.specs.Steps.{kept_size};
-ghost use Rattle.obey.specs.inside.Sizes.{answer_size, line_share, piece_size, page_size};
+ghost use Rattle.obey.specs.inside.Sizes.{answer_size, line_share, piece_size, page_size, stage_sizes};
+ghost use Rattle.obey.specs.inside.Kept.{kept_enough};
+ghost use Rattle.std.proofs.Common.{rules};
 
 use frame::numbers;
+use lines::pieces::{self, LineProgram, Place};
 use stage::{Way, calls, places};
 use vault::Answer;
 
@@ -172,11 +175,23 @@ pub const PIECE: usize = 1024;
 
 pub const PAGE: usize = 173094;
 
-// How much is kept of the line that has begun, and how much is on the page.
-#[derive(Clone, Copy)]
-pub struct Place {
-    pub len: usize,
-    pub at: usize,
+// The rehearsal, for the reading of its script in pieces (crate lines).
+pub struct Rehearsal;
+
+impl LineProgram for Rehearsal {
+    ghost program = { rehearsal };
+
+    ghost sizes = { stage_sizes };
+
+    ghost may_be = { λ n. n ≡ stage_size };
+
+    ghost enough = { kept_enough };
+
+    ghost some_piece = { Prim.search rules };
+
+    fn answer_line(state: &mut [u8], text: &[u8], page: &mut [u8], at: usize) -> usize {
+        obey_line(state, text, page, at)
+    }
 }
 
 // A piece of input. The first len bytes of text are what is kept of the line that has begun; the page starts empty.
@@ -185,21 +200,7 @@ pub fn feed(stage: &mut [u8], text: &mut [u8], len: usize, page: &mut [u8], piec
     ensures fed { Fed rehearsal kept_size stage.old (take len text.old) piece.now stage.new (take result.len text.new) (take result.at page.new) }
     ensures len_le_kept_size { (result.len ≤ kept_size) × (result.at ≤ page_size) }
 {
-    let mut kept = len;
-    let mut at = 0;
-    let mut i = 0;
-    while i < piece.len() {
-        let taken = lines::take_line(text, kept, piece, i);
-        let to = taken.len;
-        let end = taken.next;
-        if end == piece.len() {
-            return Place { len: to, at };
-        }
-        at = obey_line(stage, &text[0..to], page, at);
-        kept = 0;
-        i = end + 1;
-    }
-    Place { len: kept, at }
+    pieces::feed::<Rehearsal>(stage, text, len, page, piece)
 }
 
 // The input's end: 'A line ends at byte 0a or at the input's end; after a final 0a there is no further line'.
@@ -208,8 +209,5 @@ pub fn finish(stage: &mut [u8], text: &[u8], len: usize, page: &mut [u8]) -> usi
     ensures finished { Finished rehearsal stage.old (take len text.now) stage.new (take result page.new) }
     ensures upper_bound { result ≤ page_size }
 {
-    if len == 0 {
-        return 0;
-    }
-    obey_line(stage, &text[0..len], page, 0)
+    pieces::finish::<Rehearsal>(stage, text, len, page)
 }
