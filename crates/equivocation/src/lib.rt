@@ -61,9 +61,7 @@ fn differs_before(records: &[u8], i: usize, slot: usize) -> bool
     ensures { result ≡ clashes_before records.now slot i }
 {
     let vote = slot_in(records, i, slot);
-    let mut j: usize = i;
-    while 0 < j {
-        j -= 1;
+    for j in (0..i).rev() {
         if differ(vote, slot_in(records, j, slot)) {
             return true;
         }
@@ -130,8 +128,8 @@ fn name_all(records: &[u8], count: usize, n: u8, out: &mut [u8]) -> usize
 fn sizes_fit(lengths: &[u32]) -> bool
     ensures { result ≡ all (size_fits lengths.now) (length lengths.now) }
 {
-    for i in 0..lengths.len() {
-        if lengths[i] != LENGTH {
+    for &length in lengths {
+        if length != LENGTH {
             return false;
         }
     }
@@ -142,10 +140,7 @@ fn sizes_fit(lengths: &[u32]) -> bool
 fn alike(a: Settings, b: Settings) -> bool
     ensures { result ≡ not (unlike a b) }
 {
-    if a.n != b.n {
-        return false;
-    }
-    a.f == b.f
+    a.n == b.n && a.f == b.f
 }
 
 // Whether a record is sound, and has the n and f of the settings.

@@ -12,7 +12,7 @@ use borrow.Author.Tests.{eq-eqb, ne_eqb, lt-ltb, le-ltb, le-leb, lt-leb, leb-tru
 use lib.Dec.{leb, eqb}
 use lib.ListN.{length, get_or}
 use Rattle.std.specs.Prelude.{Result, Ok, Err}
-use Rattle.std.specs.Result.{is_err}
+use Rattle.std.specs.Result.{is_ok, is_err}
 use Rattle.wire.specs.Digits.{number_at}
 use Rattle.frame.specs.declared.Body.TheVariants.{Plan, Empty, Told}
 use Rattle.frame.specs.Format.{within, length_of, reports_at, body_as}
@@ -226,3 +226,8 @@ refuses (Err why) e table z = numbered why (table ∙ z)
 pub passes : (answer : Result Unit Refusal) {k : ℕ} → is_err answer ≡ false → number_in answer ≡ k → k ≡ 0
 passes (Ok x) e table = sym table
 passes (Err why) e table = absurd (true≢false e)
+
+-- Whether it passes, as the test on its number says.
+pub passing : (answer : Result Unit Refusal) → is_ok answer ≡ eqb (number_in answer) 0
+passing (Ok x) = refl
+passing (Err why) = sym (ne_eqb (number_of why) 0 (numbered why))

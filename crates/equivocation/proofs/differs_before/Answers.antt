@@ -21,9 +21,6 @@ slot_in-vote-requires c = (c.requires.0, c.requires.1)
 pub loop-j-init : goal.loop-j-init
 loop-j-init c = (omega arith, none_yet _ _)
 
-pub overflow_sub-j : goal.overflow_sub-j
-overflow_sub-j c = omega arith
-
 pub slot_in-requires : goal.slot_in-requires
 slot_in-requires c =
     let given = c.requires in

@@ -21,9 +21,6 @@ name-at-requires c =
     let below : c.loop-sender.sender < 64 = omega (arith, given.1, c.loop-sender-test.true) in
     (given.0, below, omega (arith, given.2, below, i.1, few))
 
-pub overflow_add-sender : goal.overflow_add-sender
-overflow_add-sender c =
-    omega (arith, c.loop-sender-test.true, c.requires.1)
 
 pub loop-sender-smaller : goal.loop-sender-smaller
 loop-sender-smaller c = omega (arith, c.loop-sender-test.true)

@@ -1,6 +1,6 @@
 -- `equivocation::sizes_fit` meets its contract. The invariant: every length passed is that of a record.
 -- Assumes nothing.
-use Prim.Native.Nat.{◌-◌, ◌≤◌}
+use Prim.Native.Nat.{◌≤◌}
 use mathlib.Core.Path.{◌≡◌}
 use mathlib.Core.Bool.{true}
 use lib.ListN.{length}
@@ -8,8 +8,5 @@ use Rattle.sound.specs.inside.Sound.{all}
 use Rattle.equivocation.specs.inside.Records.{size_fits}
 use Rattle.equivocation.proofs.sizes_fit.Given as goal
 
-abbrev pub invariant-loop-i : goal.invariant-loop-i
-invariant-loop-i l = (l.i ≤ length l.lengths) × (all (size_fits l.lengths) l.i ≡ true)
-
-abbrev pub decreases-loop-i : goal.decreases-loop-i
-decreases-loop-i l = length l.lengths - l.i
+abbrev pub invariant-loop-length : goal.invariant-loop-length
+invariant-loop-length l = (l.length-index ≤ length l.lengths) × (all (size_fits l.lengths) l.length-index ≡ true)

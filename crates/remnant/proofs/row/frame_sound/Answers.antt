@@ -3,6 +3,7 @@
 use mathlib.Core.Path.{sym, ap, ◌∙◌}
 use Prim.Native.Nat.{ℕ}
 use lib.Dec.{eqb}
+use Rattle.frame.proofs.Laws.{passing}
 use Rattle.remnant.proofs.Frames.{frame_above, frame_rows}
 use Rattle.remnant.proofs.row.frame_sound.Goals as goal
 
@@ -14,5 +15,5 @@ returns-then-above c =
 pub returns : goal.returns
 returns c =
     let a = c.args in
-    ap (λ (k : ℕ). eqb k 0) c.frame_refusal.ensures
+    c.is_ok.ensures.value ∙ passing _ ∙ ap (λ (k : ℕ). eqb k 0) c.frame_refusal.ensures
     ∙ sym (frame_rows a.set a.view a.f c.requires.0 c.requires.1 (sym c.above.ensures ∙ c.if-above.false))
