@@ -57,7 +57,6 @@ fn follows(highest: Report, previous: Report) -> bool
 }
 
 // A previous vote against its highest.
-#[tactic(auto, unfolding(crate::specs::inside::Sound::stands))]
 pub fn previous_stands(highest: Report, previous: Report) -> bool
     ensures { result ≡ stands highest previous }
 {
