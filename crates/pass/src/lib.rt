@@ -24,7 +24,7 @@ ghost use Rattle.pass.specs.inside.Passes.{steps_from};
 use acts::Act;
 use entry::Entry;
 use settings::Settings;
-use steps::{Entries, Own, Wrote};
+use steps::{Entries, Own};
 
 // ---- the own part by value, and back
 
@@ -35,10 +35,10 @@ fn load(rec: &[u8]) -> Own
 {
     let mut bytes = [0; own::SIZE];
     own::load(rec, &mut bytes);
-    let wrote = Wrote {
-        entries: Entries::Zero,
-    };
-    Own { bytes, wrote }
+    Own {
+        bytes,
+        wrote: Entries::Zero,
+    }
 }
 
 // Puts back what sending vote-k changed: the vote and, of vote-1 and vote-2, the previous one.
@@ -88,8 +88,7 @@ fn run_ask(rec: &mut [u8], id: u8, w: u32, out: &mut [u8], at: usize) -> usize
 {
     let r = load(rec);
     let s = r.step_a(w);
-    let wrote = s.wrote;
-    let entries = wrote.entries;
+    let entries = s.wrote;
     own::store_slot(&s.bytes, id, steps::CHANGE, rec);
     write_entries(out, at, entries)
 }
@@ -101,8 +100,7 @@ fn run_enter(rec: &mut [u8], id: u8, w: u32, out: &mut [u8], at: usize) -> usize
 {
     let r = load(rec);
     let s = r.step_b(w);
-    let wrote = s.wrote;
-    let entries = wrote.entries;
+    let entries = s.wrote;
     own::store(&s.bytes, id, rec);
     write_entries(out, at, entries)
 }
@@ -114,8 +112,7 @@ fn run_cast(rec: &mut [u8], id: u8, k: u8, p: u64, out: &mut [u8], at: usize) ->
 {
     let r = load(rec);
     let s = r.step_cast(k, p);
-    let wrote = s.wrote;
-    let entries = wrote.entries;
+    let entries = s.wrote;
     store_vote(&s.bytes, id, k, rec);
     write_entries(out, at, entries)
 }
@@ -127,8 +124,7 @@ fn run_decide(rec: &mut [u8], id: u8, p: u64, out: &mut [u8], at: usize) -> usiz
 {
     let r = load(rec);
     let s = r.step_h(p);
-    let wrote = s.wrote;
-    let entries = wrote.entries;
+    let entries = s.wrote;
     own::store_slot(&s.bytes, id, own::DECISION, rec);
     write_entries(out, at, entries)
 }

@@ -4,7 +4,7 @@
 -- Assumes nothing.
 use Prim.Native.Nat.{ℕ, zero, suc, ◌+◌, ◌-◌, ◌*◌, ◌^◌, ◌≤◌, ◌<◌}
 use mathlib.Core.Path.{◌≡◌, refl, sym, ◌∙◌, ap, subst}
-use mathlib.Core.Logic.{◌≢◌, ⊎_elim}
+use mathlib.Core.Logic.{⊎_elim}
 use mathlib.Core.Bool.{Bool, true, false, not, cond}
 use mathlib.Core.List.{List, [], ◌∷◌}
 use mathlib.Core.Option.{Option, none, some}
@@ -51,7 +51,6 @@ use Rattle.contents.specs.inside.Ready.{Ready}
 use Rattle.contents.proofs.Parts.{decided, clean_decide}
 use Rattle.contents.proofs.Acts.{contents_cast, clean_cast, contents_ask, clean_ask, tells_at, entered_by, contents_enter, clean_enter, contents_decided}
 use Rattle.contents.proofs.Ready.{ready_as, ready_row}
-use Rattle.acts.specs.declared.Act as acts
 use Rattle.acts.specs.inside.Acts.{act_at}
 use Rattle.steps.specs.declared.Entries.{Entries}
 use Rattle.steps.specs.declared.Entries.TheVariants.{Sent, Decided, Led, Followed}
@@ -399,11 +398,6 @@ step_by (suc (suc (suc (suc (suc zero))))) c = refl
 step_by (suc (suc (suc (suc (suc (suc zero)))))) c = refl
 step_by (suc (suc (suc (suc (suc (suc (suc zero))))))) c = refl
 step_by (suc (suc (suc (suc (suc (suc (suc (suc k)))))))) c = refl
-
--- The code's match knows the vote: what an arm's step left is what the step of that vote leaves.
-pub takes_as : {k j p : ℕ} {s t : List ℕ} {e : Entries} → k ≡ j → Takes (act_at (j + 2)) (step_at (j + 2)) (some (cast j p)) s t e
-    → Takes (act_at (k + 2)) (step_at (k + 2)) (some (cast k p)) s t e
-takes_as {p = p} {s} {t} {e} is = subst (λ (i : ℕ). Takes (act_at (i + 2)) (step_at (i + 2)) (some (cast i p)) s t e) (sym is)
 
 -- A step without an act leaves record and output as they are, so crate pass may leave it out.
 pub idle_step : (k : ℕ) (c : Record) → act_at k c ≡ none → step_at k c ≡ taken c none

@@ -10,7 +10,7 @@ ghost use Rattle.record.specs.inside.Keeping.{moves, shifted_slots};
 ghost use Rattle.own.specs.Size.{remnant_size};
 ghost use Rattle.own.specs.inside.Own.{settings_in, reports_in, Changes};
 ghost use Rattle.protocol.specs.Pass.{ask, enter, cast, decide};
-ghost use Rattle.protocol.specs.Pass.{act_a, act_b, act_c, act_d, act_vote, act_h, step_a, step_b, step_c, step_d, step_vote, step_h};
+ghost use Rattle.protocol.specs.Pass.{act_a, act_b, act_h, step_a, step_b, step_h};
 ghost use Rattle.acts.specs.inside.Acts.{act_at};
 ghost use Rattle.steps.specs.inside.Steps.{changes};
 ghost use Rattle.steps.specs.inside.Own.{Tell, Does, Takes};
@@ -19,7 +19,7 @@ ghost use Rattle.steps.specs.inside.Order.{step_at};
 use frame::{Body, Frame, Report, Reports, numbers};
 use settings::Settings;
 
-// The entries that a step writes: none; a frame for all vaults (A, C to G); the decision (H); a timer, given by view and milliseconds,
+// The entries that a step writes: none (one count among five, so no Option stands around the others); a frame for all vaults (A, C to G); the decision (H); a timer, given by view and milliseconds,
 // with the proof for all (B, where the vault leads the view), and with the suggest for the leader (B elsewhere).
 #[derive(Clone, Copy)]
 pub enum Entries {
@@ -30,17 +30,12 @@ pub enum Entries {
     Followed(u32, u32, Frame, u8, Frame),
 }
 
-// What a step wrote: as a struct it is stored in a field.
-#[derive(Clone, Copy)]
-pub struct Wrote {
-    pub entries: Entries,
-}
-
-// A vault's own part of its record by value, with the entries of the step that left it. A step takes one and hands one back.
+// A vault's own part of its record by value, with the entries of the step that left it. Document 01 has steps A to H as methods that take self and hand
+// back record with entries, so a step takes one and hands one back.
 #[derive(Clone, Copy)]
 pub struct Own {
     pub bytes: [u8; own::SIZE],
-    pub wrote: Wrote,
+    pub wrote: Entries,
 }
 
 // The own slot of the view-change.
@@ -69,15 +64,13 @@ pub fn change_frame(id: u8, w: u32) -> Frame
 }
 
 // To ask for a view.
-fn ask_in(part: &mut [u8; own::SIZE], w: u32) -> Wrote
-    ensures { Does (some (ask w)) part.old part.new result.entries }
+fn ask_in(part: &mut [u8; own::SIZE], w: u32) -> Entries
+    ensures { Does (some (ask w)) part.old part.new result }
 {
     let set = own::settings_in(part);
     let f = change_frame(set.id, w);
     own::put_in(part, CHANGE, frame::present(w, 0));
-    Wrote {
-        entries: Entries::Sent(f),
-    }
+    Entries::Sent(f)
 }
 
 // A new vote of a kind for a plan moves the kept one to the previous one.
@@ -117,9 +110,9 @@ fn shift(part: &mut [u8], kind: u8, p: u64)
 }
 
 // To send a vote, or a proposal (0): the kinds of the votes follow that of the proposal.
-fn cast_in(part: &mut [u8; own::SIZE], k: u8, p: u64) -> Wrote
+fn cast_in(part: &mut [u8; own::SIZE], k: u8, p: u64) -> Entries
     requires { k ≤ 4 }
-    ensures { Does (some (cast k p)) part.old part.new result.entries }
+    ensures { Does (some (cast k p)) part.old part.new result }
 {
     let set = own::settings_in(part);
     let view = own::view_in(part);
@@ -131,20 +124,16 @@ fn cast_in(part: &mut [u8; own::SIZE], k: u8, p: u64) -> Wrote
     };
     shift(part, k + numbers::PROPOSAL, p);
     own::put_in(part, k, frame::present(view, p));
-    Wrote {
-        entries: Entries::Sent(f),
-    }
+    Entries::Sent(f)
 }
 
 // To decide a plan.
-fn decide_in(part: &mut [u8; own::SIZE], p: u64) -> Wrote
-    ensures { Does (some (decide p)) part.old part.new result.entries }
+fn decide_in(part: &mut [u8; own::SIZE], p: u64) -> Entries
+    ensures { Does (some (decide p)) part.old part.new result }
 {
     let view = own::view_in(part);
     own::put_in(part, own::DECISION, frame::present(view, p));
-    Wrote {
-        entries: Entries::Decided(view, p),
-    }
+    Entries::Decided(view, p)
 }
 
 // The reports of the own suggest or proof: the highest and the previous own vote of the kind `claim`, and the highest of the kind `lock`.
@@ -214,15 +203,14 @@ fn tell_in(part: &mut [u8], set: Settings, w: u32, proof: Reports, suggest: Repo
 }
 
 // To enter a view.
-fn enter_in(part: &mut [u8; own::SIZE], w: u32) -> Wrote
+fn enter_in(part: &mut [u8; own::SIZE], w: u32) -> Entries
     requires { 0 < get_or part.old 0 0 }
-    ensures { Does (some (enter w)) part.old part.new result.entries }
+    ensures { Does (some (enter w)) part.old part.new result }
 {
     let set = own::settings_in(part);
     let proof = reports_of(part, numbers::VOTE_1, numbers::VOTE_4);
     let suggest = reports_of(part, numbers::VOTE_2, numbers::VOTE_3);
-    let entries = tell_in(part, set, w, proof, suggest);
-    Wrote { entries }
+    tell_in(part, set, w, proof, suggest)
 }
 
 // ---- steps
@@ -230,88 +218,35 @@ fn enter_in(part: &mut [u8; own::SIZE], w: u32) -> Wrote
 impl Own {
     // A: to ask for a view that f + 1 vaults ask for.
     pub fn step_a(mut self, w: u32) -> Own
-        ensures { Takes act_a step_a (some (ask w)) self.bytes result.bytes result.wrote.entries }
+        ensures { Takes act_a step_a (some (ask w)) self.bytes result.bytes result.wrote }
     {
-        let wrote = ask_in(&mut self.bytes, w);
-        self.wrote = wrote;
+        self.wrote = ask_in(&mut self.bytes, w);
         self
     }
 
     // B: to enter a view that a quorum asks for.
     pub fn step_b(mut self, w: u32) -> Own
         requires { 0 < get_or self.bytes 0 0 }
-        ensures { Takes act_b step_b (some (enter w)) self.bytes result.bytes result.wrote.entries }
+        ensures { Takes act_b step_b (some (enter w)) self.bytes result.bytes result.wrote }
     {
-        let wrote = enter_in(&mut self.bytes, w);
-        self.wrote = wrote;
+        self.wrote = enter_in(&mut self.bytes, w);
         self
     }
 
-    // C: to propose, where the vault leads.
-    pub fn step_c(mut self, p: u64) -> Own
-        ensures { Takes act_c step_c (some (cast 0 p)) self.bytes result.bytes result.wrote.entries }
+    // C to G: to propose where the vault leads (k is 0), to send vote-1 for the leader's proposal, and vote-2 to vote-4 on a quorum of the vote before.
+    pub fn step_cast(mut self, k: u8, p: u64) -> Own
+        requires { k ≤ 4 }
+        ensures { Takes (act_at (k + 2)) (step_at (k + 2)) (some (cast k p)) self.bytes result.bytes result.wrote }
     {
-        let wrote = cast_in(&mut self.bytes, 0, p);
-        self.wrote = wrote;
-        self
-    }
-
-    // D: to send vote-1 for the leader's proposal.
-    pub fn step_d(mut self, p: u64) -> Own
-        ensures { Takes act_d step_d (some (cast 1 p)) self.bytes result.bytes result.wrote.entries }
-    {
-        let wrote = cast_in(&mut self.bytes, 1, p);
-        self.wrote = wrote;
-        self
-    }
-
-    // E: to send vote-2 on a quorum of vote-1.
-    pub fn step_e(mut self, p: u64) -> Own
-        ensures { Takes (λ c. act_vote c 1) (step_vote 1) (some (cast 2 p)) self.bytes result.bytes result.wrote.entries }
-    {
-        let wrote = cast_in(&mut self.bytes, 2, p);
-        self.wrote = wrote;
-        self
-    }
-
-    // F: to send vote-3 on a quorum of vote-2.
-    pub fn step_f(mut self, p: u64) -> Own
-        ensures { Takes (λ c. act_vote c 2) (step_vote 2) (some (cast 3 p)) self.bytes result.bytes result.wrote.entries }
-    {
-        let wrote = cast_in(&mut self.bytes, 3, p);
-        self.wrote = wrote;
-        self
-    }
-
-    // G: to send vote-4 on a quorum of vote-3.
-    pub fn step_g(mut self, p: u64) -> Own
-        ensures { Takes (λ c. act_vote c 3) (step_vote 3) (some (cast 4 p)) self.bytes result.bytes result.wrote.entries }
-    {
-        let wrote = cast_in(&mut self.bytes, 4, p);
-        self.wrote = wrote;
+        self.wrote = cast_in(&mut self.bytes, k, p);
         self
     }
 
     // H: to decide.
     pub fn step_h(mut self, p: u64) -> Own
-        ensures { Takes act_h step_h (some (decide p)) self.bytes result.bytes result.wrote.entries }
+        ensures { Takes act_h step_h (some (decide p)) self.bytes result.bytes result.wrote }
     {
-        let wrote = decide_in(&mut self.bytes, p);
-        self.wrote = wrote;
+        self.wrote = decide_in(&mut self.bytes, p);
         self
-    }
-
-    // The step of C to G that sends vote-k (0: the proposal).
-    pub fn step_cast(self, k: u8, p: u64) -> Own
-        requires { k ≤ 4 }
-        ensures { Takes (act_at (k + 2)) (step_at (k + 2)) (some (cast k p)) self.bytes result.bytes result.wrote.entries }
-    {
-        match k {
-            0 => self.step_c(p),
-            1 => self.step_d(p),
-            2 => self.step_e(p),
-            3 => self.step_f(p),
-            _ => self.step_g(p),
-        }
     }
 }

@@ -4,8 +4,6 @@ use mathlib.Core.Path.{refl}
 use borrow.Author.Tests.{eq-eqb, ne_eqb, le-leb, lt-leb}
 use Rattle.frame.specs.Format.{within}
 use Rattle.record.specs.inside.Keeping.{moves}
-use Rattle.steps.proofs.vote_moves.Reads as reads
-use Rattle.steps.proofs.vote_moves.Lts as lts
 use Rattle.steps.proofs.vote_moves.Goals as goal
 
 pub returns-then-kind-lt-VOTE_1 : goal.returns-then-kind-lt-VOTE_1
