@@ -19,8 +19,9 @@ ghost use Rattle.steps.specs.inside.Order.{step_at};
 use frame::{Body, Frame, Report, Reports, numbers};
 use settings::Settings;
 
-// The entries that a step writes: none (one count among five, so no Option stands around the others); a frame for all vaults (A, C to G); the decision (H); a timer, given by view and milliseconds,
-// with the proof for all (B, where the vault leads the view), and with the suggest for the leader (B elsewhere).
+// The entries that a step writes: none; a frame for all vaults (A, C to G); the decision (H); a timer, given by view and milliseconds,
+// with the proof for all (B, where the vault leads the view), and with the suggest for the leader (B elsewhere). None is one count among
+// five, so no Option stands around the others.
 #[derive(Clone, Copy)]
 pub enum Entries {
     Zero,
