@@ -86,11 +86,9 @@ fn run_ask(rec: &mut [u8], id: u8, w: u32, out: &mut [u8], at: usize) -> usize
     requires { Due 0 (some (ask w)) rec.old id × Room (step_at 0 (contents_in rec.old)) at out.old }
     ensures { Ran (step_at 0 (contents_in rec.old)) at out.old out.new result rec.new }
 {
-    let r = load(rec);
-    let s = r.step_a(w);
-    let entries = s.wrote;
-    own::store_slot(&s.bytes, id, steps::CHANGE, rec);
-    write_entries(out, at, entries)
+    let left = load(rec).step_a(w);
+    own::store_slot(&left.bytes, id, steps::CHANGE, rec);
+    write_entries(out, at, left.wrote)
 }
 
 // B: the view, and all of the own part.
@@ -98,11 +96,9 @@ fn run_enter(rec: &mut [u8], id: u8, w: u32, out: &mut [u8], at: usize) -> usize
     requires { Due 1 (some (enter w)) rec.old id × Room (step_at 1 (contents_in rec.old)) at out.old }
     ensures { Ran (step_at 1 (contents_in rec.old)) at out.old out.new result rec.new }
 {
-    let r = load(rec);
-    let s = r.step_b(w);
-    let entries = s.wrote;
-    own::store(&s.bytes, id, rec);
-    write_entries(out, at, entries)
+    let left = load(rec).step_b(w);
+    own::store(&left.bytes, id, rec);
+    write_entries(out, at, left.wrote)
 }
 
 // C to G, by the vote that they send (0: the proposal): that vote.
@@ -110,11 +106,9 @@ fn run_cast(rec: &mut [u8], id: u8, k: u8, p: u64, out: &mut [u8], at: usize) ->
     requires { Due (k + 2) (some (cast k p)) rec.old id × (k ≤ 4) × Room (step_at (k + 2) (contents_in rec.old)) at out.old }
     ensures { Ran (step_at (k + 2) (contents_in rec.old)) at out.old out.new result rec.new }
 {
-    let r = load(rec);
-    let s = r.step_cast(k, p);
-    let entries = s.wrote;
-    store_vote(&s.bytes, id, k, rec);
-    write_entries(out, at, entries)
+    let left = load(rec).step_cast(k, p);
+    store_vote(&left.bytes, id, k, rec);
+    write_entries(out, at, left.wrote)
 }
 
 // H: the decision.
@@ -122,11 +116,9 @@ fn run_decide(rec: &mut [u8], id: u8, p: u64, out: &mut [u8], at: usize) -> usiz
     requires { Due 7 (some (decide p)) rec.old id × Room (step_at 7 (contents_in rec.old)) at out.old }
     ensures { Ran (step_at 7 (contents_in rec.old)) at out.old out.new result rec.new }
 {
-    let r = load(rec);
-    let s = r.step_h(p);
-    let entries = s.wrote;
-    own::store_slot(&s.bytes, id, own::DECISION, rec);
-    write_entries(out, at, entries)
+    let left = load(rec).step_h(p);
+    own::store_slot(&left.bytes, id, own::DECISION, rec);
+    write_entries(out, at, left.wrote)
 }
 
 // ---- one step after the other, with the entries written from a place on

@@ -32,9 +32,6 @@ view_after-view-requires c =
     let ran = c.take_step-count.ensures in
     (ran.ready.size, λ ne. l.invariant.here ∙ sym (view_stays l.k l.rec ran ne))
 
-pub loop-k-smaller : goal.loop-k-smaller
-loop-k-smaller c = omega arith
-
 pub loop-k-preserved : goal.loop-k-preserved
 loop-k-preserved c =
     going_step c.loop-k.invariant c.loop-k-test.true

@@ -13,7 +13,7 @@ use Rattle.pass.proofs.run_decide.Goals as goal
 pub store_slot-requires : goal.store_slot-requires
 unfolding act_at
 store_slot-requires c = (
-  c.step_h-s.ensures.size,
+  c.step_h-left.ensures.size,
   subst (λ (i : ℕ). i < rows) (sym c.requires.0.own)
       (ready_row c.requires.0.ready),
   omega arith,
@@ -23,25 +23,25 @@ store_slot-requires c = (
 pub write_entries-requires : goal.write_entries-requires
 unfolding act_at
 write_entries-requires c =
-    room_taken 7 c.args.rec.now c.requires.0 c.load-r.ensures
-    c.step_h-s.result.bytes
-    c.step_h-s.ensures c.args.at c.args.out.now c.requires.1
+    room_taken 7 c.args.rec.now c.requires.0 c.load.ensures
+    c.step_h-left.result.bytes
+    c.step_h-left.ensures c.args.at c.args.out.now c.requires.1
 
 pub returns : goal.returns
 unfolding act_at
 returns c =
     let held = stored_one c.args.rec.now c.args.id
-    c.step_h-s.result.bytes
+    c.step_h-left.result.bytes
     (decide_left c.args.rec.now c.requires.0.ready c.args.id c.requires.0.own
-    c.step_h-s.result.bytes
-    c.step_h-s.ensures.size c.args.p
+    c.step_h-left.result.bytes
+    c.step_h-left.ensures.size c.args.p
     (did_act 7 c.args.rec.now c.requires.0
-    c.load-r.ensures
-    c.step_h-s.result.bytes
-    c.step_h-s.ensures)) 16 (omega arith) (λ i e. e)
+    c.load.ensures
+    c.step_h-left.result.bytes
+    c.step_h-left.ensures)) 16 (omega arith) (λ i e. e)
     c.store_slot.ensures in
     ran_step 7 c.args.rec.now c.requires.0
-    c.load-r.ensures
-    c.step_h-s.result.bytes
-    c.step_h-s.ensures c.args.at
+    c.load.ensures
+    c.step_h-left.result.bytes
+    c.step_h-left.ensures c.args.at
     c.args.out.now held c.write_entries.ensures
