@@ -1,23 +1,13 @@
 -- `pass::pass_from` meets its contract: one step after the other, up to the last. The view that is at hand is the record's.
 -- Assumes nothing.
-use Prim.Native.Nat.{◌-◌}
 use mathlib.Core.Path.{sym, ap, ◌∙◌}
-use native.Mathlib.Omega.{arith}
 use Rattle.settings.specs.declared.Settings.{Settings}
-use Rattle.pass.proofs.Passes.{view_stays, going_first, room_step, going_step, going_done, going_size}
+use Rattle.pass.proofs.Passes.{view_stays, going_first, room_step, going_step, going_done}
 use Rattle.pass.proofs.pass_from.Goals as goal
-
-pub view_of-view-requires : goal.view_of-view-requires
-view_of-view-requires c = c.requires.0.size
 
 pub loop-k-init : goal.loop-k-init
 loop-k-init c =
     going_first c.view_of-view.ensures c.requires.0 c.requires.2 c.requires.3
-
-pub act_at-act-requires : goal.act_at-act-requires
-act_at-act-requires c =
-    let g = c.loop-k.invariant in
-    (g.ready, c.requires.1 ∙ sym g.same, g.here, c.loop-k-test.true)
 
 pub take_step-count-requires : goal.take_step-count-requires
 take_step-count-requires c =
@@ -36,12 +26,6 @@ pub loop-k-preserved : goal.loop-k-preserved
 loop-k-preserved c =
     going_step c.loop-k.invariant c.loop-k-test.true
     c.take_step-count.ensures c.view_after-view.ensures
-
-pub shape_of-rec : goal.shape_of-rec
-shape_of-rec c = going_size c.loop-k.invariant c.requires.0.size
-
-pub shape_of-out : goal.shape_of-out
-shape_of-out c = c.loop-k.invariant.size
 
 pub returns : goal.returns
 returns c = going_done c.loop-k.invariant c.loop-k-test.false

@@ -3,33 +3,8 @@
 use mathlib.Core.Path.{ap}
 use native.Mathlib.Omega.{arith}
 use Rattle.steps.specs.inside.Steps.{list_of}
-use Rattle.pass.proofs.Runs.{size_one, size_two, size_three, wrote_zero, wrote_one, wrote_two, wrote_three}
+use Rattle.pass.proofs.Runs.{size_three, wrote_zero, wrote_two, wrote_three}
 use Rattle.pass.proofs.write_entries.Goals as goal
-
-pub put_entry-requires : goal.put_entry-requires
-put_entry-requires c =
-    let size = size_one c.args.e _ (ap list_of c.in-Sent.is) in
-    omega (arith, size, c.requires)
-
-pub put_entry-requires-in-Decided : goal.put_entry-requires-in-Decided
-put_entry-requires-in-Decided c =
-    let size = size_one c.args.e _ (ap list_of c.in-Decided.is) in
-    omega (arith, size, c.requires)
-
-pub put_entry-next-requires : goal.put_entry-next-requires
-put_entry-next-requires c =
-    let size = size_two c.args.e _ _ (ap list_of c.in-Led.is) in
-    omega (arith, size, c.requires)
-
-pub put_entry-requires-in-Led : goal.put_entry-requires-in-Led
-put_entry-requires-in-Led c =
-    let size = size_two c.args.e _ _ (ap list_of c.in-Led.is) in
-    omega (arith, size, c.requires, c.put_entry-next.ensures.0)
-
-pub put_entry-second-requires : goal.put_entry-second-requires
-put_entry-second-requires c =
-    let size = size_three c.args.e _ _ _ (ap list_of c.in-Followed.is) in
-    omega (arith, size, c.requires)
 
 pub put_entry-third-requires : goal.put_entry-third-requires
 put_entry-third-requires c =
@@ -44,14 +19,6 @@ put_entry-requires-in-Followed c =
 pub returns-in-Zero : goal.returns-in-Zero
 returns-in-Zero c =
     wrote_zero c.args.e c.args.at c.args.out.now c.requires (ap list_of c.in-Zero.is)
-
-pub returns-in-Sent : goal.returns-in-Sent
-returns-in-Sent c =
-    wrote_one c.args.e c.args.at c.args.out.now c.requires _ c.put_entry.ensures (ap list_of c.in-Sent.is)
-
-pub returns-in-Decided : goal.returns-in-Decided
-returns-in-Decided c =
-    wrote_one c.args.e c.args.at c.args.out.now c.requires _ c.put_entry-in-Decided.ensures (ap list_of c.in-Decided.is)
 
 pub returns-in-Led : goal.returns-in-Led
 returns-in-Led c =
