@@ -1,14 +1,8 @@
 -- `claims::claims_from` meets its contract.
 -- Where the vaults stand, and the lists of their plans, tell who comes in at each candidate view (`standing_told`).
 -- Assumes nothing.
-use native.Mathlib.Omega.{arith}
 use Rattle.claims.proofs.Standing.{standing_told}
 use Rattle.claims.proofs.claims_from.Goals as goal
-
-pub overflow_add-next : goal.overflow_add-next
-overflow_add-next c =
-    let row = c.write_row-row.ensures.1 in
-    omega (arith, row.most)
 
 pub returns : goal.returns
 returns c =

@@ -2,21 +2,14 @@
 -- The count is that of the first r vaults that stand there.
 -- Assumes nothing.
 use Prim.Native.Nat.{◌≤◌}
-use mathlib.Core.Path.{◌≡◌, sym, ◌∙◌, ap}
+use mathlib.Core.Path.{sym}
 use native.Mathlib.Omega.{arith}
 use Rattle.claims.specs.inside.Spans.{stands_at}
 use Rattle.rules.proofs.Quorums.{weigh_none, weigh_step, share_most}
-use Rattle.rules.specs.Sets.{weigh}
 use Rattle.claims.proofs.count_at.Goals as goal
 
 pub loop-r-init : goal.loop-r-init
 loop-r-init c = (omega arith, omega arith, sym (weigh_none _ _))
-
-pub overflow_add-count : goal.overflow_add-count
-overflow_add-count c =
-    let a = c.args in
-    let at = c.loop-r in
-    omega (arith, share_most (stands_at a.standings.now a.k at.r) 1 c.share_at-count.result c.share_at-count.ensures)
 
 pub loop-r-preserved : goal.loop-r-preserved
 loop-r-preserved c =
@@ -25,10 +18,3 @@ loop-r-preserved c =
     let share = c.share_at-count in
     let most : share.result ≤ 1 = share_most (stands_at a.standings.now a.k at.r) 1 share.result share.ensures in
     (omega arith, omega arith, weigh_step (λ i. 1) (stands_at a.standings.now a.k) at.r at.count share.result at.invariant.2 share.ensures)
-
-pub returns : goal.returns
-returns c =
-    let a = c.args in
-    let at = c.loop-r in
-    let all : at.r ≡ a.n = omega arith in
-    at.invariant.2 ∙ ap (weigh (λ i. 1) (stands_at a.standings.now a.k)) all

@@ -2,11 +2,10 @@
 -- The loop keeps the highest of the first r spans that are not above w, and `highest_more` adds one span.
 -- Assumes nothing.
 use Prim.Native.Nat.{max}
-use mathlib.Core.Path.{◌≡◌, sym, ◌∙◌, ap}
+use mathlib.Core.Path.{sym, ◌∙◌}
 use native.Mathlib.Omega.{arith}
 use borrow.Author.Rules.{rules}
 use Rattle.claims.proofs.Spans.{highest_more, highest_none}
-use Rattle.claims.specs.inside.Spans.{highest_to}
 use Rattle.claims.proofs.highest_to.Goals as goal
 
 pub loop-r-init : goal.loop-r-init
@@ -18,6 +17,3 @@ loop-r-preserved c =
     let a = c.args in
     let step = c.max-best.ensures ∙ (λ i. max (at.invariant.1 i) (c.span_to.ensures i)) in
     (omega arith, step ∙ sym (highest_more a.spans.now a.w at.r))
-
-pub returns : goal.returns
-returns c = let e : c.loop-r.r ≡ c.args.n = omega arith in c.loop-r.invariant.1 ∙ ap (highest_to _ _) e

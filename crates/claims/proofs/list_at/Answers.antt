@@ -2,7 +2,7 @@
 -- The plans of the first r vaults that stand there are listed; `listing_more` looks at one more. When all are found, the others do not stand there.
 -- Assumes nothing.
 use native.Mathlib.Omega.{arith}
-use Rattle.claims.proofs.Walk.{listing_none, listing_most, listing_more, listing_full, listing_all}
+use Rattle.claims.proofs.Walk.{listing_none, listing_most, listing_more, listing_all}
 use Rattle.claims.specs.inside.Spans.{stands_at}
 use Rattle.rules.proofs.Quorums.{share_most}
 use Rattle.claims.proofs.list_at.Goals as goal
@@ -34,6 +34,3 @@ loop-r-preserved c = listing_more c.loop-r.invariant (omega arith) c.requires.2 
 
 pub returns-then-count-total : goal.returns-then-count-total
 returns-then-count-total c = listing_all c.loop-r.invariant _ c.count_at-total.ensures (omega arith)
-
-pub returns : goal.returns
-returns c = listing_full c.loop-r.invariant c.loop-r-test.false

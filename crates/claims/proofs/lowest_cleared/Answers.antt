@@ -26,12 +26,6 @@ reporters-init c =
     let most = weigh_most (covering a.spans.now at.t) a.n in
     (omega arith, omega arith, omega (arith, none), omega (arith, most, at.invariant.are, c.requires.0))
 
-pub overflow_add-locks : goal.overflow_add-locks
-overflow_add-locks c =
-    let a = c.args in
-    let share = c.share_at-locks in
-    omega (arith, share_most (stands_at a.spans.now c.views.t c.reporters.r) 1 share.result share.ensures)
-
 pub reporters-preserved : goal.reporters-preserved
 reporters-preserved c =
     let a = c.args in

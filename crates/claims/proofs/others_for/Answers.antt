@@ -1,23 +1,15 @@
 -- `claims::others_for` meets its contract.
 -- The count is that of the first r plans that are not p.
 -- Assumes nothing.
-use Prim.Native.Nat.{ℕ, ◌≤◌}
-use mathlib.Core.Path.{◌≡◌, ◌∙◌, ap}
+use Prim.Native.Nat.{◌≤◌}
 use native.Mathlib.Omega.{arith}
 use Rattle.claims.proofs.Walk.{others_none, others_more, others_share}
-use Rattle.claims.specs.inside.Walk.{others_of}
 use Rattle.claims.proofs.others_for.Goals as goal
 
 pub loop-r-init : goal.loop-r-init
 loop-r-init c =
     let a = c.args in
     (omega arith, omega arith, others_none a.plans.now a.p)
-
-pub overflow_add-count : goal.overflow_add-count
-overflow_add-count c =
-    let a = c.args in
-    let at = c.loop-r in
-    omega (arith, others_share a.plans.now at.r a.p c.other_share-count.result c.other_share-count.ensures)
 
 pub loop-r-preserved : goal.loop-r-preserved
 loop-r-preserved c =
@@ -26,10 +18,3 @@ loop-r-preserved c =
     let share = c.other_share-count in
     let most : share.result ≤ 1 = others_share a.plans.now at.r a.p share.result share.ensures in
     (omega arith, omega arith, others_more a.plans.now at.r a.p at.count share.result at.invariant.2 share.ensures)
-
-pub returns : goal.returns
-returns c =
-    let a = c.args in
-    let at = c.loop-r in
-    let all : at.r ≡ a.k = omega arith in
-    at.invariant.2 ∙ ap (λ (k : ℕ). others_of a.plans.now k a.p) all

@@ -12,11 +12,11 @@ use Rattle.claims.proofs.Rows.{count_none, count_step}
 use Rattle.claims.proofs.Walk.{end_bounds, coming_fits, others_bound, walk_begins, walk_over, walk_step, walk_on}
 use Rattle.claims.specs.declared.Coming.{Coming}
 use Rattle.claims.specs.inside.Rows.{count_of}
-use Rattle.claims.specs.inside.Walk.{coming_for, FitsComing, coming_at, claimed_in, serving_view, Walked}
+use Rattle.claims.specs.inside.Walk.{coming_for, FitsComing, coming_at, Walked}
 use Rattle.claims.specs.Table.{column}
 use Rattle.rules.proofs.Quorums.{share_most}
 use Rattle.claims.proofs.serving_view.Goals as goal
-use Rattle.claims.proofs.serving_view.Goals.{After-is_blocking, After-struct_known-1}
+use Rattle.claims.proofs.serving_view.Goals.{After-is_blocking, After-others_for}
 
 pub views-init : goal.views-init
 views-init c =
@@ -25,54 +25,36 @@ views-init c =
     = walk_begins a.plans.now a.c a.low a.p c.end_of-end.result c.end_of-end.ensures in
     (refl, omega arith, omega arith, begins)
 
-pub others_for-requires : goal.others_for-requires
-others_for-requires c =
-    let w = c.views.end - 1 in
-    (c.requires.0, omega (arith, (coming_fits c.args.c w c.coming_at-coming.result c.coming_at-coming.ensures c.requires.2 c.requires.3).1))
-
 -- Who comes in at a view has a place in the row.
-fits : (c : After-struct_known-1) → FitsComing c.coming_at-coming.result
+fits : (c : After-others_for) → FitsComing c.coming_at-coming.result
 fits c =
     let w = c.views.end - 1 in
     coming_fits c.args.c w c.coming_at-coming.result c.coming_at-coming.ensures c.requires.2 c.requires.3
 
 -- Of the others no more come in than there are.
-most : (c : After-struct_known-1) → c.others_for.result ≤ column
+most : (c : After-others_for) → c.others_for.result ≤ column
 most c = others_bound _ _ _ _ c.others_for.ensures (omega (arith, (fits c).1))
 
 pub overflow_add-claimers : goal.overflow_add-claimers
-overflow_add-claimers c = omega (arith, most c, (fits c).0)
+overflow_add-claimers c = let d = (goal.at.overflow_add-claimers c).After-others_for in omega (arith, most d, (fits d).0)
 
 pub overflow_add-claimers-in-views : goal.overflow_add-claimers-in-views
-overflow_add-claimers-in-views c = omega (arith, most c, (fits c).0, c.views.invariant.2)
+overflow_add-claimers-in-views c =
+    let d = (goal.at.overflow_add-claimers-in-views c).After-others_for in
+    omega (arith, most d, (fits d).0, c.views.invariant.2)
 
 pub reporters-init : goal.reporters-init
 reporters-init c =
     let a = c.args in
-    let (every, others, from, some) = fits c in (
+    let d = (goal.at.reporters-init c).After-others_for in
+    let (every, others, from, some) = fits d in (
       omega arith,
       omega arith,
       omega (arith, count_none a.plans.now c.coming_at-coming.result.from a.p),
       from,
       some,
-      omega (arith, most c, every, c.views.invariant.2),
+      omega (arith, most d, every, c.views.invariant.2),
     )
-
-pub overflow_add-from : goal.overflow_add-from
-overflow_add-from c = omega arith
-
-pub offset_bounds-plans-from : goal.offset_bounds-plans-from
-offset_bounds-plans-from c = omega arith
-
-pub bounds-plans-from : goal.bounds-plans-from
-bounds-plans-from c = omega arith
-
-pub overflow_add-claimers-in-reporters : goal.overflow_add-claimers-in-reporters
-overflow_add-claimers-in-reporters c =
-    let a = c.args in
-    let at = c.reporters in
-    let from = c.coming_at-coming.result.from in
-    omega (arith, share_most (eqb (get_or a.plans.now (from + at.r) 0) a.p) 1 c.plan_share-claimers.result c.plan_share-claimers.ensures)
 
 pub reporters-preserved : goal.reporters-preserved
 reporters-preserved c =
@@ -104,10 +86,6 @@ comes c =
     = omega (arith, at.invariant.2, c.others_for.ensures, ap (λ (k : ℕ). count_of a.plans.now t.from k a.p) all) in
     sum ∙ ap (λ (t : Coming). was + coming_for a.plans.now t a.p) c.coming_at-coming.ensures
 
--- What the walk finds below a view.
-abbrev serves : After-is_blocking → ℕ → ℕ
-serves c end = let a = c.args in serving_view (claimed_in a.plans.now a.c a.p) a.low a.c.v end
-
 pub views-preserved : goal.views-preserved
 views-preserved c =
     let a = c.args in
@@ -123,9 +101,9 @@ views-preserved c =
         c.if-end-low.false,
         c.reporters.invariant.0,
         c.reporters.invariant.1,
-        (fits (goal.at.views-preserved c).After-struct_known-1).0,
-        (fits (goal.at.views-preserved c).After-struct_known-1).3,
-        most (goal.at.views-preserved c).After-struct_known-1,
+        (fits (goal.at.views-preserved c).After-others_for).0,
+        (fits (goal.at.views-preserved c).After-others_for).3,
+        most (goal.at.views-preserved c).After-others_for,
       ),
       walk_on a.plans.now a.c a.low a.p last.end (view (goal.at.views-preserved c).After-is_blocking) last.claimers _ last.invariant.3 c.if-end-low.false refl (comes (goal.at.views-preserved c).After-is_blocking)
           below two few,
