@@ -16,9 +16,6 @@ begin-s-requires c =
     let pre = c.requires in
     (pre.0, pre.1, pre.2, lowest_at _ _ _ _ (sym c.every_safe.ensures ∙ c.if-every_safe.false) c.lowest_view-u.ensures c.if-u-v.true, search rules)
 
-pub safe_one-requires : goal.safe_one-requires
-safe_one-requires c = c.begin-s.ensures.ready.laid
-
 pub returns-then-safe_one : goal.returns-then-safe_one
 returns-then-safe_one c =
     let b = c.begin-s.ensures in

@@ -14,12 +14,6 @@ use Rattle.safe.proofs.free.Goals as goal
 pub loop-r-init : goal.loop-r-init
 loop-r-init c = (omega arith, omega arith, sym (weigh_none _ _))
 
-pub overflow_add-count : goal.overflow_add-count
-overflow_add-count c =
-    let a = c.args in
-    let at = c.loop-r in
-    omega (arith, share_most (reporting (reports_in_table a.table.now) unlocked at.r) 1 c.unlocked_share-count.result c.unlocked_share-count.ensures)
-
 pub loop-r-preserved : goal.loop-r-preserved
 loop-r-preserved c =
     let a = c.args in

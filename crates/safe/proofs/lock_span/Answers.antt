@@ -21,9 +21,6 @@ span_of c =
 pub returns-then-v-above : goal.returns-then-v-above
 returns-then-v-above c = omega (arith, span_of (goal.at.returns-then-v-above c).After-lock_of-above)
 
-pub overflow_cast-result : goal.overflow_cast-result
-overflow_cast-result c = omega arith
-
 pub returns-then-reported : goal.returns-then-reported
 returns-then-reported c = omega (arith, span_of (goal.at.returns-then-reported c).After-lock_of-above)
 

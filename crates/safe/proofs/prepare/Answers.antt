@@ -2,16 +2,9 @@
 -- The row of locks is written behind the row of claims, which stays (`prepares`).
 -- Assumes nothing.
 use mathlib.Core.Path.{refl}
-use native.Mathlib.Omega.{arith}
-use Rattle.claims.proofs.Walk.{end_bounds}
 use Rattle.claims.specs.Table.{reports_in_table}
 use Rattle.safe.proofs.Searches.{prepares}
 use Rattle.safe.proofs.prepare.Goals as goal
-
-pub claims_from-coming-requires : goal.claims_from-coming-requires
-claims_from-coming-requires c =
-    let (low, few, most) = end_bounds c.args.u c.args.v c.requires.3 in
-    (c.requires.0, c.requires.1, c.requires.4, omega (arith, few, c.end_of-end.ensures))
 
 pub returns : goal.returns
 returns c =

@@ -1,10 +1,9 @@
 -- `safe::safe_by` meets its contract.
 -- Where every plan is safe so is p; where no view can serve a plan none is (`none_safe`); else the search tells.
 -- Assumes nothing.
-use mathlib.Core.Bool.{true, false}
+use mathlib.Core.Bool.{false}
 use mathlib.Core.Path.{sym, ◌∙◌}
-use native.Mathlib.Omega.{arith}
-use Rattle.safe.proofs.Searches.{safe_every, lowest_at, none_safe, by_rule, one_same, three_same}
+use Rattle.safe.proofs.Searches.{safe_every, lowest_at, none_safe, by_rule, one_same}
 use borrow.Author.Rules.{rules}
 use Rattle.safe.proofs.safe_by.Goals as goal
 
@@ -15,19 +14,6 @@ pub begin-s-requires : goal.begin-s-requires
 begin-s-requires c =
     let pre = c.requires in
     (pre.0, pre.1, pre.2, lowest_at _ _ _ _ (sym c.every_safe.ensures ∙ c.if-every_safe.false) c.lowest_view-u.ensures c.if-u-v.true, search rules)
-
-pub safe_three-requires : goal.safe_three-requires
-safe_three-requires c =
-    let b = c.begin-s.ensures in
-    let pre = c.requires in
-    (pre.0, omega (arith, b.is_n, pre.1), b.ready, b.lowest)
-
-pub returns-then-three : goal.returns-then-three
-returns-then-three c =
-    by_rule _ _ _ _ _ true _ c.if-three.true (three_same c.begin-s.ensures _ _ c.safe_three.ensures)
-
-pub safe_one-requires : goal.safe_one-requires
-safe_one-requires c = c.begin-s.ensures.ready.laid
 
 pub returns-then-u-v : goal.returns-then-u-v
 returns-then-u-v c =

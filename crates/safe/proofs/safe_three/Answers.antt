@@ -3,15 +3,11 @@
 -- Assumes nothing.
 use mathlib.Core.Path.{◌≡◌, sym, ◌∙◌}
 use mathlib.Core.Bool.{false}
-use native.Mathlib.Omega.{arith}
 use Rattle.claims.specs.Table.{reports_in_table}
 use Rattle.safe.specs.inside.Searches.{safe_in}
 use Rattle.safe.proofs.Searches.{falling, pair_two, three_one, three_first, three_next, three_last}
 use Rattle.safe.proofs.safe_three.Goals as goal
 use Rattle.safe.proofs.safe_three.Goals.{Else-safe_one}
-
-pub safe_one-requires : goal.safe_one-requires
-safe_one-requires c = c.requires.2.laid
 
 pub returns-then-safe_one : goal.returns-then-safe_one
 returns-then-safe_one c =
@@ -19,12 +15,6 @@ returns-then-safe_one c =
     let rs = reports_in_table a.table.now in
     let pre = c.requires in
     three_one rs a.c a.plans.now pre.2 pre.3 a.p (sym c.safe_one.ensures ∙ c.if-safe_one.true)
-
-pub overflow_add-c : goal.overflow_add-c
-overflow_add-c c = omega (arith, c.requires.3.below)
-
-pub allowed-requires : goal.allowed-requires
-allowed-requires c = c.requires.2.laid
 
 pub two_sets-requires : goal.two_sets-requires
 two_sets-requires c =
@@ -44,11 +34,6 @@ returns-then-allowed c =
     let rs = reports_in_table a.table.now in
     let two = pair_two rs a.c a.plans.now pre.2 _ c.if-c.true c.two_sets.ensures in
     three_first rs a.c a.plans.now pre.2 pre.3 a.p (never (goal.at.returns-then-allowed c).Else-safe_one) _ (sym c.allowed.ensures ∙ c.if-allowed.true) two
-
-pub two_sets_after-requires : goal.two_sets_after-requires
-two_sets_after-requires c =
-    let pre = c.requires in
-    (pre.0, pre.1, pre.2.laid.few, c.if-c.true)
 
 pub returns-then-c : goal.returns-then-c
 returns-then-c c =

@@ -3,13 +3,13 @@
 -- Assumes nothing.
 use Prim.Native.Nat.{ℕ, ◌+◌}
 use mathlib.Core.Bool.{Bool}
-use mathlib.Core.Path.{◌≡◌, ◌∙◌, ap}
+use mathlib.Core.Path.{ap}
 use native.Mathlib.Omega.{arith}
 use lib.ListN.{get_or}
 use Rattle.rules.specs.inside.Counts.{smaller}
 use Rattle.safe.proofs.Searches.{smallest_start, smallest_step, smaller_twice, tried_fits}
 use Rattle.safe.specs.Choices.{chosen}
-use Rattle.safe.specs.inside.Searches.{passes_in, tried_at, tried_count, smallest_from}
+use Rattle.safe.specs.inside.Searches.{passes_in, tried_at}
 use Rattle.safe.proofs.smallest_in.Goals as goal
 
 pub loop-r-init : goal.loop-r-init
@@ -26,18 +26,6 @@ loop-r-init c =
       few,
     )
 
-pub overflow_add-x : goal.overflow_add-x
-overflow_add-x c = omega arith
-
-pub offset_bounds-plans-at : goal.offset_bounds-plans-at
-offset_bounds-plans-at c = omega arith
-
-pub bounds-plans-at : goal.bounds-plans-at
-bounds-plans-at c = omega (arith, c.requires.0.size)
-
-pub smaller_passing-found-requires : goal.smaller_passing-found-requires
-smaller_passing-found-requires c = (c.requires.0, c.loop-r.invariant.2)
-
 pub loop-r-preserved : goal.loop-r-preserved
 loop-r-preserved c =
     let a = c.args in
@@ -53,10 +41,3 @@ loop-r-preserved c =
       at.invariant.3,
       at.invariant.4,
     )
-
-pub returns : goal.returns
-returns c =
-    let a = c.args in
-    let at = c.loop-r in
-    let e : at.r ≡ tried_count a.c a.locked = omega (arith, c.tried_count-count.ensures) in
-    at.invariant.1 ∙ ap (smallest_from (chosen a.best) (passes_in a.plans.now a.c a.locked) (λ i. get_or a.plans.now (tried_at a.locked + i) 0)) e
