@@ -8,7 +8,6 @@ use Rattle.claims.specs.declared.Coming.{Coming}
 use Rattle.safe.proofs.Searches.{served_at, found_first, found_other, none_found}
 use Rattle.safe.specs.Choices.{chosen}
 use Rattle.safe.proofs.find_claimed.Goals as goal
-use Rattle.safe.proofs.find_claimed.Goals.{After-struct_known-1}
 
 pub returns-then-served : goal.returns-then-served
 returns-then-served c =

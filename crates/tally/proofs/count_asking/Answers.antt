@@ -1,22 +1,16 @@
 -- `tally::count_asking` meets its contract. The invariant: of the views passed as many ask for w as were counted.
 -- Assumes nothing.
-use Prim.Native.Nat.{ℕ, ◌≤◌}
-use mathlib.Core.Path.{◌≡◌, sym, ◌∙◌, ap}
+use Prim.Native.Nat.{◌≤◌}
+use mathlib.Core.Path.{sym}
 use lib.Dec.{leb}
-use lib.ListN.{length, get_or}
+use lib.ListN.{get_or}
 use Rattle.rules.proofs.Quorums.{share_most, weigh_none}
-use Rattle.tally.specs.inside.Changes.{asking}
 use Rattle.tally.proofs.Changes.{asking_step}
 use native.Mathlib.Omega.{arith}
 use Rattle.tally.proofs.count_asking.Goals as goal
 
 pub loop-x-init : goal.loop-x-init
 loop-x-init c = (omega arith, sym (weigh_none (λ i. 1) (λ j. leb c.args.w (get_or c.args.views.now j 0))), omega arith)
-
-pub overflow_add-count : goal.overflow_add-count
-overflow_add-count c =
-    let a = c.args in
-    omega (arith, share_most (leb a.w (get_or a.views.now c.loop-x.x-index 0)) 1 c.share_asking-count.result c.share_asking-count.ensures)
 
 pub loop-x-preserved : goal.loop-x-preserved
 loop-x-preserved c =
@@ -25,13 +19,3 @@ loop-x-preserved c =
     let m = c.share_asking-count in
     let little : m.result ≤ 1 = share_most (leb a.w (get_or a.views.now at.x-index 0)) 1 m.result m.ensures in
     (omega arith, asking_step a.views.now at.x-index a.w at.count m.result at.invariant.1 m.ensures, omega arith)
-
-pub overflow_cast-result : goal.overflow_cast-result
-overflow_cast-result c = omega arith
-
-pub returns : goal.returns
-returns c =
-    let a = c.args in
-    let at = c.loop-x in
-    let e : at.x-index ≡ length a.views.now = omega arith in
-    at.invariant.1 ∙ ap (λ (k : ℕ). asking a.views.now k a.w) e

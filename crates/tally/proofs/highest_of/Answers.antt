@@ -3,7 +3,7 @@
 use Prim.Native.Nat.{ℕ, ◌+◌}
 use mathlib.Core.Path.{◌≡◌, sym, subst}
 use lib.ListN.{length}
-use Rattle.tally.proofs.Changes.{Searched, search_none, search_more, search_done, search_few}
+use Rattle.tally.proofs.Changes.{Searched, search_more, search_done, search_few}
 use native.Mathlib.Omega.{arith}
 use Rattle.tally.proofs.highest_of.Goals as goal
 
@@ -11,9 +11,6 @@ pub returns-then-views-need : goal.returns-then-views-need
 returns-then-views-need c =
     let a = c.args in
     search_few a.views.now a.need a.low c.if-views-need.true
-
-pub loop-w-init : goal.loop-w-init
-loop-w-init c = (omega arith, search_none _ _ _)
 
 pub loop-w-preserved : goal.loop-w-preserved
 loop-w-preserved c =

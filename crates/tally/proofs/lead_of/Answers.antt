@@ -1,7 +1,7 @@
 -- `tally::lead_of` meets its contract. The invariant: b leads among the votes passed.
 -- Assumes nothing.
 use Rattle.tally.specs.inside.Votes.{row_votes}
-use Rattle.tally.proofs.Votes.{lead_none, lead_more, lead_low, lead_all, lead_few}
+use Rattle.tally.proofs.Votes.{lead_none, lead_more, lead_low, lead_few}
 use native.Mathlib.Omega.{arith}
 use Rattle.tally.proofs.lead_of.Goals as goal
 
@@ -30,8 +30,3 @@ loop-j-preserved c =
     let a = c.args in
     let next = c.lead_after-b in
     (omega arith, lead_more (row_votes a.block.now a.v a.from) c.loop-j.j c.loop-j.b next.result c.loop-j.invariant.1 next.ensures)
-
-pub returns : goal.returns
-returns c =
-    let a = c.args in
-    lead_all (row_votes a.block.now a.v a.from) c.loop-j.j a.n a.f c.loop-j.b c.loop-j.invariant.1 (omega arith)

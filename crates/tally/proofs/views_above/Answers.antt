@@ -1,7 +1,7 @@
 -- `tally::views_above` meets its contract. The invariant: the views gathered are those of the senders passed.
 -- Assumes nothing.
 use Prim.Native.Nat.{◌<◌, ◌≤◌}
-use mathlib.Core.Path.{sym, ◌∙◌}
+use mathlib.Core.Path.{◌∙◌}
 use lib.Dec.{ltb}
 use lib.ListN.{length, length-set}
 use Rattle.rules.proofs.Quorums.{share_most}
@@ -13,29 +13,11 @@ use Rattle.tally.proofs.views_above.Goals as goal
 pub loop-j-init : goal.loop-j-init
 loop-j-init c = (omega arith, pass_none _ _ _, c.requires.2)
 
-pub overflow_add-count : goal.overflow_add-count
-overflow_add-count c = omega (arith, c.loop-j.invariant.1.most)
-
-pub shape_of-views-then-count-n : goal.shape_of-views-then-count-n
-shape_of-views-then-count-n c =
-    c.loop-j.invariant.2 ∙ sym c.requires.2
-
 pub returns-then-count-n : goal.returns-then-count-n
 returns-then-count-n c =
     let a = c.args in
     let few = gathered_few (change_in a.shared.now) a.low c.loop-j.views c.loop-j.count c.loop-j.j c.loop-j.invariant.1 in
     (few a.n a.need c.loop-j-test.true c.if-count-n.true, c.loop-j.invariant.2)
-
-pub change_above-w-requires : goal.change_above-w-requires
-change_above-w-requires c = omega arith
-
-pub bounds-views-count : goal.bounds-views-count
-bounds-views-count c = omega (arith, c.loop-j.invariant.1.most)
-
-pub overflow_add-count-in-loop-j : goal.overflow_add-count-in-loop-j
-overflow_add-count-in-loop-j c =
-    let m = c.share_above-count in
-    omega (arith, c.loop-j.invariant.1.most, share_most (ltb c.args.low c.change_above-w.result) 1 m.result m.ensures)
 
 pub loop-j-preserved : goal.loop-j-preserved
 loop-j-preserved c =
@@ -46,9 +28,6 @@ loop-j-preserved c =
     let room : s.count < length s.views = omega (arith, s.invariant.1.most) in
     let more = pass_more (change_in a.shared.now) a.low s.views s.count s.j s.invariant.1 c.change_above-w.result m.result room in
     (omega arith, more c.change_above-w.ensures m.ensures little, length-set s.views s.count c.change_above-w.result ∙ s.invariant.2)
-
-pub shape_of-views : goal.shape_of-views
-shape_of-views c = c.loop-j.invariant.2 ∙ sym c.requires.2
 
 pub returns : goal.returns
 returns c =

