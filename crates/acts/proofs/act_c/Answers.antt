@@ -8,7 +8,7 @@ use Rattle.acts.specs.inside.Acts.{as_act}
 use Rattle.protocol.specs.Record.{each}
 use Rattle.protocol.specs.Pass.{cast, act_c}
 use Rattle.contents.specs.Contents.{contents_in}
-use Rattle.acts.proofs.Proposals.{proposes_not, proposes}
+use Rattle.acts.proofs.Proposals.{proposes}
 use Rattle.acts.proofs.Searched.{plan_one}
 use Rattle.acts.proofs.act_c.Goals as goal
 use Rattle.acts.proofs.act_c.Goals.{After-safe_plan}
@@ -27,7 +27,3 @@ returns-in_err-p c =
 
 pub returns-then-may_propose : goal.returns-then-may_propose
 returns-then-may_propose c = told (goal.at.returns-then-may_propose c).After-safe_plan (some c.in_ok-p.p) (ap chosen c.in_ok-p.was)
-
-pub returns : goal.returns
-returns c =
-    proposes_not (contents_in c.args.rec.now) c.may_propose.result c.may_propose.ensures c.if-may_propose.false
