@@ -117,7 +117,8 @@ pub fn put_view(own: &mut [u8], w: u32)
 
 // ---- off a record
 
-// Copies some bytes from a place to another. All are read before the first is written, so that it is compiled to a few moves, with no test whether they overlap.
+// Copies some bytes from a place to another. All are read before the first is written, so that it is compiled to a few moves, with no test
+// whether the two places overlap.
 fn copy<const N: usize>(src: &[u8], from: usize, dst: &mut [u8], to: usize)
     requires { (from + N ≤ length src.now) × (to + N ≤ length dst.old) }
     ensures { dst.new ≡ placed dst.old to (take N (drop from src.now)) }

@@ -7,4 +7,5 @@ use Rattle.own.proofs.copy.Goals as goal
 pub returns : goal.returns
 returns g c =
     let a = c.args in
-    part_copied a.src.now a.dst.now a.from a.to g.row.N c.copy_from_slice-2.new.self c.requires.0 (c.copy_from_slice-2.ensures.after ∙ c.copy_from_slice.ensures.after)
+    part_copied a.src.now a.dst.now a.from a.to g.row.N c.copy_from_slice-2.new.self c.requires.0
+    (c.copy_from_slice-2.ensures.after ∙ c.copy_from_slice.ensures.after)
