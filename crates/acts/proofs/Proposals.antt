@@ -104,10 +104,6 @@ module _ (s : List ℕ) (r : slots.Record) (reads : Reads s r) where
 
 -- C. 'A leader that has not proposed in this view proposes .., else waits.'
 module _ (c : Record) (may : Bool) (is : may ≡ may_propose c) where
-  -- The vault may not propose: C does nothing.
-  pub proposes_not : may ≡ false → none ≡ act_c c
-  proposes_not off = let no_turn : may_propose c ≡ false = sym is ∙ off in sym (ap (λ (b : Bool). when b (each (proposal_of c) (λ p. some (cast 0 p)))) no_turn)
-
   -- It may: C proposes the plan chosen, if there is one.
   pub proposes : may ≡ true → (o : Option ℕ) → o ≡ proposal_of c → each o (λ p. some (cast 0 p)) ≡ act_c c
   proposes on o e =

@@ -160,16 +160,6 @@ module _ {rs : Reports} {test : ℕ → ℕ → Report → Bool} {view n at : �
     (c : RowCounted rs test view n at first plans t r) where
   module _ (x : ℕ) (share : Tally) (stance : Stance (λ p. reporting rs (test p view) r) x share.every share.some)
       (less : r < n) (few : n ≤ column) (room : at + column ≤ rows_size) where
-    -- A report counts once at most, so there is room for it.
-    pub row_fits : (length plans ≡ rows_size) × (at + t.some < rows_size) × (t.every + share.every ≤ column) × (t.some + share.some ≤ column)
-    row_fits = go stance
-      where
-        go : Stance (λ p. reporting rs (test p view) r) x share.every share.some
-            → (length plans ≡ rows_size) × (at + t.some < rows_size) × (t.every + share.every ≤ column) × (t.some + share.some ≤ column)
-        go (for_all e s pass) = (c.size, omega (arith, c.row.most), omega (arith, c.row.most), omega (arith, c.row.most))
-        go (for_one e s pass) = (c.size, omega (arith, c.row.most), omega (arith, c.row.most), omega (arith, c.row.most))
-        go (for_none e s pass) = (c.size, omega (arith, c.row.most), omega (arith, c.row.most), omega (arith, c.row.most))
-
     -- The report's plan is written behind the row: what lies below it stays.
     pub row_more : (after : List ℕ) (more : Tally) → after ≡ set plans (at + t.some) x → more ≡ added t share
         → RowCounted rs test view n at first after more (r + 1)
@@ -181,9 +171,3 @@ module _ {rs : Reports} {test : ℕ → ℕ → Report → Bool} {view n at : �
           row = tells_more plans at t.some x (omega (arith, c.size, c.row.most)) rs (λ p. test p view) r t.every share.every share.some stance
               (record { most = c.row.most; tells = c.row.tells });
         })
-
-  -- All n reports are counted, at the view that was asked for.
-  pub row_all : (u : ℕ) → view ≡ u → n ≤ r → (length plans ≡ rows_size) × SameBelow first plans at × RowTells rs n (λ p. test p u) plans at t
-  row_all u same over =
-      let all : r ≡ n = omega (arith, c.within) in
-      (c.size, c.same, subst₂ (λ (k v : ℕ). RowTells rs k (λ p. test p v) plans at t) all same c.row)

@@ -12,8 +12,7 @@ use native.Mathlib.Omega.{arith}
 use native.Mathlib.Numerals.{add-one}
 use native.Mathlib.Decide.{ℕ_discrete, dec_le}
 use lib.Dec.{leb, ltb}
-use lib.ListN.{length, get_or, set}
-use lib.Seq.{get_or-set_same, get_or-set_other}
+use lib.ListN.{get_or}
 use borrow.Author.Tests.{leb-true, leb-false, le-leb, lt-leb, ltb-true, lt-ltb}
 use Rattle.rules.specs.Sets.{equals, weigh}
 use Rattle.rules.specs.Quorums.{is_blocking}
@@ -179,10 +178,6 @@ lock_once spans i x down j k = once_member (covering spans) (locks_grow spans) x
 -- ---- the spans of the vaults
 
 module _ (spans : List ℕ) (n : ℕ) (span : ℕ → ℕ) (are : AreSpans spans n span) where
-  -- The list's spans are at most v where the vaults' are.
-  pub spans_within : (v : ℕ) → ((i : ℕ) → span i ≤ v) → Within spans n v
-  spans_within v most i low = rw (are i low) (most i)
-
   -- A test of views that asks for a blocking set passes in as many views as the spans say.
   pub spans_reach : (f v : ℕ) (test : ℕ → Bool) → ((u : ℕ) → u < v → test u ≡ is_blocking (equals n f) (λ i. ltb u (span i)))
       → covered_views spans n f v ≡ views test v
@@ -191,11 +186,3 @@ module _ (spans : List ℕ) (n : ℕ) (span : ℕ → ℕ) (are : AreSpans spans
     where
       same : (u : ℕ) → weigh (λ i. 1) (covering spans u) n ≡ weigh (λ i. 1) (λ i. ltb u (span i)) n
       same u = weigh_same (λ i. 1) (covering spans u) (λ i. ltb u (span i)) n (λ i low. ap (λ (t : ℕ). ltb u t) (are i low))
-
--- One span more is written.
-pub spans_more : (spans : List ℕ) (r t : ℕ) (span : ℕ → ℕ) → r < length spans → t ≡ span r → AreSpans spans r span → AreSpans (set spans r t) (r + 1) span
-spans_more spans r t span low is are i below = go (ℕ_discrete i r)
-  where
-    go : Dec (i ≡ r) → get_or (set spans r t) i 0 ≡ span i
-    go (yes same) = rw same (get_or-set_same spans r t 0 low ∙ is)
-    go (no differ) = get_or-set_other spans r i t 0 differ ∙ are i (omega arith)

@@ -2,7 +2,7 @@
 -- document 02, wish 4). Its count is carried from view to view, and is that of the claimers at the view (`counted_claimers`).
 -- Assumes nothing.
 use Prim.Native.Nat.{ℕ, zero, suc, ◌+◌, ◌-◌, ◌≤◌, ◌<◌}
-use mathlib.Core.Path.{◌≡◌, refl, sym, ◌∙◌, ap, subst}
+use mathlib.Core.Path.{◌≡◌, refl, sym, ◌∙◌, ap}
 use mathlib.Core.Bool.{Bool, true, false, cond, not, ◌&&◌}
 use mathlib.Core.List.{List}
 use mathlib.Core.Logic.{◌⊎◌, inl, inr}
@@ -114,12 +114,6 @@ module _ {t standings : List ℕ} {n k from : ℕ} {first plans : List ℕ} {cou
       same = λ i below. get_or-set_other plans (from + count) i (voted_in t r) 0 (λ (e : i ≡ from + count). omega arith) ∙ l.same i below;
       listed = record { number = weigh_step (λ i. 1) (stands_at standings k) r count share l.listed.number is; plan = λ p. plan_more p };
     }
-
-  -- All vaults were looked at.
-  pub listing_full : n ≤ r → (length plans ≡ rows_size) × SameBelow first plans from × Listed t standings n k plans from count
-  listing_full done =
-      let same : r ≡ n = omega (arith, l.within) in
-      (l.size, l.same, subst (λ (m : ℕ). Listed t standings m k plans from count) same l.listed)
 
   module _ (total : ℕ) (all : total ≡ weigh (λ i. 1) (stands_at standings k) n) where
     -- All are listed: the other vaults do not stand there.

@@ -31,11 +31,6 @@ use Rattle.claims.proofs.Spans.{spans_reach}
 
 -- ---- spans
 
--- A span counts views below v, so it is at most v.
-pub lock_most : (v : ℕ) (o : Option Report) → lock_span v o ≤ v
-lock_most v none = omega arith
-lock_most v (some r) = omega arith
-
 -- The spans of the locks tell the lowest view with a cleared quorum.
 pub spans_lock : (n f v : ℕ) (rs : Reports) (spans : List ℕ) → AreSpans spans n (λ i. lock_span v (rs i))
     → covered_views spans n f v ≡ lowest_view (equals n f) rs v

@@ -14,7 +14,7 @@ use native.Mathlib.Numerals.{add-one}
 use native.Mathlib.Decide.{ℕ_discrete, dec_lt}
 use lib.Dec.{leb, ltb, eqb}
 use lib.ListN.{length, get_or}
-use borrow.Author.Tests.{leb-true, leb-false, lt-ltb, le-ltb, ltb-true, ltb-false, eqb-true, eqb-false, eq-eqb, ne_eqb, not-true, not-false}
+use borrow.Author.Tests.{leb-true, leb-false, lt-ltb, le-ltb, ltb-true, eqb-false, eq-eqb, ne_eqb, not-true}
 use Rattle.std.specs.Prelude as prelude
 use Rattle.std.specs.Prelude.{Some, None}
 use Rattle.std.specs.Option.{is_some}
@@ -31,12 +31,12 @@ use Rattle.rules.proofs.Laws.{claimed_falls, safe_iff, choice_is, chosen_one}
 use Rattle.rules.proofs.Views.{two_late, two_none, two_lone, two_both, first_serves, next_serves, never_safe}
 use Rattle.claims.specs.declared.Search.{Search}
 use Rattle.claims.specs.inside.Rows.{rows_size, for_plan, RowTells, SameBelow}
-use Rattle.claims.specs.inside.Walk.{FitsComing, coming_at, counted, claimed_in, end_of, serving_view, LaidOut, Told}
+use Rattle.claims.specs.inside.Walk.{coming_at, counted, claimed_in, end_of, serving_view, LaidOut, Told}
 use Rattle.claims.specs.Table.{column}
 use Rattle.claims.proofs.Rows.{count_where}
 use Rattle.claims.proofs.Walk.{serving_none, serving_next, end_bounds, counted_claimers, counted_next, row_has, told_kept}
 use Rattle.safe.specs.Choices.{rule_of, chosen}
-use Rattle.safe.specs.inside.Choices.{apart, Found, better}
+use Rattle.safe.specs.inside.Choices.{apart, Found}
 use Rattle.safe.specs.inside.Searches.{lock_row, allowed_in, served_from, safe_in, passes_in, tried_at, tried_count, smallest_from, smallest_of, Pair}
 use Rattle.safe.specs.inside.Searches.{two, unclaimed, lone, Falling, Laid, Prepared, every_safe, Begun}
 use Rattle.safe.proofs.Locks.{some_blocked}
@@ -110,11 +110,6 @@ served_at plans c w p below falls high low = go (ℕ_discrete w c.u) (dec_lt (c.
 
 -- ---- a plan that is claimed
 
--- 0 is left out: 1 is not.
-pub apart_one : (except : Option ℕ) → apart 0 except ≡ false → apart 1 except ≡ true
-apart_one none h = refl
-apart_one (some m) h = let e : 0 ≡ m = eqb-true 0 m (not-false _ h) in ap not (ne_eqb 1 m (λ (same : 1 ≡ m). omega arith))
-
 module _ (plans : List ℕ) (c : Search) (w : ℕ) (except : Option ℕ) where
   -- x is claimed from view w on, and is not left out.
   abbrev pub tried : ℕ → Bool
@@ -123,18 +118,6 @@ module _ (plans : List ℕ) (c : Search) (w : ℕ) (except : Option ℕ) where
   -- None of the first k plans of the row passes.
   abbrev pub NonePass : ℕ → Type 0
   NonePass k = (j : ℕ) → j < k → tried (get_or plans j 0) ≡ false
-
-  -- A first plan that is not served does not pass.
-  pub untried_first : (first : ℕ) → served_from plans c w first ≡ false → tried first ≡ false
-  untried_first first never = not_true _ (λ h. clash (both_split (apart first except) _ h).1 never)
-
-  -- One more plan of the row does not pass: the loop goes on.
-  pub none_pass_more : (k x : ℕ) → x ≡ get_or plans k 0 → tried x ≡ false → NonePass k → NonePass (k + 1)
-  none_pass_more k x is fails before j low = go (ℕ_discrete j k)
-    where
-      go : Dec (j ≡ k) → tried (get_or plans j 0) ≡ false
-      go (yes same) = rw same (subst (λ (y : ℕ). tried y ≡ false) is fails)
-      go (no differ) = before j (omega arith)
 
   -- Neither the first plan nor one of the row passes: none is claimed but that left out.
   module _ (served : (x : ℕ) → served_from plans c w x ≡ claimed_in plans c x w) (first : ℕ) (off : apart first except ≡ true) where
@@ -183,14 +166,6 @@ is_chosen None = refl
 is_chosen (Some p) = refl
 
 module _ (next here : ℕ → Bool) (m : Option ℕ) (found : Found next m) where
-  -- No plan is claimed at the next view.
-  pub pair_unfound : not (is_none m) ≡ false → Pair next here false
-  pair_unfound h = go m found h
-    where
-      go : (m : Option ℕ) → Found next m → not (is_none m) ≡ false → Pair next here false
-      go none never h = unclaimed never refl
-      go (some m) at h = absurd (false≢true (sym h))
-
   -- One is: then another plan that is claimed at u decides.
   pub pair_found : (x : Option ℕ) (b : Bool) → not (is_none m) ≡ true → Found (λ y. apart y m && here y) x → b ≡ not (is_none x) → Pair next here b
   pair_found x b h apt is = go m x found h apt is
@@ -224,15 +199,6 @@ prepares rs c end first second most few below size is found same locks = record 
   where
     told : Told rs c.n c.u (end_of c) first c.next c.here
     told = subst (λ (end : ℕ). Told rs c.n c.u end first c.next c.here) is found
-
--- Who comes in has a place in the row.
-pub laid_fits : (c : Search) (plans : List ℕ) → Laid c plans → FitsComing c.next × FitsComing c.here
-laid_fits c plans l =
-    let o = l.claims in
-    let some : c.next.some + c.here.some ≤ column = omega (arith, o.most, l.most) in (
-      (omega (arith, o.every.0, l.most), omega (arith, o.none), omega (arith, o.first), omega arith),
-      (omega (arith, o.every.1, l.most), omega (arith, o.within), omega (arith, o.behind), omega arith),
-    )
 
 module _ (rs : Reports) (c : Search) (plans : List ℕ) (ready : Prepared rs c plans) where
   -- The vaults of the search, each of weight 1.
@@ -412,17 +378,6 @@ module _ (rs : Reports) (c : Search) (plans : List ℕ) (ready : Prepared rs c p
         (omega (arith, few, more, counted_next plans c l.below laid q less, counted_next plans c l.below laid p less))
 
 -- ---- the smallest plan that passes
-
--- The smaller of x and of what was found before, as the code takes it.
-pub smaller_taken : (x : ℕ) (o : Option ℕ) → better x o ≡ true → some x ≡ smaller true x o
-smaller_taken x none h = refl
-smaller_taken x (some y) h = let e : x ≡ min x y = omega (arith, ltb-true x y h) in ap some e
-
--- The best so far stays where x is not smaller, so x need not be tested.
-pub smaller_kept : (x : ℕ) (b : Bool) (o : Option ℕ) → better x o ≡ false → o ≡ smaller b x o
-smaller_kept x b none h = absurd (false≢true (sym h))
-smaller_kept x true (some y) h = let e : y ≡ min x y = omega (arith, ltb-false x y h) in ap some e
-smaller_kept x false (some y) h = refl
 
 -- Trying a plan twice changes nothing.
 pub smaller_twice : (x : ℕ) (b : Bool) (o next : Option ℕ) → next ≡ smaller b x o → smaller b x next ≡ next
@@ -625,10 +580,6 @@ module _ {rs : Reports} {n f v : ℕ} {c : Search} {plans : List ℕ} (b : Begun
   -- The search's answer by Rule 1 is the call's.
   pub one_same : (p : ℕ) (r : Bool) → r ≡ safe_in plans c p → r ≡ safe rule1 (equals n f) rs v p
   one_same p r is = is ∙ safe_same rs c plans b.ready b.lowest p ∙ rw (b.is_n, b.is_f, b.is_v)
-
-  -- The search's answer by Rule 3 is the call's.
-  pub three_same : (p : ℕ) (r : Bool) → r ≡ safe rule3 (equals c.n c.f) rs c.v p → r ≡ safe rule3 (equals n f) rs v p
-  three_same p r is = is ∙ rw (b.is_n, b.is_f, b.is_v)
 
   module _ (start : ℕ) (never : safe_in plans c start ≡ false) where
     -- Where the starting plan is not safe it does not pass.

@@ -140,10 +140,6 @@ pub record Searched (views : List ℕ) (need low i best : ℕ) : Type 0 where
   pub tried : (j : ℕ) → j < i → leb need (asking views (length views) (get_or views j 0)) ≡ true → get_or views j 0 ≤ best
 
 module _ (views : List ℕ) (need low : ℕ) where
-  -- Before the first place the highest is low.
-  pub search_none : Searched views need low 0 low
-  search_none = record { least = omega arith; passes = λ less. absurd (omega arith); tried = λ j before enough. absurd (omega arith) }
-
   module _ (i best : ℕ) (was : Searched views need low i best) where
     -- One place more is tried.
     tried_more : (b : ℕ) → best ≤ b → (leb need (asking views (length views) (get_or views i 0)) ≡ true → get_or views i 0 ≤ b)

@@ -50,10 +50,6 @@ module _ (t : List ℕ) (at : ℕ) (x : Slot.Report) where
 
 -- ---- one sender
 
--- A vote put leaves the table's length.
-pub put_length : (t t' : List ℕ) (at : ℕ) (x : Slot.Report) → t' ≡ with_vote t at x → length t' ≡ length t
-put_length t t' at x e = ap length e ∙ vote_length t at x
-
 -- Four stores, one after the other.
 pub put_all : (t t₁ t₂ t₃ : List ℕ) (i : ℕ) (h p l : Slot.Report)
     → t₁ ≡ with_vote (set t i 1) (column + i) h → t₂ ≡ with_vote t₁ (3 * column + i) p → t₃ ≡ with_vote t₂ (5 * column + i) l → t₃ ≡ with_report t i h p l

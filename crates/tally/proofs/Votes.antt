@@ -172,10 +172,6 @@ module _ (vote : ℕ → Option ℕ) where
       rw next (omega (arith, votes_more (leading vote (k + d)) (vote (k + d)), votes_slack k d))
 
   module _ (k n f : ℕ) (b : Lead) (is : b ≡ leading vote k) where
-    -- All n were met: this is the lead.
-    pub lead_all : k ≡ n → Leads vote n f b
-    lead_all e = let same = is ∙ ap (leading vote) e in record { few = λ less. rw (← same) less; all = λ many. same }
-
     -- More than f of the first k are missing.
     pub lead_few : k < n → b.votes + f < k → Leads vote n f b
     lead_few less few = record {

@@ -1,5 +1,5 @@
 -- `claims::list_at` meets its contract.
--- The plans of the first r vaults that stand there are listed; `listing_more` looks at one more. While some are missing there is one (`listing_left`).
+-- The plans of the first r vaults that stand there are listed; `listing_more` looks at one more.
 -- Assumes nothing.
 use Rattle.claims.proofs.Walk.{Listing}
 use Rattle.claims.proofs.list_at.Given as goal

@@ -70,4 +70,5 @@ returns-then-is_blocking c =
     let a = c.args in
     let at = c.views in
     let enough = sym c.is_blocking.ensures ∙ c.if-is_blocking.true in
-    locks_found a.spans.now a.n a.f a.v at.t at.locks at.invariant (omega arith) c.reporters.locks (counted (goal.at.returns-then-is_blocking c).After-is_blocking) enough
+    locks_found a.spans.now a.n a.f a.v at.t at.locks at.invariant (omega arith) c.reporters.locks
+    (counted (goal.at.returns-then-is_blocking c).After-is_blocking) enough

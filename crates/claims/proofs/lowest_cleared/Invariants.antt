@@ -11,7 +11,9 @@ use Rattle.rules.specs.Sets.{weigh}
 use Rattle.claims.proofs.lowest_cleared.Given as goal
 
 abbrev pub invariant-reporters : goal.invariant-reporters
-invariant-reporters l = (l.r ≤ l.n) × (l.locks ≤ l.initial.locks + l.r) × (l.locks ≡ l.initial.locks + weigh (λ i. 1) (stands_at l.spans l.t) l.r) × (l.initial.locks ≤ column)
+invariant-reporters l =
+    (l.r ≤ l.n) × (l.locks ≤ l.initial.locks + l.r) × (l.locks ≡ l.initial.locks + weigh (λ i. 1) (stands_at l.spans l.t) l.r)
+    × (l.initial.locks ≤ column)
 
 abbrev pub invariant-views : goal.invariant-views
 invariant-views l = LocksCarried l.spans l.n l.f l.v l.t l.locks

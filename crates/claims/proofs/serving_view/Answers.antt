@@ -105,8 +105,8 @@ views-preserved c =
         (fits (goal.at.views-preserved c).After-others_for).3,
         most (goal.at.views-preserved c).After-others_for,
       ),
-      walk_on a.plans.now a.c a.low a.p last.end (view (goal.at.views-preserved c).After-is_blocking) last.claimers _ last.invariant.3 c.if-end-low.false refl (comes (goal.at.views-preserved c).After-is_blocking)
-          below two few,
+      walk_on a.plans.now a.c a.low a.p last.end (view (goal.at.views-preserved c).After-is_blocking) last.claimers _ last.invariant.3
+          c.if-end-low.false refl (comes (goal.at.views-preserved c).After-is_blocking) below two few,
     )
 
 pub returns-then-end-low : goal.returns-then-end-low
@@ -119,5 +119,6 @@ pub returns-then-is_blocking : goal.returns-then-is_blocking
 returns-then-is_blocking c =
     let a = c.args in
     let last = c.views in
-    sym (walk_step a.plans.now a.c a.low a.p last.end (view (goal.at.returns-then-is_blocking c).After-is_blocking) last.claimers _ last.invariant.3 c.if-end-low.false refl (comes (goal.at.returns-then-is_blocking c).After-is_blocking) true
+    let d = (goal.at.returns-then-is_blocking c).After-is_blocking in
+    sym (walk_step a.plans.now a.c a.low a.p last.end (view d) last.claimers _ last.invariant.3 c.if-end-low.false refl (comes d) true
     (sym c.is_blocking.ensures ∙ c.if-is_blocking.true))

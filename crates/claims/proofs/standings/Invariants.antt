@@ -1,5 +1,5 @@
 -- `claims::standings` meets its contract.
--- The first r places tell where the first r vaults stand, and `spans_more` writes one more.
+-- The first r places tell where the first r vaults stand.
 -- Assumes nothing.
 use Prim.Native.Nat.{◌≤◌}
 use mathlib.Core.Path.{◌≡◌}

@@ -1,5 +1,5 @@
 -- `safe::lock_spans` meets its contract.
--- The first r places hold the spans of the first r reports, and `spans_more` writes one more.
+-- The first r places hold the spans of the first r reports.
 -- Assumes nothing.
 use Prim.Native.Nat.{◌≤◌}
 use mathlib.Core.Path.{◌≡◌}

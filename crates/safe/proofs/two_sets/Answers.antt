@@ -1,5 +1,5 @@
 -- `safe::two_sets` meets its contract.
--- A plan that is claimed at the next view, and then another plan that is claimed at u (`pair_found`, `pair_unfound`).
+-- A plan that is claimed at the next view, and then another plan that is claimed at u (`pair_found`).
 -- Assumes nothing.
 use Prim.Native.Nat.{◌+◌}
 use mathlib.Core.Path.{sym, ◌∙◌}
