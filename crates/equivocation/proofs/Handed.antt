@@ -20,7 +20,6 @@ use Rattle.rules.specs.inside.Bools.{any_below}
 use Rattle.rules.proofs.Bools.{which, clash, not_true, same_test, both_split, both_join, or_left, or_right, any_at, any_where}
 use Rattle.frame.specs.declared.Report.{Report}
 use Rattle.frame.specs.Format.{within}
-use Rattle.frame.specs.Refusal.{first}
 use Rattle.frame.proofs.Laws.{neither, inside, under, over}
 use Rattle.settings.specs.declared.Settings.{Settings}
 use Rattle.record.specs.Slots.{rows, Record, frame_slot}

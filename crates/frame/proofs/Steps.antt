@@ -10,7 +10,7 @@ use borrow.Author.Tests.{ne_eqb, leb-false}
 use lib.Dec.{leb, eqb}
 use lib.ListN.{get_or}
 use Rattle.frame.specs.declared.Frame.{Frame}
-use Rattle.frame.specs.Refusal.{Reading, Accepted, Refused}
+use Rattle.frame.specs.Refusal.{Accepted, Refused}
 use Rattle.frame.specs.Format.{decode}
 use Rattle.frame.specs.Refusal.{first, form_rows, link_rows, content_rows, leader_rows, refusal, read_frame}
 use Rattle.frame.proofs.Laws.{first_some, first_none, none, neither}

@@ -16,7 +16,7 @@ use Rattle.wire.proofs.Laws.{length_spell, bytes_spell}
 use Rattle.frame.specs.declared.Body.{Body}
 use Rattle.frame.specs.declared.Body.TheVariants.{Plan, Empty, Told}
 use Rattle.frame.specs.declared.Frame.{Frame}
-use Rattle.frame.specs.Refusal.{Reading, Accepted, Refused}
+use Rattle.frame.specs.Refusal.{Accepted, Refused}
 use Rattle.frame.specs.Format.{length_of, body_fields, fields_of, encode, decode}
 use Rattle.frame.specs.Valid.{Valid}
 use Rattle.frame.specs.Refusal.{first, form_rows, link_rows, content_rows, leader_rows, refusal, read_frame}

@@ -23,7 +23,7 @@ use Rattle.rules.proofs.Agree.{locks_agree}
 use Rattle.rules.proofs.Valid.{lock_began}
 use Rattle.rules.proofs.Reports.{none≢some}
 use Rattle.frame.specs.declared.Frame.{Frame}
-use Rattle.frame.specs.Refusal.{Reading, Accepted, Refused}
+use Rattle.frame.specs.Refusal.{Accepted, Refused}
 use Rattle.frame.specs.Refusal.{first, link_rows, leader_of}
 use Rattle.frame.proofs.Laws.{neither}
 use Rattle.entry.specs.declared.Entry.{Entry}

@@ -13,7 +13,7 @@ use borrow.Author.Tests.{eqb-false, leb-false}
 use Rattle.rules.specs.Rules.{Vote}
 use Rattle.rules.proofs.Reports.{none≢some}
 use Rattle.frame.specs.declared.Frame.{Frame}
-use Rattle.frame.specs.Refusal.{Reading, Accepted}
+use Rattle.frame.specs.Refusal.{Accepted}
 use Rattle.frame.specs.Refusal.{first, bad_previous, link_rows}
 use Rattle.frame.proofs.Laws.{neither}
 use Rattle.entry.specs.declared.Entry.{Entry}

@@ -9,7 +9,7 @@ use lib.Dec.{eqb}
 use borrow.Author.Tests.{not-false, eqb-true}
 use Rattle.wire.specs.Fields.{Bytes}
 use Rattle.frame.specs.declared.Frame.{Frame}
-use Rattle.frame.specs.Refusal.{Reading, Accepted}
+use Rattle.frame.specs.Refusal.{Accepted}
 use Rattle.frame.specs.Format.{encode, decode}
 use Rattle.frame.specs.Refusal.{first, link_rows, read_frame}
 use Rattle.frame.proofs.Theorems.{passed, accepted_valid, read_back}

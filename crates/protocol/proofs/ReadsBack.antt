@@ -16,7 +16,7 @@ use borrow.Author.Tests.{eqb-true, eqb-false, eq-eqb, ne_eqb, lt-leb}
 use Rattle.rules.proofs.Bools.{which}
 use Rattle.rules.specs.Rules.{Rule, rule1, rule3}
 use Rattle.frame.specs.declared.Frame.{Frame}
-use Rattle.frame.specs.Refusal.{Reading, Accepted}
+use Rattle.frame.specs.Refusal.{Accepted}
 use Rattle.frame.specs.Format.{encode}
 use Rattle.frame.specs.Valid.{Valid}
 use Rattle.frame.specs.Refusal.{first, leader_of, misled, link_rows, content_rows, leader_rows, read_frame}

@@ -16,7 +16,7 @@ use Rattle.rules.proofs.Bools.{which}
 use Rattle.rules.proofs.Quorums.{total_equals}
 use Rattle.rules.proofs.Reports.{none≢some}
 use Rattle.frame.specs.declared.Frame.{Frame}
-use Rattle.frame.specs.Refusal.{Reading, Accepted, Refused}
+use Rattle.frame.specs.Refusal.{Accepted, Refused}
 use Rattle.frame.specs.Refusal.{Row, row, first}
 use Rattle.frame.proofs.Laws.{neither}
 use Rattle.entry.specs.declared.Entry.{Entry}

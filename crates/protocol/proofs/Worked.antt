@@ -12,7 +12,7 @@ use Rattle.rules.specs.inside.Counts.{claimed, free, allowed, two_sets, backed, 
 use Rattle.frame.specs.declared.Body.{Body}
 use Rattle.frame.specs.declared.Body.TheVariants.{Plan, Empty, Told}
 use Rattle.frame.specs.declared.Frame.{Frame}
-use Rattle.frame.specs.Refusal.{Reading, Accepted, Refused}
+use Rattle.frame.specs.Refusal.{Accepted, Refused}
 use Rattle.entry.specs.declared.Entry.{Entry}
 use Rattle.entry.specs.declared.Entry.TheVariants.{ForAll, ForOne, Timer, Decision}
 use Rattle.settings.specs.Settings.{delay_of}

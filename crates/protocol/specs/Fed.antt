@@ -5,7 +5,7 @@ use Rattle.frame.specs.declared.Frame.{Frame}
 use Rattle.frame.specs.Valid.{Valid}
 use Rattle.frame.specs.Refusal.{first, link_rows, content_rows, leader_rows}
 use Rattle.std.proofs.Math.Option.{Option, none, some}
-use Rattle.frame.specs.Refusal.{Reading, Accepted, Refused}
+use Rattle.frame.specs.Refusal.{Accepted, Refused}
 use Rattle.protocol.specs.Record.{Record}
 use Rattle.protocol.specs.Calls.{Call, start, frame, timer, short}
 

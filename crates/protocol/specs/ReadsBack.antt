@@ -3,7 +3,7 @@
 -- Assumes nothing.
 use Rattle.std.specs.Prelude.{ℕ, ◌<◌, ◌≡◌, ◌≢◌, ◌⊎◌, List}
 use Rattle.frame.specs.declared.Frame.{Frame}
-use Rattle.frame.specs.Refusal.{Reading, Accepted}
+use Rattle.frame.specs.Refusal.{Accepted}
 use Rattle.frame.specs.Format.{encode}
 use Rattle.frame.specs.Refusal.{read_frame}
 use Rattle.entry.specs.declared.Entry.{Entry}

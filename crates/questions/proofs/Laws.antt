@@ -15,11 +15,10 @@ use Rattle.sound.specs.declared.Lent.TheVariants.{Blank, Unsound, Sound}
 use Rattle.sound.specs.inside.Sound.{lent_refusal, lent_is}
 use Rattle.protocol.specs.Record.{reported}
 use Rattle.contents.specs.Contents.{contents, contents_in}
-use Rattle.std.specs.Prelude.{Option, Some, None, Result, Ok, Err, is_ok}
+use Rattle.std.specs.Prelude.{Some, None, Result, Ok, Err, is_ok}
 use Rattle.frame.specs.declared.Refusal.{Refusal}
 use Rattle.frame.specs.declared.Refusal.TheVariants as why
 use Rattle.questions.specs.declared.Current.{Current}
-use Rattle.questions.specs.declared.Decision.{Decision}
 use Rattle.questions.specs.Stored.{entered_by, current_by, current_of, made_by, decision_by, decision_of}
 
 -- What the bytes are decides which answer is given.

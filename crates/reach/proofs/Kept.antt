@@ -27,7 +27,7 @@ use Rattle.frame.proofs.Theorems.{decode_encoded, encode_length, only_spelling, 
 use Rattle.record.proofs.Bytes.{byte_part, number_part}
 use Rattle.protocol.specs.Record.{report_by}
 use Rattle.contents.proofs.Lent.{lent_is_said}
-use Rattle.reach.specs.Call.{Reach, View}
+use Rattle.reach.specs.Call.{View}
 use Rattle.reach.specs.Call.{told_rows, said_reach, claim_reach}
 use Rattle.reach.specs.Sentences.{votes_of, behind_view, KeptReach, ReadReach}
 use Rattle.reach.proofs.Laws.{passed, reach_is_said, answered_by}

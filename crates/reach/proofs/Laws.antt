@@ -23,7 +23,7 @@ use Rattle.frame.specs.Refusal.{first, any, present, absent, bad_form, bad_previ
 use Rattle.frame.proofs.Laws as rows
 use Rattle.frame.proofs.Laws.{neither}
 use Rattle.protocol.specs.Record.{reported}
-use Rattle.reach.specs.Call.{Reach, View, Refused}
+use Rattle.reach.specs.Call.{View, Refused}
 use Rattle.reach.specs.Call.{told_rows, reach_rows, said_reach, answered, claim_reach}
 use Rattle.reach.specs.Sentences.{votes_of, ReachIsSaid, ReachHighest, AnswerHighest}
 

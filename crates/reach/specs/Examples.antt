@@ -5,7 +5,7 @@ use Rattle.wire.specs.Fields.{spell}
 use Rattle.frame.specs.declared.Report.{Report}
 use Rattle.frame.specs.Format.{reports_fields}
 use Rattle.frame.specs.Examples.{report}
-use Rattle.reach.specs.Call.{Reach, View, Refused}
+use Rattle.reach.specs.Call.{View, Refused}
 use Rattle.reach.specs.Call.{claim_reach}
 
 -- The 39 bytes of highest, previous and lock.

@@ -8,14 +8,14 @@ use Rattle.rules.specs.Rules.{Report, reach}
 use Rattle.rules.specs.Sentences.{Says}
 use Rattle.frame.specs.declared.Reports.{Reports}
 use Rattle.frame.specs.declared.Frame.{Frame}
-use Rattle.frame.specs.Refusal.{Reading, Accepted}
+use Rattle.frame.specs.Refusal.{Accepted}
 use Rattle.frame.specs.Format.{three_reports, reports_at, encode}
 use Rattle.frame.specs.Refusal.{first, bad_previous_of, read_frame}
 use Rattle.sound.specs.declared.Lent.TheVariants as lent
 use Rattle.sound.specs.inside.Sound.{lent_is}
 use Rattle.protocol.specs.Record.{reported, report_by}
 use Rattle.contents.specs.Contents.{contents_in}
-use Rattle.reach.specs.Call.{Reach, View}
+use Rattle.reach.specs.Call.{View}
 use Rattle.reach.specs.Call.{told_rows, said_reach, claim_reach}
 
 -- The three votes that a suggest or a proof tells.

@@ -17,7 +17,7 @@ use Rattle.rules.proofs.Bools.{either}
 use Rattle.rules.proofs.Reports.{none≢some}
 use Rattle.rules.specs.Sets.{Vaults}
 use Rattle.wire.specs.Placed.{placed}
-use Rattle.frame.specs.Refusal.{Reading, Accepted, Refused}
+use Rattle.frame.specs.Refusal.{Accepted, Refused}
 use Rattle.frame.specs.Format.{encode}
 use Rattle.frame.specs.Refusal.{read_frame}
 use Rattle.frame.proofs.Theorems.{encoded_bytes}

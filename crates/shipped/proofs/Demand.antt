@@ -76,7 +76,7 @@ fixed_contract rec write out (gave number rec' out') e =
     let (w, is) = written_number number rec' out' rec out e in
     subst (λ (k : ℕ). Contract rec write out (gave k rec' out')) is
     (subst (λ (r : List ℕ). Contract rec write out (gave (number_of w) r out')) (sym same)
-    (by_write ([], ([], tt)) (lent rec) (lent_mut out) (Err w) out' ((λ i. gave (is i) (same (~ i)) out') ∙ e)))
+    (by_write ([], ([], tt)) (lent rec) (lent_mut out) (Err w) out' ((let back = sym same in λ i. gave (is i) (back i) out') ∙ e)))
   where
     same : rec' ≡ rec
     same = writes_nothing rec out (gave number rec' out') e

@@ -1,14 +1,11 @@
 -- Each number that a call gives is a refusal's: the rows of the papers' tables have such numbers and no others.
 -- Assumes nothing.
-use Prim.Native.Nat.{ℕ, zero, suc, ◌≤◌}
+use Prim.Native.Nat.{ℕ, zero, suc, ◌+◌, ◌≤◌}
 use mathlib.Core.Path.{◌≡◌, refl, sym, ap, subst, ◌∙◌}
-use mathlib.Core.Logic.{Dec, yes, no}
 use mathlib.Core.Bool.{Bool, true, false, ◌||◌, true≢false}
 use mathlib.Core.List.{List, [], ◌∷◌}
 use native.Mathlib.Decide.{dec_le}
 use native.Mathlib.Omega.{arith}
-use lib.Dec.{ltb, eqb}
-use lib.ListN.{length}
 use Rattle.frame.specs.declared.Refusal.{Refusal}
 use Rattle.frame.specs.declared.Refusal.TheVariants as why
 use Rattle.frame.specs.Refusal.{Row, row, first, number_of}
@@ -69,8 +66,8 @@ AllNumbers (row k given ∷ rows) = (1 ≤ k) × (k ≤ 26) × AllNumbers rows
 -- What a table gives where it gives a number.
 table_number : (rows : List Row) → AllNumbers rows → (first rows ≡ 0 → ⊥) → Numbers (first rows)
 table_number [] all given = absurd (given refl)
-table_number (row k true ∷ rows) all given = numbers k all.0 all.1.0
-table_number (row k false ∷ rows) all given = table_number rows all.1.1 given
+table_number (row k true ∷ rows) all given = numbers k all.0 all.1
+table_number (row k false ∷ rows) all given = table_number rows all.2 given
 
 -- A call that its table decides, and that changes the record and the output where the table gives nothing.
 pub unless_number : (rows : List Row) → AllNumbers rows → (k : ℕ) (rec out rec' out' rec'' out'' : List ℕ) (n : ℕ)
@@ -80,9 +77,11 @@ unless_number rows all k rec out rec' out' rec'' out'' n e = go (first rows) ref
     number_left : Left → ℕ
     number_left (wrote n rec out) = 0
     number_left (gave k rec out) = k
+
     is_gave : Left → Bool
     is_gave (wrote n rec out) = false
     is_gave (gave k rec out) = true
+
     go : (j : ℕ) → first rows ≡ j → gave k rec' out' ≡ unless_given j rec out (wrote n rec'' out'') → Numbers k
     go zero is e = absurd (true≢false (ap is_gave e))
     go (suc j) is e =

@@ -11,7 +11,7 @@ use native.Mathlib.Omega.{arith}
 use lib.Dec.{eqb}
 use lib.ListN.{get_or}
 use borrow.Author.Tests.{eqb-false}
-use Rattle.frame.specs.Refusal.{Reading, Accepted, Refused}
+use Rattle.frame.specs.Refusal.{Accepted, Refused}
 use Rattle.frame.specs.Format.{within, decode}
 use Rattle.frame.specs.Refusal.{Row, row, first, form_rows, link_rows, content_rows, leader_rows, refusal, read_frame}
 use Rattle.frame.proofs.Laws.{both, bounds}

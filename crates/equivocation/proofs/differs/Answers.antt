@@ -1,8 +1,6 @@
 -- `equivocation::differs` meets its contract. The invariant: no record passed differs from an earlier one.
 -- Assumes nothing.
-use Prim.Native.Nat.{◌-◌}
 use mathlib.Core.Path.{sym}
-use mathlib.Core.Bool.{false}
 use native.Mathlib.Omega.{arith}
 use Rattle.frame.proofs.Laws.{told}
 use Rattle.rules.proofs.Bools.{any_at}

@@ -1,7 +1,7 @@
 -- `equivocation::differs_before` meets its contract: 'two of the records' are any two. The invariant: none of the records between the one that is
 -- compared and record i differs from it; the measure is how many are left.
 -- Assumes nothing.
-use Prim.Native.Nat.{◌-◌, ◌≤◌}
+use Prim.Native.Nat.{◌≤◌}
 use Rattle.equivocation.specs.inside.Records.{clash}
 use Rattle.equivocation.proofs.Laws.{NoneFrom}
 use Rattle.equivocation.proofs.differs_before.Given as goal

@@ -1,7 +1,7 @@
 -- `equivocation::name_all` meets its contract: 'by rising number'. The invariant: those of the vaults passed that spoke twice are written, one behind
 -- the other, and so there is room for the next.
 -- Assumes nothing.
-use Prim.Native.Nat.{ℕ, ◌-◌, ◌<◌}
+use Prim.Native.Nat.{ℕ, ◌<◌}
 use mathlib.Core.Path.{◌≡◌, refl, subst, ◌∙◌}
 use native.Mathlib.Omega.{arith}
 use lib.ListN.{length}
@@ -20,7 +20,6 @@ name-at-requires c =
     let few = put_few _ _ _ _ _ i.2 in
     let below : c.loop-sender.sender < 64 = omega (arith, given.1, c.loop-sender-test.true) in
     (given.0, below, omega (arith, given.2, below, i.1, few))
-
 
 pub loop-sender-smaller : goal.loop-sender-smaller
 loop-sender-smaller c = omega (arith, c.loop-sender-test.true)

@@ -1,8 +1,7 @@
 -- `equivocation::spoke_twice` meets its contract: 'kept vote frames only'. The invariant: in none of the votes passed do two records differ.
 -- Assumes nothing.
-use Prim.Native.Nat.{◌+◌, ◌-◌}
+use Prim.Native.Nat.{◌+◌}
 use mathlib.Core.Path.{◌≡◌, sym, ap, ◌∙◌}
-use mathlib.Core.Bool.{false}
 use native.Mathlib.Omega.{arith}
 use Rattle.frame.proofs.Laws.{told}
 use Rattle.rules.proofs.Bools.{any_at}

@@ -5,7 +5,7 @@ use Rattle.std.specs.Prelude.{ℕ, ◌-◌, ◌≤◌, ◌≡◌, ◌⊎◌, tru
 use Rattle.std.proofs.Math.Option.{Option, none, some}
 use Rattle.rules.specs.Sets.{Vaults, Set, size, total}
 use Rattle.frame.specs.declared.Frame.{Frame}
-use Rattle.frame.specs.Refusal.{Reading, Accepted, Refused}
+use Rattle.frame.specs.Refusal.{Accepted, Refused}
 use Rattle.entry.specs.declared.Entry.{Entry}
 use Rattle.entry.specs.declared.Entry.TheVariants.{ForAll, ForOne, Decision}
 use Rattle.protocol.specs.Record.{Record}

@@ -3,7 +3,7 @@
 use Rattle.std.specs.Prelude.{ℕ, ◌≡◌, cond, List, ltb}
 use Rattle.std.proofs.Math.Option.{some}
 use Rattle.frame.specs.declared.Frame.{Frame}
-use Rattle.frame.specs.Refusal.{Reading, Accepted}
+use Rattle.frame.specs.Refusal.{Accepted}
 use Rattle.frame.specs.Refusal.{first}
 use Rattle.settings.specs.declared.Settings.{Settings}
 use Rattle.record.specs.Layout.{decode_record}

@@ -7,13 +7,13 @@ use Rattle.vault_c.specs.inside.Numbers.{code, Short}
 use Rattle.vault_c.proofs.number.Goals as goal
 
 pub overflow_cast-result : goal.overflow_cast-result
-overflow_cast-result c = let few : c.in_ok-count.count ≤ 256 = subst Short c.in_ok-count.is c.requires in omega arith
+overflow_cast-result c = let few : c.in-Ok.count ≤ 256 = subst Short c.in-Ok.is c.requires in omega arith
 
 pub overflow_add-result : goal.overflow_add-result
-overflow_add-result c = let few : c.in_ok-count.count ≤ 256 = subst Short c.in_ok-count.is c.requires in omega arith
+overflow_add-result c = let few : c.in-Ok.count ≤ 256 = subst Short c.in-Ok.is c.requires in omega arith
 
-pub returns-in_ok-count : goal.returns-in_ok-count
-returns-in_ok-count c = ap code (sym c.in_ok-count.is)
+pub returns-in-Ok : goal.returns-in-Ok
+returns-in-Ok c = ap code (sym c.in-Ok.is)
 
-pub returns-in_err-why : goal.returns-in_err-why
-returns-in_err-why c = c.refused.ensures ∙ ap code (sym c.in_err-why.is)
+pub returns-in-Err : goal.returns-in-Err
+returns-in-Err c = c.refused.ensures ∙ ap code (sym c.in-Err.is)

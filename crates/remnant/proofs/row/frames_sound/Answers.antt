@@ -1,8 +1,8 @@
 -- `row::frames_sound` meets its contract. The invariant: every kind passed is sound.
 -- Assumes nothing.
-use Prim.Native.Nat.{ℕ, ◌+◌, ◌-◌}
+use Prim.Native.Nat.{ℕ, ◌+◌}
 use mathlib.Core.Path.{◌≡◌, sym}
-use mathlib.Core.Bool.{Bool, true}
+use mathlib.Core.Bool.{Bool}
 use native.Mathlib.Omega.{arith}
 use Rattle.record.specs.Slots.{kinds}
 use Rattle.sound.specs.inside.Sound.{place_sound}
