@@ -13,25 +13,18 @@ ghost use Rattle.record.specs.inside.Keeping.{stale, outdone, keep_rows};
 
 use frame::{Body, Frame, Refusal, Report, Reports, numbers};
 
+#[tactic(auto, unfolding(crate::specs::inside::Keeping::stale))]
 fn is_stale(current: u32, kind: u8, view: u32) -> bool
     ensures { result ≡ stale current kind view }
 {
-    if view < current {
-        return true;
-    }
-    if kind != numbers::VIEW_CHANGE {
-        return false;
-    }
-    view == current
+    view < current || (kind == numbers::VIEW_CHANGE && view == current)
 }
 
+#[tactic(auto, unfolding(crate::specs::inside::Keeping::outdone))]
 fn is_outdone(slot: Report, view: u32) -> bool
     ensures { result ≡ outdone slot view }
 {
-    if slot.mark != numbers::PRESENT {
-        return false;
-    }
-    view <= slot.view
+    slot.mark == numbers::PRESENT && view <= slot.view
 }
 
 // Refusals 16 and 17, of a frame's sender, kind and view against the record.

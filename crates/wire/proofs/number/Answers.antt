@@ -27,9 +27,3 @@ unfolding number_at
 loop-i-preserved c =
     let l = c.loop-i in
     (rw add-one (cc), more l.i l.n c.wide.result l.invariant.1 (omega arith))
-
-pub returns : goal.returns
-returns c =
-    let l = c.loop-i in
-    let e : l.i ≡ c.args.width = omega arith in
-    rw (← e) l.invariant.0
