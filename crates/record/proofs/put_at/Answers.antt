@@ -4,20 +4,11 @@ use Prim.Native.Nat.{ℕ, ◌+◌}
 use mathlib.Core.Path.{◌≡◌, ap, ◌∙◌}
 use mathlib.Core.List.{List}
 use native.Mathlib.Omega.{arith}
-use lib.ListN.{set, length-set}
+use lib.ListN.{set}
 use Rattle.wire.specs.Digits.{digits}
 use Rattle.wire.specs.Placed.{placed}
 use Rattle.record.proofs.Laws.{slot_stores}
 use Rattle.record.proofs.put_at.Goals as goal
-
-pub put-requires : goal.put-requires
-put-requires c = simp length-set (omega arith)
-
-pub put-requires-2 : goal.put-requires-2
-put-requires-2 c = omega (arith, simp length-set at c.put.auto.out)
-
-pub shape_of-part : goal.shape_of-part
-shape_of-part c = c.put-2.auto.out ∙ c.put.auto.out ∙ simp length-set
 
 pub returns : goal.returns
 returns c =

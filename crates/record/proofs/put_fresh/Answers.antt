@@ -1,28 +1,15 @@
 -- `layout::put_fresh` meets its contract: zeros, then the settings and the starting plan.
 -- Assumes nothing.
-use Prim.Native.Nat.{ℕ, ◌<◌}
+use Prim.Native.Nat.{ℕ}
 use mathlib.Core.Path.{◌≡◌, ap, sym, subst, ◌∙◌}
 use mathlib.Core.List.{List}
-use native.Mathlib.Omega.{arith}
-use lib.ListN.{length, get_or, length-set}
+use lib.ListN.{length, get_or}
 use Rattle.record.specs.inside.Slots.{fresh_slots}
 use Rattle.record.specs.inside.Layout.{HoldsRecord}
 use Rattle.record.proofs.Bytes.{zeros_at}
 use Rattle.record.proofs.Laws.{holds_fresh}
 use borrow.Author.Rules.{rules}
 use Rattle.record.proofs.put_fresh.Goals as goal
-
-pub bounds-rec-3 : goal.bounds-rec-3
-bounds-rec-3 c =
-    let l : 3 < length c.fill.new.self = omega (arith, c.fill.ensures.len) in
-    simp length-set l
-
-pub put-requires : goal.put-requires
-put-requires c = simp length-set (omega (arith, c.fill.ensures.len))
-
-pub shape_of-rec : goal.shape_of-rec
-shape_of-rec c =
-    c.put.auto.out ∙ simp length-set c.fill.ensures.len
 
 pub returns : goal.returns
 returns c =

@@ -1,7 +1,7 @@
 -- `wire::number` meets its contract. 'Numbers are big-endian' (01, Frames).
 -- The invariant: n is the number that the first i bytes spell, and it has at most i digits, so one more byte fits in 64 bits.
 -- Assumes nothing.
-use mathlib.Core.Path.{◌≡◌, refl}
+use mathlib.Core.Path.{refl}
 use native.Mathlib.Omega.{arith}
 use native.Mathlib.Numerals.{add-one}
 use Rattle.wire.specs.Digits.{number_at}

@@ -1,6 +1,6 @@
 -- `keeping::keep` meets its contract: by whether the frame has reports.
 -- Assumes nothing.
-use Rattle.record.proofs.Forms.{fits_kind, told_kind, plan_kind, bare_kind, keep_told_as}
+use Rattle.record.proofs.Forms.{fits_kind, told_kind, plan_kind, keep_told_as}
 use Rattle.record.proofs.Put.{held_as}
 use Rattle.record.proofs.keeping.keep.Goals as goal
 
@@ -12,10 +12,6 @@ keep_told-requires c =
 pub keep_head-requires : goal.keep_head-requires
 keep_head-requires c =
     (c.requires.0, plan_kind c.args.f.kind c.in-Plan.is c.requires.0, c.requires.1, c.requires.2)
-
-pub keep_head-requires-in-Empty : goal.keep_head-requires-in-Empty
-keep_head-requires-in-Empty c =
-    (c.requires.0, bare_kind c.args.f.kind c.in-Empty.is c.requires.0, c.requires.1, c.requires.2)
 
 pub returns-in-Told : goal.returns-in-Told
 returns-in-Told c =

@@ -7,15 +7,9 @@ use Rattle.frame.proofs.Laws.{told}
 use Rattle.record.specs.Slots.{frame_slot, slot_of}
 use Rattle.record.specs.Layout.{decode_record}
 use Rattle.record.specs.inside.Keeping.{stale, outdone}
-use Rattle.record.proofs.Kept.{refused_stale, refused_outdone, taken}
+use Rattle.record.proofs.Kept.{refused_outdone, taken}
 use Rattle.record.proofs.keeping.keep_refusal.Goals as goal
 use Rattle.record.proofs.keeping.keep_refusal.Goals.{After-is_outdone}
-
-pub returns-then-is_stale : goal.returns-then-is_stale
-returns-then-is_stale c =
-    let a = c.args in
-    sym (refused_stale (slot_of (decode_record a.rec.now)) a.current a.sender a.kind a.view
-    (told c.is_stale.ensures c.if-is_stale.true))
 
 -- The frame is not stale.
 current : (c : After-is_outdone) → let a = c.args in stale a.current a.kind a.view ≡ false
