@@ -61,8 +61,7 @@ abbrev pub report_of_frame : ℕ → Option Frame → Report
 report_of_frame j none = empty_slot
 report_of_frame j (some f) = report_of_body j f.body
 
--- What stands at a slot: the kept frames by kind and sender, from the view-changes on in a circle; the reports by kind, report and
--- sender; two previous votes; and the decision.
+-- A slot holds: kept frames by kind, from the view-changes on in a circle, and sender; reports by kind, report, sender; previous votes; the decision.
 unfoldable pub slot_at : Record → ℕ → Report
 slot_at c i =
     cond (ltb i first_report) (head_of (c.kept (suc ((i / rows + 5) % kinds)) (i % rows)))

@@ -19,7 +19,9 @@ use Rattle.frame.specs.Format.{within, length_of, reports_at, body_as}
 use Rattle.frame.specs.inside.Reading.{Formed}
 use Rattle.frame.specs.declared.Refusal.{Refusal}
 use Rattle.frame.specs.declared.Refusal.TheVariants as why
-use Rattle.frame.specs.Refusal.{Row, row, first, form_rows, number_of, number_in}
+use Rattle.frame.specs.Refusal.{Row, row, first, form_rows}
+use Rattle.frame.specs.Numbers.{number_of}
+use Rattle.frame.specs.inside.Reading.{number_in}
 
 -- what is known of two numbers, said of the tests on them: `search tests` decides a table's row from the branches on the way
 pub ruleset tests = (eq-eqb, ne_eqb, lt-ltb, le-ltb, le-leb, lt-leb, or-false)

@@ -1,56 +1,15 @@
 -- Refusals 9 to 15 of document 01 ('Checked downwards'), with 21 and 22 of document 02, wish 1, between 14 and 15, in the four groups that
 -- callers use apart, and what reading a frame answers.
 -- Assumes nothing.
-use Rattle.std.specs.Prelude.{Result, Ok, Err, ℕ, ◌%◌, Bool, false, not, ◌&&◌, ◌||◌, cond, List, [], ◌∷◌, ◌++◌, length, get_or, leb, eqb}
+use Rattle.std.specs.Prelude.{ℕ, ◌%◌, Bool, false, not, ◌&&◌, ◌||◌, cond, List, [], ◌∷◌, ◌++◌, length, get_or, leb, eqb}
 use Rattle.frame.specs.declared.Report.{Report}
 use Rattle.frame.specs.declared.Frame.{Frame}
-use Rattle.frame.specs.declared.Refusal.{Refusal}
-use Rattle.frame.specs.declared.Refusal.TheVariants as why
 use Rattle.frame.specs.Format.{within, length_of, reports_of, decode}
-
--- The numbers of document 01's table, and of document 02's wishes.
-abbrev pub number_of : Refusal → ℕ
-number_of why.Output = 1
-number_of why.Blank = 2
-number_of why.Unsound = 3
-number_of why.Started = 4
-number_of why.N = 5
-number_of why.F = 6
-number_of why.Id = 7
-number_of why.Class = 8
-number_of why.Kind = 9
-number_of why.Length = 10
-number_of why.Link = 11
-number_of why.Sender = 12
-number_of why.ViewZero = 13
-number_of why.Report = 14
-number_of why.Leader = 15
-number_of why.Over = 16
-number_of why.Kept = 17
-number_of why.Timer = 18
-number_of why.LastView = 19
-number_of why.Line = 20
-number_of why.ReportView = 21
-number_of why.Previous = 22
-number_of why.Name = 23
-number_of why.Records = 24
-number_of why.RemnantLength = 25
-number_of why.RemnantUnsound = 26
-
--- The number of what a test answers, 0 where it gives none.
-abbrev pub number_in : Result Unit Refusal → ℕ
-number_in (Ok x) = 0
-number_in (Err why) = number_of why
 
 -- What reading finds: a frame, or the number of a refusal.
 pub data Reading : Type 0 where
   Accepted : Frame → Reading
   Refused : ℕ → Reading
-
--- What a reader's answer finds.
-abbrev pub reading : Result Frame Refusal → Reading
-reading (Ok f) = Accepted f
-reading (Err why) = Refused (number_of why)
 
 -- A row of the table: 'No.' and 'Given if'.
 pub data Row : Type 0 where
@@ -127,17 +86,13 @@ link_rows sender link n own =
 abbrev pub report_form_row : List Report → Row
 report_form_row rs = row 14 (any bad_form rs)
 
--- 'a report whose view is not below the frame's by one number' (21)
-abbrev pub report_view_row : ℕ → List Report → Row
-report_view_row view rs = row 21 (any (too_high view) rs)
-
 -- 'a previous vote at odds with its highest by another' (22)
 abbrev pub previous_row : List Report → Row
 previous_row rs = row 22 (bad_previous_of rs)
 
--- 'All three reports are tested for the first fault, then all for the second, then all for the third.'
+-- 'All three reports are tested for the first fault, then all for the second' (21, a 'view .. not below the frame's'), 'then all for the third.'
 abbrev pub report_rows : ℕ → List Report → List Row
-report_rows view rs = report_form_row rs ∷ report_view_row view rs ∷ previous_row rs ∷ []
+report_rows view rs = report_form_row rs ∷ row 21 (any (too_high view) rs) ∷ previous_row rs ∷ []
 
 -- 'view 0 in kind 6, 7 or 8'; the reports
 abbrev pub content_rows : Frame → List Row

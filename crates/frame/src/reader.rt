@@ -2,7 +2,8 @@
 ghost use Rattle.std.specs.Prelude.{◌≡◌, true, ◌+◌, ◌≤◌, length};
 ghost use Rattle.frame.specs.Format.{within, length_of, report_at, reports_at, body_as, decode};
 ghost use Rattle.frame.specs.inside.Reading.{Formed};
-ghost use Rattle.frame.specs.Refusal.{reading, read_frame};
+ghost use Rattle.frame.specs.Refusal.{read_frame};
+ghost use Rattle.frame.specs.inside.Reading.{reading};
 
 use crate::{Body, Frame, Refusal, Report, Reports};
 

@@ -52,8 +52,7 @@ wanted r = wanted_from r.view (change_of r r.set.id)
 unfoldable pub timed_out : Record → Out
 timed_out r = onward (writes r (ask (wanted r))) (pass from_a (does r (ask (wanted r))))
 
--- A call: start with settings and a plan; a frame call, with what the frame reader answers; a timer for a view; and any
--- call with output space below 256 bytes.
+-- A call: start with settings and a plan; frame, with what the reader answers; a timer for a view; any with output space below 256 bytes.
 pub data Call : Type 0 where
   start : Settings → ℕ → Call
   frame : Reading → Call

@@ -92,8 +92,7 @@ module _ (r : Record) where
   abbrev pub may_propose : Bool
   may_propose = leads r r.view && not (sent_now r 0)
 
-  -- 'its starting plan if that is safe by Rule 1, else the smallest safe plan'. `choice` counts; that it is the rule by sets, `Chosen`, is
-  -- `ChoiceIsTheRule` in crates/rules/specs/Sentences, proved as `chosen_iff` in crates/rules/proofs/Laws.
+  -- 'its starting plan if that is safe by Rule 1, else the smallest safe plan': `choice` counts; `ChoiceIsTheRule` (rules/specs/Sentences) says it by sets.
   abbrev pub chosen : Option ℕ
   chosen = choice (vaults r) (reports_of r rule1) r.view r.start
 
@@ -101,8 +100,7 @@ module _ (r : Record) where
   abbrev pub act_c : Option Act
   act_c = when may_propose (each chosen (λ p. some (cast 0 p)))
 
-  -- 'vote-1 was not sent in this view and the leader's proposal for it is .. safe by Rule 3'. `safe` counts; that it is the rule by sets,
-  -- `Safe`, is `CountingIsTheRule` in crates/rules/specs/Sentences, proved as `safe_iff` in crates/rules/proofs/Laws.
+  -- 'vote-1 was not sent in this view and the leader's proposal .. is safe by Rule 3': `safe` counts; `CountingIsTheRule` (same file) says it by sets.
   abbrev pub approves : ℕ → Bool
   approves p = not (sent_now r 1) && safe rule3 (vaults r) (reports_of r rule3) r.view p
 
@@ -118,8 +116,7 @@ module _ (r : Record) where
   unfoldable pub agreed : ℕ → Option ℕ
   agreed k = highest (has_quorum k) (plan_now r k) r.set.n
 
-  -- E, F, G, for k = 1, 2, 3. 'A quorum of vote-1 (vote-2, vote-3) for this view and one plan: send vote-2 (vote-3, vote-4),
-  -- once a view, whether or not the earlier vote was sent.'
+  -- E, F, G, k = 1, 2, 3. 'A quorum of vote-1 (-2, -3) for this view and one plan: send vote-2 (-3, -4), once a view, whether or not the earlier .. was sent.'
   abbrev pub act_vote : ℕ → Option Act
   act_vote k = each (agreed k) (λ p. when (not (sent_now r (suc k))) (some (cast (suc k) p)))
 

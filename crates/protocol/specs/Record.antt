@@ -15,8 +15,7 @@ use Rattle.settings.specs.declared.Settings.{Settings}
 use Rattle.settings.specs.Vaults.{vaults_of}
 use Rattle.protocol.specs.Tables.{put₂}
 
--- 'For each sender and kind it keeps one frame': kept k j is that of kind k from sender j.
--- 'its own previous vote-1 and vote-2': previous 1 and previous 2.
+-- 'For each sender and kind it keeps one frame', kept k j that of kind k from sender j; 'its own previous vote-1 and vote-2': previous 1 and 2.
 pub record Record : Type 0 where
   pub set : Settings
   pub start : ℕ

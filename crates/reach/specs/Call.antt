@@ -5,7 +5,8 @@ use Rattle.frame.specs.declared.Report.{Report}
 use Rattle.frame.specs.declared.Reports.{Reports}
 use Rattle.frame.specs.Format.{three_reports, reports_at}
 use Rattle.frame.specs.declared.Refusal.{Refusal}
-use Rattle.frame.specs.Refusal.{number_of, Row, row, first, present, report_form_row, previous_row}
+use Rattle.frame.specs.Refusal.{Row, row, first, present, report_form_row, previous_row}
+use Rattle.frame.specs.Numbers.{number_of}
 
 -- 'then 14 and 22', of all three reports. 21 is not asked, as there is no frame's view.
 abbrev pub told_rows : List Report → List Row

@@ -37,8 +37,7 @@ slot_count = 899
 
 -- ---- where
 
--- 'For each sender and kind it keeps one frame': where it stands. The row of view-changes is the first, and the other kinds follow
--- in a circle: 6, 7, 8, 1, 2, 3, 4, 5.
+-- 'For each sender and kind it keeps one frame': where it stands. The kinds' rows follow in a circle from the view-changes on: 6, 7, 8, 1 to 5.
 abbrev pub frame_slot : ℕ → ℕ → ℕ
 frame_slot kind sender = (kind + 2) % kinds * rows + sender
 

@@ -23,7 +23,6 @@ ClaimIsSaid = (r : Report) (p u : ℕ) → (claims p u r ≡ true) ↔ Says r p 
 abbrev pub CountingIsTheRule : Type 0
 CountingIsTheRule = (vs : Vaults) (rs : Reports) (rule : Rule) (v p : ℕ) → Safe rule vs rs v p ↔ (safe rule vs rs v p ≡ true)
 
--- 'proposes its starting plan if that is safe by Rule 1, else the smallest safe plan, else waits': the choice by counting is the one that
--- this allows, and no other is. Proved as `chosen_iff` in proofs/Laws.
+-- 'its starting plan if .. safe by Rule 1, else the smallest safe plan, else waits': just the choice by counting. Proved as `chosen_iff` in proofs/Laws.
 abbrev pub ChoiceIsTheRule : Type 0
 ChoiceIsTheRule = (vs : Vaults) (rs : Reports) (v start : ℕ) (o : Option ℕ) → Chosen vs rs v start o ↔ (choice vs rs v start ≡ o)

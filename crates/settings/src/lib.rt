@@ -2,7 +2,8 @@
 #![tactic(auto)]
 
 ghost use Rattle.std.specs.Prelude.{◌≡◌, ◌*◌};
-ghost use Rattle.frame.specs.Refusal.{first, number_in};
+ghost use Rattle.frame.specs.Refusal.{first};
+ghost use Rattle.frame.specs.inside.Reading.{number_in};
 ghost use Rattle.settings.specs.Settings.{setting_rows, delay_of};
 
 use frame::Refusal;

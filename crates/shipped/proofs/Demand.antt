@@ -11,7 +11,7 @@ use Rattle.contents.specs.Left.{Left, wrote, gave}
 use Rattle.contents.specs.Remnant.{remnant_left}
 use Rattle.contents.specs.Calls.{start_left, frame_left, timer_left}
 use Rattle.contents.proofs.Remnant.{written_any}
-use Rattle.frame.specs.Refusal.{number_of}
+use Rattle.frame.specs.Numbers.{number_of}
 use Rattle.vault_c.proofs.Small.{small_start, small_frame, small_timer}
 use Rattle.shipped.proofs.Refused.{small_number, written_number, restarted_number}
 use Rattle.runs.specs.Runs.{start, frame, timer, HostCall, call, write, restart, record_in}

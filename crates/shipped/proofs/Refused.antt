@@ -8,7 +8,8 @@ use native.Mathlib.Decide.{dec_le}
 use native.Mathlib.Omega.{arith}
 use Rattle.frame.specs.declared.Refusal.{Refusal}
 use Rattle.frame.specs.declared.Refusal.TheVariants as why
-use Rattle.frame.specs.Refusal.{Row, row, first, number_of}
+use Rattle.frame.specs.Refusal.{Row, row, first}
+use Rattle.frame.specs.Numbers.{number_of}
 use Rattle.frame.specs.Format.{within}
 use Rattle.frame.proofs.Laws.{bounds}
 use Rattle.vault_c.specs.Refusals.{is_refusal}

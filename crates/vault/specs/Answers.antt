@@ -3,7 +3,7 @@
 use Rattle.std.specs.Prelude.{ℕ, Result, Ok, Err, List}
 use Rattle.contents.specs.Left.{Left, wrote, gave}
 use Rattle.frame.specs.declared.Refusal.{Refusal}
-use Rattle.frame.specs.Refusal.{number_of}
+use Rattle.frame.specs.Numbers.{number_of}
 
 -- 'Accepted calls return the byte count written', and 'Each gives its number': with the record's and the output's bytes.
 abbrev pub left_by : Result ℕ Refusal → List ℕ → List ℕ → Left

@@ -3,7 +3,7 @@
 use Rattle.std.specs.Prelude.{Option, Some, None, Result, Ok, Err, ℕ, ◌+◌, cond, List, ◌∷◌, ltb, length, drop}
 use Rattle.questions.specs.declared.Current.{Current}
 use Rattle.frame.specs.declared.Refusal.{Refusal}
-use Rattle.frame.specs.Refusal.{number_of}
+use Rattle.frame.specs.Numbers.{number_of}
 use Rattle.questions.specs.declared.Decision.{Decision}
 use Rattle.reach.specs.Call.{Reach, View, Refused}
 

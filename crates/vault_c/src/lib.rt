@@ -3,7 +3,7 @@
 #![tactic(auto)]
 
 ghost use Rattle.std.specs.Prelude.{◌≡◌, length, drop};
-ghost use Rattle.frame.specs.Refusal.{number_of};
+ghost use Rattle.frame.specs.Numbers.{number_of};
 ghost use Rattle.record.specs.Size.{record_size};
 ghost use Rattle.contents.specs.Calls.{start_left, frame_left, timer_left};
 ghost use Rattle.own.specs.Size.{remnant_size};

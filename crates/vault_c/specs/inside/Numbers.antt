@@ -2,7 +2,7 @@
 -- Assumes nothing.
 use Rattle.std.specs.Prelude.{ℕ, ◌+◌, ◌≤◌, Result, Ok, Err}
 use Rattle.frame.specs.declared.Refusal.{Refusal}
-use Rattle.frame.specs.Refusal.{number_of}
+use Rattle.frame.specs.Numbers.{number_of}
 
 -- A refusal's number as itself; 256 and the count of bytes written for an accepted call.
 abbrev pub code : Result ℕ Refusal → ℕ
