@@ -10,9 +10,9 @@ ghost use Rattle.lines.specs.Steps.{Fed, Finished};
 ghost use Rattle.lines.specs.inside.Steps.{digits_of, OnPage, Answered};
 ghost use Rattle.answers.specs.inside.Steps.{LaidOut, Printable};
 ghost use Rattle.vault.specs.Answers.{left_by};
-ghost use Rattle.stage.specs.Stage.{stage_size, place_count};
+ghost use Rattle.stage.specs.Stage.{stage_size};
 ghost use Rattle.stage.specs.Lines.{sent, entry_done, entries_done, vault_in, line_rows, call_of, call, meant, taken, done, rehearsal};
-ghost use Rattle.stage.specs.inside.Parts.{frame_most, on_way, Named};
+ghost use Rattle.stage.specs.inside.Parts.{frame_most, free_number, on_way, Named};
 ghost use Rattle.obey.specs.inside.Parts.{head_of, put_by, DoneAt, IsEntry};
 ghost use Rattle.obey.specs.Steps.{kept_size};
 ghost use Rattle.obey.specs.inside.Sizes.{answer_size, line_share, piece_size, page_size, stage_sizes};
@@ -29,15 +29,15 @@ const OUTPUT: usize = 256;
 
 // ---- frames on their way
 
-// What stands before a frame's recipient byte and the frame, where k is the smallest free number: fc and the number, or fb where the frame is lost.
-fn put_head(page: &mut [u8], at: usize, k: usize, to: u8) -> usize
-    requires { (k ≤ place_count) × (at + 6 ≤ length page.old) }
-    ensures { OnPage (digits_of (head_of k to)) page.old at page.new result }
+// What stands before a frame: fc, its number and the recipient byte, or fb and that byte where there is no number and the frame is lost.
+fn put_head(page: &mut [u8], at: usize, number: Option<u8>, to: u8) -> usize
+    requires { at + 6 ≤ length page.old }
+    ensures { OnPage (digits_of (head_of (free_number number) to)) page.old at page.new result }
 {
-    if k < places::PLACES {
-        return lines::put_digits(page, at, &[stage::WAITS, k as u8, to]);
+    match number {
+        Some(k) => lines::put_digits(page, at, &[stage::WAITS, k, to]),
+        None => lines::put_digits(page, at, &[stage::LOST, to]),
     }
-    lines::put_digits(page, at, &[stage::LOST, to])
 }
 
 // A new frame takes the smallest free number, or is lost; its line is put on the page.
@@ -45,13 +45,12 @@ fn send(stage: &mut [u8], way: Way, frame: &[u8], page: &mut [u8], at: usize) ->
     requires { (length stage.old ≡ stage_size) × (length frame.now ≤ frame_most) × ((at + 2 * length frame.now) + 7 ≤ length page.old) }
     ensures { DoneAt (sent stage.old (on_way way frame.now)) page.old at stage.new page.new result }
 {
-    let k = places::first_free(stage);
-    let mid = put_head(page, at, k, way.to);
+    let number = places::first_free(stage);
+    let mid = put_head(page, at, number, way.to);
     let end = lines::put_line(page, mid, frame);
-    if k == places::PLACES {
-        return end;
+    if let Some(k) = number {
+        places::put_waiting(stage, k, way, frame);
     }
-    places::put_waiting(stage, k, way, frame);
     end
 }
 
@@ -121,7 +120,7 @@ fn act(stage: &mut [u8], bytes: &[u8], page: &mut [u8], at: usize) -> usize
 {
     match bytes[0] {
         stage::DROP => {
-            places::free(stage, bytes[1] as usize);
+            places::free(stage, bytes[1]);
             at
         }
         stage::DECLARE => {

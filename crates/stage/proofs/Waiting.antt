@@ -37,11 +37,6 @@ writer_byte s k = part_get (place_of k) place_size 1 s (omega arith)
 
 -- ---- how long a frame is
 
--- No byte where the place's first byte is 0.
-pub held_none : (mark : ℕ) → mark ≡ 0 → 0 ≡ held_length mark
-unfolding held_length
-held_none mark e = rw e
-
 -- No more than the place has room for.
 pub held_most : (mark : ℕ) → frame_most < mark - 1 → frame_most ≡ held_length mark
 unfolding held_length
@@ -177,31 +172,25 @@ smallest_free =
 
 -- ---- the search
 
--- So many numbers are left to look at: the smallest free one of them is the smallest of all.
-pub record SearchedTo (s : List ℕ) (left : ℕ) : Type 0 where
-  pub most : left ≤ place_count
-  pub same : free_from s (place_count - left) left ≡ first_free s
+-- The search has come to number k: the smallest free one from there on is the smallest of all.
+pub record SearchedTo (s : List ℕ) (k : ℕ) : Type 0 where
+  pub same : free_from s k (place_count - k) ≡ first_free s
 
--- At the start all are left.
-pub searched_none : (s : List ℕ) → SearchedTo s place_count
-searched_none s = record { most = omega arith; same = refl }
+-- It begins at number 0.
+pub searched_none : (s : List ℕ) → SearchedTo s 0
+searched_none s = record { same = refl }
 
--- The search ends at a free number.
-pub searched_free : (s : List ℕ) (left k : ℕ) → SearchedTo s left → 0 < left → k ≡ place_count - left → is_free s k ≡ true → k ≡ first_free s
-searched_free s left k h more is e = sym (free_here s k left more e) ∙ ap (λ (j : ℕ). free_from s j left) is ∙ h.same
+-- It ends at a free number.
+pub searched_free : (s : List ℕ) (k : ℕ) → SearchedTo s k → k < place_count → is_free s k ≡ true → k ≡ first_free s
+searched_free s k h more e = sym (free_here s k (place_count - k) (omega arith) e) ∙ h.same
 
 -- A number that is not free is passed.
-pub searched_more : (s : List ℕ) (left k : ℕ) → SearchedTo s left → 0 < left → k ≡ place_count - left → is_free s k ≡ false → SearchedTo s (left - 1)
-searched_more s left k h more is e =
-    let next : place_count - (left - 1) ≡ suc k = omega (arith, h.most) in
-    record {
-      most = omega (arith, h.most);
-      same = ap (λ (j : ℕ). free_from s j (left - 1)) next ∙ sym (free_behind s k left more e) ∙ ap (λ (j : ℕ). free_from s j left) is ∙ h.same;
-    }
+pub searched_more : (s : List ℕ) (k : ℕ) → SearchedTo s k → k < place_count → is_free s k ≡ false → SearchedTo s (k + 1)
+searched_more s k h more e =
+    let next : suc k ≡ k + 1 = omega arith in
+    let left : place_count - k - 1 ≡ place_count - (k + 1) = omega arith in
+    record { same = sym (free_behind s k (place_count - k) (omega arith) e ∙ (λ i. free_from s (next i) (left i))) ∙ h.same }
 
 -- 'where 256 wait' none is free.
-pub searched_all : (s : List ℕ) (left : ℕ) → SearchedTo s left → left ≤ 0 → place_count ≡ first_free s
-searched_all s left h all =
-    let none_left : left ≡ 0 = omega arith in
-    let behind : place_count - left ≡ place_count = omega arith in
-    sym behind ∙ sym (free_none s (place_count - left) left none_left) ∙ h.same
+pub searched_all : (s : List ℕ) (k : ℕ) → SearchedTo s k → k ≡ place_count → place_count ≡ first_free s
+searched_all s k h all = sym (free_none s k (place_count - k) (omega arith) ∙ all) ∙ h.same

@@ -35,8 +35,8 @@ fn deliver(stage: &mut [u8], k: u8, v: u8, out: &mut [u8]) -> Answer
     ensures { Called stage.old v (delivered (waiting_now stage.old k)) out.old result stage.new out.new }
 {
     let mut frame = [0u8; places::MOST];
-    let len = places::copy_frame(stage, k as usize, &mut frame);
-    let writer = places::writer_of(stage, k as usize);
+    let len = places::copy_frame(stage, k, &mut frame);
+    let writer = places::writer_of(stage, k);
     let at = places::record_place(v);
     vault::frame(
         &mut stage[at..at + record::SIZE],

@@ -118,7 +118,7 @@ fn no_frame(stage: &[u8], bytes: &[u8]) -> bool
         return false;
     }
     let number = byte_at(bytes, 1);
-    places::is_free(stage, number as usize)
+    places::is_free(stage, number)
 }
 
 // 'declaring a second liar'; declaring the liar again is none.

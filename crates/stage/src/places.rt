@@ -1,16 +1,13 @@
 // The stage's bytes, read and changed where they lie: 256 places for frames on their way, a byte for the liar, four records.
-ghost use Rattle.std.specs.Prelude.{◌≡◌, ◌+◌, ◌*◌, ◌≤◌, ◌<◌, eqb, length, take};
+ghost use Rattle.std.specs.Prelude.{◌≡◌, ◌+◌, ◌≤◌, eqb, length, take};
 ghost use Rattle.record.specs.Size.{record_size};
-ghost use Rattle.stage.specs.Stage.{stage_size, place_count, record_place, liar_in, is_liar, with_liar, is_free, first_free, with_waiting, with_free};
+ghost use Rattle.stage.specs.Stage.{stage_size, place_size, place_of, liar_place, record_place, liar_in, is_liar, with_liar, is_free, first_free, with_waiting, with_free};
 ghost use Rattle.stage.specs.Lines.{waiting_now};
-ghost use Rattle.stage.specs.inside.Parts.{frame_most, held_length, on_way};
+ghost use Rattle.stage.specs.inside.Parts.{frame_most, free_number, held_length, on_way};
 
 use crate::Way;
 
-// 'up to 256 frames on their way'
-pub const PLACES: usize = 256;
-
-// A place: one more than the frame's length (0 where none waits), the writer, the recipient byte, and up to 45 bytes.
+// A place of the 256 ('up to 256 frames on their way'): one more than the frame's length (0 where none waits), the writer, the recipient byte, and up to 45 bytes.
 const PLACE: usize = 48;
 
 // The bytes before the frame's.
@@ -34,7 +31,7 @@ pub fn record_place(v: u8) -> usize
     requires { v ≤ 3 }
     ensures { (result ≡ record_place v) × (result + record_size ≤ stage_size) }
 {
-    RECORDS + record::SIZE * (v as usize)
+    RECORDS + record::SIZE * usize::from(v)
 }
 
 // Whether nobody is declared.
@@ -50,7 +47,7 @@ pub fn is_liar(stage: &[u8], v: u8) -> bool
     requires { length stage.now ≡ stage_size }
     ensures { result ≡ is_liar stage.now v }
 {
-    (stage[LIAR] as usize) == (v as usize) + 1
+    usize::from(stage[LIAR]) == usize::from(v) + 1
 }
 
 // '03 declare a vault lying'
@@ -63,36 +60,40 @@ pub fn declare(stage: &mut [u8], v: u8)
 
 // ---- the places
 
-// Whether no frame waits at a number.
-pub fn is_free(stage: &[u8], k: usize) -> bool
-    requires { (length stage.now ≡ stage_size) × (k < place_count) }
-    ensures { result ≡ is_free stage.now k }
+// Where the place of a number begins.
+fn place_of(k: u8) -> usize
+    ensures { (result ≡ place_of k) × (result + place_size ≤ liar_place) }
 {
-    stage[PLACE * k] == 0
+    PLACE * usize::from(k)
 }
 
-// 'a new frame gets the smallest free one'; 256 where 256 wait.
-pub fn first_free(stage: &[u8]) -> usize
+// Whether no frame waits at a number.
+pub fn is_free(stage: &[u8], k: u8) -> bool
     requires { length stage.now ≡ stage_size }
-    ensures { (result ≡ first_free stage.now) × (result ≤ place_count) }
+    ensures { result ≡ is_free stage.now k }
 {
-    let mut left = PLACES;
-    while 0 < left {
-        let k = PLACES - left;
+    stage[place_of(k)] == 0
+}
+
+// 'a new frame gets the smallest free one'; None where 256 wait.
+pub fn first_free(stage: &[u8]) -> Option<u8>
+    requires { length stage.now ≡ stage_size }
+    ensures { free_number result ≡ first_free stage.now }
+{
+    for k in 0..=u8::MAX {
         if is_free(stage, k) {
-            return k;
+            return Some(k);
         }
-        left -= 1;
     }
-    PLACES
+    None
 }
 
 // A frame waits at a number.
-pub fn put_waiting(stage: &mut [u8], k: usize, way: Way, frame: &[u8])
-    requires { (length stage.old ≡ stage_size) × (k < place_count) × (length frame.now ≤ frame_most) }
+pub fn put_waiting(stage: &mut [u8], k: u8, way: Way, frame: &[u8])
+    requires { (length stage.old ≡ stage_size) × (length frame.now ≤ frame_most) }
     ensures { stage.new ≡ with_waiting stage.old k (on_way way frame.now) }
 {
-    let at = PLACE * k;
+    let at = place_of(k);
     stage[at] = (frame.len() + 1) as u8;
     stage[at + 1] = way.writer;
     stage[at + 2] = way.to;
@@ -101,41 +102,34 @@ pub fn put_waiting(stage: &mut [u8], k: usize, way: Way, frame: &[u8])
 }
 
 // 'a dropped one frees its number'
-pub fn free(stage: &mut [u8], k: usize)
-    requires { (length stage.old ≡ stage_size) × (k < place_count) }
+pub fn free(stage: &mut [u8], k: u8)
+    requires { length stage.old ≡ stage_size }
     ensures { stage.new ≡ with_free stage.old k }
 {
-    stage[PLACE * k] = 0;
+    stage[place_of(k)] = 0;
 }
 
 // How long the frame of a place is, by the place's first byte.
 fn held_length(mark: u8) -> usize
     ensures { (result ≡ held_length mark) × (result ≤ frame_most) }
 {
-    if mark == 0 {
-        return 0;
-    }
-    let len = (mark as usize) - 1;
-    if MOST < len {
-        return MOST;
-    }
-    len
+    usize::from(mark).saturating_sub(1).min(MOST)
 }
 
 // The writer of the frame that waits at a number.
-pub fn writer_of(stage: &[u8], k: usize) -> u8
-    requires { (length stage.now ≡ stage_size) × (k < place_count) }
+pub fn writer_of(stage: &[u8], k: u8) -> u8
+    requires { length stage.now ≡ stage_size }
     ensures { result ≡ (waiting_now stage.now k).writer }
 {
-    stage[PLACE * k + 1]
+    stage[place_of(k) + 1]
 }
 
 // A copy of the frame that waits at a number: a record of the stage is lent while it is heard.
-pub fn copy_frame(stage: &[u8], k: usize, bytes: &mut [u8]) -> usize
-    requires { (length stage.now ≡ stage_size) × (k < place_count) × (length bytes.old ≡ frame_most) }
+pub fn copy_frame(stage: &[u8], k: u8, bytes: &mut [u8]) -> usize
+    requires { (length stage.now ≡ stage_size) × (length bytes.old ≡ frame_most) }
     ensures { (take result bytes.new ≡ (waiting_now stage.now k).bytes) × (result ≤ frame_most) }
 {
-    let at = PLACE * k;
+    let at = place_of(k);
     let len = held_length(stage[at]);
     let from = at + HEAD;
     bytes[..len].copy_from_slice(&stage[from..from + len]);

@@ -14,12 +14,6 @@ pub bounds-bytes-1 : goal.bounds-bytes-1
 bounds-bytes-1 c =
     omega (arith, accepted_two c.args.stage.now c.args.bytes.now c.requires.1)
 
-pub overflow_cast-bytes : goal.overflow_cast-bytes
-overflow_cast-bytes c = omega (arith, c.type_inv.bytes 1)
-
-pub free-requires : goal.free-requires
-free-requires c = (c.requires.0, omega (arith, c.type_inv.bytes 1))
-
 pub bounds-bytes-1-in-3 : goal.bounds-bytes-1-in-3
 bounds-bytes-1-in-3 c =
     omega (arith, accepted_two c.args.stage.now c.args.bytes.now c.requires.1)

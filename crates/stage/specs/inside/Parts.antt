@@ -1,17 +1,22 @@
 -- What the parts of the stage promise each other, and their callers.
 -- Assumes nothing.
-use Rattle.std.specs.Prelude.{ℕ, ◌-◌, ◌+◌, ◌≤◌, ◌<◌, ◌≡◌, false, cond, List, ltb, length}
+use Rattle.std.specs.Prelude.{Option, Some, None, ℕ, ◌-◌, ◌+◌, ◌≤◌, ◌<◌, ◌≡◌, false, cond, List, ltb, length}
 use Rattle.runs.specs.Runs.{ByteCall}
 use Rattle.runs.specs.Fixed.{leaves}
 use Rattle.vault.specs.declared.Answer.{Answer}
 use Rattle.vault.specs.Answers.{left_by}
 use Rattle.stage.specs.declared.Way.{Way}
-use Rattle.stage.specs.Stage.{record_of, with_record, Waiting}
+use Rattle.stage.specs.Stage.{place_count, record_of, with_record, Waiting}
 use Rattle.stage.specs.Lines.{kind_of, wrong_length, vault_in}
 
 -- 'then 0 to 45 bytes': the longest frame.
 abbrev pub frame_most : ℕ
 frame_most = 45
+
+-- The number that the search for a free one answers; 256 where it finds none.
+abbrev pub free_number : Option ℕ → ℕ
+free_number (Some k) = k
+free_number None = place_count
 
 -- How long the frame of a place is, by the place's first byte; no longer than the place has room for.
 unfoldable pub held_length : ℕ → ℕ

@@ -5,4 +5,4 @@ use Rattle.stage.proofs.Waiting.{free_stored}
 use Rattle.stage.proofs.places.free.Goals as goal
 
 pub returns : goal.returns
-returns c = free_stored c.args.stage.now c.args.k (omega arith)
+returns c = rw c.place_of.ensures.0 (free_stored c.args.stage.now c.args.k (omega arith))

@@ -5,4 +5,4 @@ use Rattle.stage.proofs.Waiting.{free_byte}
 use Rattle.stage.proofs.places.is_free.Goals as goal
 
 pub returns : goal.returns
-returns c = rw (free_byte c.args.stage.now c.args.k) refl
+returns c = rw (c.place_of.ensures.0, free_byte c.args.stage.now c.args.k) refl

@@ -5,4 +5,4 @@ use Rattle.stage.proofs.Waiting.{writer_byte}
 use Rattle.stage.proofs.places.writer_of.Goals as goal
 
 pub returns : goal.returns
-returns c = sym (writer_byte c.args.stage.now c.args.k)
+returns c = rw c.place_of.ensures.0 (sym (writer_byte c.args.stage.now c.args.k))
