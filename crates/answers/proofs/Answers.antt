@@ -14,10 +14,10 @@ use Rattle.entry.specs.Reading.{entries_of}
 use Rattle.contents.specs.Left.{Left, gave}
 use Rattle.runs.specs.Runs.{record_in}
 use Rattle.runs.specs.Left.{Kept, LeavesWell}
-use Rattle.vault.specs.declared.Answer.{Answer}
-use Rattle.vault.specs.declared.Answer.TheVariants.{Written, Refused}
+use Rattle.frame.specs.declared.Refusal.{Refusal}
+use Rattle.frame.specs.Refusal.{number_of}
 use Rattle.vault.specs.Answers.{left_by}
-use Rattle.std.specs.Prelude.{Option as Counted, Some, None}
+use Rattle.std.specs.Prelude.{Option as Counted, Some, None, Result, Ok, Err}
 use Rattle.lines.specs.Digits.{refusal_line, bytes_of}
 use Rattle.lines.specs.inside.Steps.{spells, spelling_count, OnPage, Answered}
 use Rattle.lines.proofs.Digits.{length_line}
@@ -35,30 +35,30 @@ zeroed_size = length-replicate {A = ℕ} output_size 0
 -- ---- a call's answer
 
 -- An answer that leaves what the call leaves has entries to print.
-pub call_printable : (rec s : List ℕ) → Bytes rec → Bytes s → (a : Answer) (rec' out' : List ℕ)
+pub call_printable : (rec s : List ℕ) → Bytes rec → Bytes s → (a : Result ℕ Refusal) (rec' out' : List ℕ)
     → left_by a rec' out' ≡ call_left rec zeroed (call_of s) → Printable a out'
-call_printable rec s br bs (Written n) rec' out' is =
+call_printable rec s br bs (Ok n) rec' out' is =
     let well : Kept zeroed n rec' out' = subst (LeavesWell rec zeroed) (sym is) (call_well rec zeroed s br bs) in
     (well.few, well.size ∙ zeroed_size, record { valid = well.valid; entries = well.entries })
-call_printable rec s br bs (Refused k) rec' out' is = tt
+call_printable rec s br bs (Err why) rec' out' is = tt
 
 -- What is printed of an answer has room.
-printed_short : (a : Answer) (out : List ℕ) → Printable a out → length (printed (left_by a [] out)) ≤ answer_size
-printed_short (Written n) out (few, size, laid) = omega (arith, laid_short (take n out) laid, length-take-le n out (omega arith))
-printed_short (Refused k) out p = omega (arith, length_line (253 ∷ k ∷ []))
+printed_short : (a : Result ℕ Refusal) (out : List ℕ) → Printable a out → length (printed (left_by a [] out)) ≤ answer_size
+printed_short (Ok n) out (few, size, laid) = omega (arith, laid_short (take n out) laid, length-take-le n out (omega arith))
+printed_short (Err why) out p = omega (arith, length_line (253 ∷ number_of why ∷ []))
 
 -- The record that an answer leaves is the one that the code has: a refusal's too.
-record_by : (a : Answer) (rec' out' : List ℕ) → rec' ≡ record_in (left_by a rec' out')
-record_by (Written n) rec' out' = refl
-record_by (Refused k) rec' out' = refl
+record_by : (a : Result ℕ Refusal) (rec' out' : List ℕ) → rec' ≡ record_in (left_by a rec' out')
+record_by (Ok n) rec' out' = refl
+record_by (Err why) rec' out' = refl
 
 -- What is printed of an answer does not depend on the record, so `put_answer` needs none.
-printed_by : (a : Answer) (rec' out' : List ℕ) → printed (left_by a [] out') ≡ printed (left_by a rec' out')
-printed_by (Written n) rec' out' = refl
-printed_by (Refused k) rec' out' = refl
+printed_by : (a : Result ℕ Refusal) (rec' out' : List ℕ) → printed (left_by a [] out') ≡ printed (left_by a rec' out')
+printed_by (Ok n) rec' out' = refl
+printed_by (Err why) rec' out' = refl
 
 -- The call's answer is put.
-pub put_by : (rec s page : List ℕ) (at : ℕ) (a : Answer) (rec' out' page' : List ℕ) (next : ℕ) → left_by a rec' out' ≡ call_left rec zeroed (call_of s)
+pub put_by : (rec s page : List ℕ) (at : ℕ) (a : Result ℕ Refusal) (rec' out' page' : List ℕ) (next : ℕ) → left_by a rec' out' ≡ call_left rec zeroed (call_of s)
     → Printable a out' → OnPage (printed (left_by a [] out')) page at page' next → AnswerPut (call_left rec zeroed (call_of s)) page at rec' page' next
 put_by rec s page at a rec' out' page' next is p put = record {
   kept = record_by a rec' out' ∙ ap record_in is;
@@ -68,10 +68,10 @@ put_by rec s page at a rec' out' page' next is p put = record {
 
 -- ---- each kind of answer is put
 
-module _ (a : Answer) (out : List ℕ) (p : Printable a out) (n : ℕ) (is : a ≡ Written n) where
+module _ (a : Result ℕ Refusal) (out : List ℕ) (p : Printable a out) (n : ℕ) (is : a ≡ Ok n) where
   -- What is promised of the answer, once it is known to be entries.
-  written : Printable (Written n) out
-  written = subst (λ (x : Answer). Printable x out) is p
+  written : Printable (Ok n) out
+  written = subst (λ (x : Result ℕ Refusal). Printable x out) is p
 
   -- The code's slice begins at 0: its length is the count.
   whole : n - 0 ≡ n
@@ -93,9 +93,9 @@ module _ (a : Answer) (out : List ℕ) (p : Printable a out) (n : ℕ) (is : a �
   written_shown page at page' next put = rw is (rw whole at put)
 
 -- The line of the refusal is what is printed of the answer.
-pub refused_shown : (a : Answer) (out : List ℕ) (k : ℕ) → a ≡ Refused k → (page : List ℕ) (at : ℕ) (page' : List ℕ) (next : ℕ)
+pub refused_shown : (a : Result ℕ Refusal) (out : List ℕ) (why : Refusal) → a ≡ Err why → (k : ℕ) → k ≡ number_of why → (page : List ℕ) (at : ℕ) (page' : List ℕ) (next : ℕ)
     → OnPage (refusal_line k) page at page' next → OnPage (printed (left_by a [] out)) page at page' next
-refused_shown a out k is page at page' next put = rw is put
+refused_shown a out why is k same page at page' next put = rw (is, ← same) put
 
 -- ---- a line, by what its text spells
 

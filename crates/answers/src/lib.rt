@@ -14,10 +14,9 @@ ghost use Rattle.answers.specs.inside.Sizes.{piece_size, page_size, vault_sizes}
 ghost use Rattle.answers.specs.inside.Kept.{kept_enough};
 ghost use Rattle.std.proofs.Common.{rules};
 
-use frame::numbers;
+use frame::Refusal;
 use lines::pieces::{self, LineProgram, Place};
 use settings::Settings;
-use vault::Answer;
 
 // A line has at most 90 digits, so 45 bytes.
 const DIGITS: usize = 90;
@@ -39,11 +38,11 @@ const TIMER_LENGTH: usize = 5;
 // ---- the call that a line makes
 
 // 'Kind 00 starts (n, f, id, class, one byte each, then plan; 13 bytes)'; 'A wrong length .. gives 10, before the call'.
-fn start(rec: &mut [u8], bytes: &[u8], out: &mut [u8]) -> Answer
+fn start(rec: &mut [u8], bytes: &[u8], out: &mut [u8]) -> Result<usize, Refusal>
     ensures { left_by result rec.new out.new ≡ call_left rec.old out.old (start_of bytes.now) }
 {
     if bytes.len() != START_LENGTH {
-        return Answer::Refused(numbers::REFUSED_LENGTH);
+        return Err(Refusal::Length);
     }
     let set = Settings {
         n: bytes[1],
@@ -56,17 +55,17 @@ fn start(rec: &mut [u8], bytes: &[u8], out: &mut [u8]) -> Answer
 }
 
 // 'kind 09 is a timer (view; 5 bytes)'
-fn timer(rec: &mut [u8], bytes: &[u8], out: &mut [u8]) -> Answer
+fn timer(rec: &mut [u8], bytes: &[u8], out: &mut [u8]) -> Result<usize, Refusal>
     ensures { left_by result rec.new out.new ≡ call_left rec.old out.old (timer_of bytes.now) }
 {
     if bytes.len() != TIMER_LENGTH {
-        return Answer::Refused(numbers::REFUSED_LENGTH);
+        return Err(Refusal::Length);
     }
     vault::timer(rec, wire::number32(bytes, 1), out)
 }
 
 // 'other lines are frames whose byte 1 is also the link's sender'; where there is no byte 1, no sender is looked at.
-fn frame(rec: &mut [u8], bytes: &[u8], out: &mut [u8]) -> Answer
+fn frame(rec: &mut [u8], bytes: &[u8], out: &mut [u8]) -> Result<usize, Refusal>
     ensures { left_by result rec.new out.new ≡ call_left rec.old out.old (frame_of bytes.now) }
 {
     if bytes.len() < 2 {
@@ -86,7 +85,7 @@ fn is_kind(kind: u8, bytes: &[u8]) -> bool
 }
 
 // The call that a line's bytes make: 'an empty line is an empty frame'.
-fn call(rec: &mut [u8], bytes: &[u8], out: &mut [u8]) -> Answer
+fn call(rec: &mut [u8], bytes: &[u8], out: &mut [u8]) -> Result<usize, Refusal>
     ensures { left_by result rec.new out.new ≡ call_left rec.old out.old (call_of bytes.now) }
 {
     if is_kind(START, bytes) {
@@ -116,13 +115,13 @@ fn put_entries(page: &mut [u8], at: usize, s: &[u8]) -> usize
 }
 
 // Puts what a call answered on the page: 'one output entry a line, or fd and the refusal number as one byte'.
-fn put_answer(page: &mut [u8], at: usize, answer: Answer, out: &[u8]) -> usize
+fn put_answer(page: &mut [u8], at: usize, answer: Result<usize, Refusal>, out: &[u8]) -> usize
     requires { (at + answer_size ≤ length page.old) × Printable answer out.now }
     ensures { OnPage (printed (left_by answer [] out.now)) page.old at page.new result }
 {
     match answer {
-        Answer::Written(count) => put_entries(page, at, &out[0..count]),
-        Answer::Refused(number) => lines::put_refusal(page, at, number),
+        Ok(count) => put_entries(page, at, &out[0..count]),
+        Err(why) => lines::put_refusal(page, at, u8::from(why)),
     }
 }
 
@@ -144,7 +143,7 @@ pub fn answer_line(rec: &mut [u8], text: &[u8], page: &mut [u8], at: usize) -> u
 {
     let mut bytes = [0u8; BYTES];
     let Some(count) = lines::bytes_in(text, DIGITS, &mut bytes) else {
-        return lines::put_refusal(page, at, numbers::REFUSED_LINE);
+        return lines::put_refusal(page, at, u8::from(Refusal::Line));
     };
     answer(rec, &bytes[0..count], page, at)
 }

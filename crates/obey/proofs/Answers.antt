@@ -23,10 +23,10 @@ use Rattle.runs.specs.Runs.{ByteCall, InWidth}
 use Rattle.runs.specs.Fixed.{leaves}
 use Rattle.runs.specs.Left.{Kept, LeavesWell}
 use Rattle.runs.proofs.Left.{call_leaves_well}
-use Rattle.vault.specs.declared.Answer.{Answer}
-use Rattle.vault.specs.declared.Answer.TheVariants.{Written, Refused}
+use Rattle.frame.specs.declared.Refusal.{Refusal}
+use Rattle.frame.specs.Refusal.{number_of}
 use Rattle.vault.specs.Answers.{left_by}
-use Rattle.std.specs.Prelude.{Option as Counted, Some, None}
+use Rattle.std.specs.Prelude.{Option as Counted, Some, None, Result, Ok, Err}
 use Rattle.lines.specs.Digits.{refusal_line, bytes_of}
 use Rattle.lines.specs.inside.Steps.{spells, OnPage, Answered}
 use Rattle.lines.proofs.Digits.{length_line}
@@ -48,18 +48,19 @@ use Rattle.stage.proofs.Called.{vault_second}
 -- ---- each kind of answer is put
 
 -- The written entries are what is done for the answer.
-pub written_done : (a : Answer) (s : List ℕ) (v : ℕ) (out : List ℕ) (n : ℕ) → a ≡ Written n → (page : List ℕ) (at : ℕ) (s' page' : List ℕ) (next : ℕ)
+pub written_done : (a : Result ℕ Refusal) (s : List ℕ) (v : ℕ) (out : List ℕ) (n : ℕ) → a ≡ Ok n → (page : List ℕ) (at : ℕ) (s' page' : List ℕ) (next : ℕ)
     → DoneAt (entries_done v s (entries_of (take (n - 0) out))) page at s' page' next → DoneAt (put_by s v (left_by a [] out)) page at s' page' next
 written_done a s v out n is page at s' page' next put =
     let whole : n - 0 ≡ n = omega arith in
-    subst (λ (x : Answer). DoneAt (put_by s v (left_by x [] out)) page at s' page' next) (sym is)
+    subst (λ (x : Result ℕ Refusal). DoneAt (put_by s v (left_by x [] out)) page at s' page' next) (sym is)
     (subst (λ (k : ℕ). DoneAt (entries_done v s (entries_of (take k out))) page at s' page' next) whole put)
 
 -- The line of the refusal is all that is done for the answer.
-pub refused_done : (a : Answer) (s : List ℕ) (v : ℕ) (out : List ℕ) (k : ℕ) → a ≡ Refused k → (page : List ℕ) (at : ℕ) (page' : List ℕ) (next : ℕ)
+pub refused_done : (a : Result ℕ Refusal) (s : List ℕ) (v : ℕ) (out : List ℕ) (why : Refusal) → a ≡ Err why → (k : ℕ) → k ≡ number_of why → (page : List ℕ) (at : ℕ) (page' : List ℕ) (next : ℕ)
     → OnPage (refusal_line k) page at page' next → DoneAt (put_by s v (left_by a [] out)) page at s page' next
-refused_done a s v out k is page at page' next put =
-    subst (λ (x : Answer). DoneAt (put_by s v (left_by x [] out)) page at s page' next) (sym is) (record { stage = refl; lines = put })
+refused_done a s v out why is k same page at page' next put =
+    subst (λ (x : Result ℕ Refusal). DoneAt (put_by s v (left_by x [] out)) page at s page' next) (sym is)
+    (record { stage = refl; lines = subst (λ (j : ℕ). OnPage (refusal_line j) page at page' next) same put })
 
 -- ---- a call's answer
 
@@ -100,7 +101,7 @@ call_in_width s b bs bb =
     either (eqb (kind_of b) 0) (start_of b) (cond (eqb (kind_of b) 1) frames times) (number_below 8 b 3 bb)
     (either (eqb (kind_of b) 1) frames times (bytes_waiting s (get_or b 1 0) bs) tt)
 
-module _ (s b : List ℕ) (r : Answer) (s' out' : List ℕ) (made : Called s (vault_in b) (call_of s b) zeroed r s' out') where
+module _ (s b : List ℕ) (r : Result ℕ Refusal) (s' out' : List ℕ) (made : Called s (vault_in b) (call_of s b) zeroed r s' out') where
   -- An answer that leaves what the line's call leaves has entries to print.
   pub call_printable : Bytes s → Bytes b → Printable r out'
   call_printable bs bb = go r made.left
@@ -108,13 +109,13 @@ module _ (s b : List ℕ) (r : Answer) (s' out' : List ℕ) (made : Called s (va
       rec : List ℕ
       rec = record_of s (vault_in b)
 
-      go : (a : Answer) → left_by a made.rec out' ≡ leaves rec (call_of s b) zeroed → Printable a out'
-      go (Written n) is =
+      go : (a : Result ℕ Refusal) → left_by a made.rec out' ≡ leaves rec (call_of s b) zeroed → Printable a out'
+      go (Ok n) is =
           let left : LeavesWell rec zeroed (leaves rec (call_of s b) zeroed) =
           call_leaves_well rec zeroed (call_of s b) (bytes_part (record_place (vault_in b)) record_size s bs) (call_in_width s b bs bb) in
           let well : Kept zeroed n made.rec out' = subst (LeavesWell rec zeroed) (sym is) left in
           (well.few, well.size ∙ zeroed_size, record { valid = well.valid; entries = well.entries })
-      go (Refused k) is = tt
+      go (Err why) is = tt
 
   -- What is done for the answer, at the stage with its record, is what the line does.
   put_is : put_by s' (vault_in b) (left_by r [] out') ≡ done s (call (vault_in b) (call_of s b))
@@ -124,22 +125,22 @@ module _ (s b : List ℕ) (r : Answer) (s' out' : List ℕ) (made : Called s (va
       ∙ go r
       ∙ ap (answered s (vault_in b)) made.left
     where
-      go : (a : Answer) → put_by (with_record s (vault_in b) made.rec) (vault_in b) (left_by a [] out') ≡ answered s (vault_in b) (left_by a made.rec out')
-      go (Written n) = refl
-      go (Refused k) = refl
+      go : (a : Result ℕ Refusal) → put_by (with_record s (vault_in b) made.rec) (vault_in b) (left_by a [] out') ≡ answered s (vault_in b) (left_by a made.rec out')
+      go (Ok n) = refl
+      go (Err why) = refl
 
 -- What an answer prints has room.
-put_short : (s : List ℕ) (v : ℕ) (a : Answer) (out : List ℕ) → Printable a out → length (put_by s v (left_by a [] out)).shown ≤ answer_size
-put_short s v (Written n) out (few, size, laid) =
+put_short : (s : List ℕ) (v : ℕ) (a : Result ℕ Refusal) (out : List ℕ) → Printable a out → length (put_by s v (left_by a [] out)).shown ≤ answer_size
+put_short s v (Ok n) out (few, size, laid) =
     omega (arith, entries_short v s (entries_of (take n out)), ap length laid.entries, length-take-le n out (omega arith))
-put_short s v (Refused k) out p = omega (arith, length_line (253 ∷ k ∷ []))
+put_short s v (Err why) out p = omega (arith, length_line (253 ∷ number_of why ∷ []))
 
 -- What is promised of a line that is not refused.
 abbrev pub Acted : (d : Done) (page : List ℕ) (at : ℕ) (s' page' : List ℕ) (next : ℕ) → Type 0
 Acted d page at s' page' next = DoneAt d page at s' page' next × (next ≤ at + answer_size)
 
 -- The call's answer is put: what the line does is done.
-pub call_acted : (s b page : List ℕ) (at : ℕ) (r : Answer) (s' out' : List ℕ) (v : ℕ) (s'' page' : List ℕ) (next : ℕ)
+pub call_acted : (s b page : List ℕ) (at : ℕ) (r : Result ℕ Refusal) (s' out' : List ℕ) (v : ℕ) (s'' page' : List ℕ) (next : ℕ)
     → Called s (vault_in b) (call_of s b) zeroed r s' out' → Printable r out' → v ≡ vault_in b
     → DoneAt (put_by s' v (left_by r [] out')) page at s'' page' next → Acted (done s (call (vault_in b) (call_of s b))) page at s'' page' next
 call_acted s b page at r s' out' v s'' page' next made may named put = (

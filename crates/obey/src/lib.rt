@@ -19,10 +19,9 @@ ghost use Rattle.obey.specs.inside.Sizes.{answer_size, line_share, piece_size, p
 ghost use Rattle.obey.specs.inside.Kept.{kept_enough};
 ghost use Rattle.std.proofs.Common.{rules};
 
-use frame::numbers;
+use frame::{Refusal, numbers};
 use lines::pieces::{self, LineProgram, Place};
 use stage::{Way, calls, places};
-use vault::Answer;
 
 // 'a zeroed 256-byte output array'
 const OUTPUT: usize = 256;
@@ -85,7 +84,7 @@ fn put_entries(stage: &mut [u8], writer: u8, s: &[u8], page: &mut [u8], at: usiz
 fn put_answer(
     stage: &mut [u8],
     writer: u8,
-    answer: Answer,
+    answer: Result<usize, Refusal>,
     out: &[u8],
     page: &mut [u8],
     at: usize,
@@ -94,8 +93,8 @@ fn put_answer(
     ensures { DoneAt (put_by stage.old writer (left_by answer [] out.now)) page.old at stage.new page.new result }
 {
     match answer {
-        Answer::Written(count) => put_entries(stage, writer, &out[0..count], page, at),
-        Answer::Refused(number) => lines::put_refusal(page, at, number),
+        Ok(count) => put_entries(stage, writer, &out[0..count], page, at),
+        Err(why) => lines::put_refusal(page, at, u8::from(why)),
     }
 }
 
@@ -144,9 +143,8 @@ fn obey(stage: &mut [u8], bytes: &[u8], page: &mut [u8], at: usize) -> usize
     ensures done_at { DoneAt (done stage.old (meant stage.old bytes.now)) page.old at stage.new page.new result }
     ensures upper_bound { (result ≤ at + answer_size) × (length bytes.now < 2 → result ≤ at + 5) }
 {
-    let number = stage::refusal(stage, bytes);
-    if number != 0 {
-        return lines::put_refusal(page, at, number);
+    if let Err(why) = stage::refusal(stage, bytes) {
+        return lines::put_refusal(page, at, u8::from(why));
     }
     act(stage, bytes, page, at)
 }
@@ -159,7 +157,7 @@ pub fn obey_line(stage: &mut [u8], text: &[u8], page: &mut [u8], at: usize) -> u
 {
     let mut bytes = [0u8; stage::BYTES];
     let Some(count) = lines::bytes_in(text, stage::DIGITS, &mut bytes) else {
-        return lines::put_refusal(page, at, numbers::REFUSED_LINE);
+        return lines::put_refusal(page, at, u8::from(Refusal::Line));
     };
     obey(stage, &bytes[0..count], page, at)
 }

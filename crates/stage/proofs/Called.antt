@@ -16,7 +16,8 @@ use Rattle.record.specs.Layout.{decode_record}
 use Rattle.contents.specs.Calls.{start_left, frame_left, timer_left}
 use Rattle.runs.specs.Runs.{ByteCall}
 use Rattle.runs.specs.Fixed.{leaves}
-use Rattle.vault.specs.declared.Answer.{Answer}
+use Rattle.std.specs.Prelude.{Result}
+use Rattle.frame.specs.declared.Refusal.{Refusal}
 use Rattle.vault.specs.Answers.{left_by}
 use Rattle.stage.specs.Stage.{record_place, record_of, with_record, part}
 use Rattle.stage.specs.Lines.{kind_of, vault_in, start_of, delivered, waiting_now, timer_of, call_of}
@@ -74,14 +75,14 @@ module _ (s : List ℕ) (v at : ℕ) (is : at ≡ record_place v) where
       ∙ ap (λ (k : ℕ). take k s ++ (rec ++ drop (k + length rec) s)) is
 
   -- A call on what is lent is the call at the vault.
-  pub called : (a : ByteCall) (out : List ℕ) (r : Answer) (rec out' : List ℕ) → length rec ≡ length (lent s at) → at + record_size ≤ length s
+  pub called : (a : ByteCall) (out : List ℕ) (r : Result ℕ Refusal) (rec out' : List ℕ) → length rec ≡ length (lent s at) → at + record_size ≤ length s
       → left_by r rec out' ≡ leaves (lent s at) a out → Called s v a out r (back s at rec) out'
   called a out r rec out' same fits left =
       record { rec = rec; left = left ∙ ap (λ (l : List ℕ). leaves l a out) lent_is; stage = back_is rec same fits }
 
 -- ---- each kind's call
 
-module _ (s out : List ℕ) (at : ℕ) (r : Answer) (rec out' : List ℕ) (same : length rec ≡ length (lent s at)) (fits : at + record_size ≤ length s) where
+module _ (s out : List ℕ) (at : ℕ) (r : Result ℕ Refusal) (rec out' : List ℕ) (same : length rec ≡ length (lent s at)) (fits : at + record_size ≤ length s) where
   -- '00 start (vault, class, plan)', '4 vaults, numbers 0 to 3 with n = 4 and f = 1'
   pub start_called : (b : List ℕ) → kind_of b ≡ 0 → at ≡ record_place (get_or b 1 0) → (plan : ℕ) → plan ≡ number_at 8 b 3
       → left_by r rec out' ≡ start_left (lent s at) (record { n = 4; f = 1; id = get_or b 1 0; class = get_or b 2 0 }) plan out
@@ -111,7 +112,7 @@ module _ (s out : List ℕ) (at : ℕ) (r : Answer) (rec out' : List ℕ) (same 
 
 -- ---- the kind decides
 
-module _ (s b out : List ℕ) (r : Answer) (s' out' : List ℕ) where
+module _ (s b out : List ℕ) (r : Result ℕ Refusal) (s' out' : List ℕ) where
   -- A call at the vault named, that the line's kind makes.
   made : (v : ℕ) (a : ByteCall) → v ≡ vault_in b → a ≡ call_of s b → Called s v a out r s' out' → Called s (vault_in b) (call_of s b) out r s' out'
   made v a is_vault is_call = subst (λ (w : ℕ). Called s v a out r s' out' → Called s w (call_of s b) out r s' out') is_vault

@@ -5,8 +5,8 @@ ghost use Rattle.stage.specs.Lines.{vault_in, kind_of, start_of, delivered, wait
 ghost use Rattle.stage.specs.inside.Parts.{Named, Called};
 
 use crate::{DELIVER, START, places};
+use frame::Refusal;
 use settings::Settings;
-use vault::Answer;
 
 // '4 vaults .. with n = 4 and f = 1'
 const VAULTS: u8 = 4;
@@ -14,7 +14,7 @@ const VAULTS: u8 = 4;
 const LIARS: u8 = 1;
 
 // '00 start (vault, class, plan)'
-fn start(stage: &mut [u8], bytes: &[u8], out: &mut [u8]) -> Answer
+fn start(stage: &mut [u8], bytes: &[u8], out: &mut [u8]) -> Result<usize, Refusal>
     requires { (length stage.old ≡ stage_size) × Named bytes.now × (kind_of bytes.now ≡ 0) }
     ensures { Called stage.old (vault_in bytes.now) (start_of bytes.now) out.old result stage.new out.new }
 {
@@ -30,7 +30,7 @@ fn start(stage: &mut [u8], bytes: &[u8], out: &mut [u8]) -> Answer
 }
 
 // '01 deliver (frame number, vault)': over the link from the frame's writer. The frame stays.
-fn deliver(stage: &mut [u8], k: u8, v: u8, out: &mut [u8]) -> Answer
+fn deliver(stage: &mut [u8], k: u8, v: u8, out: &mut [u8]) -> Result<usize, Refusal>
     requires { (length stage.old ≡ stage_size) × (v ≤ 3) }
     ensures { Called stage.old v (delivered (waiting_now stage.old k)) out.old result stage.new out.new }
 {
@@ -47,7 +47,7 @@ fn deliver(stage: &mut [u8], k: u8, v: u8, out: &mut [u8]) -> Answer
 }
 
 // '05 let a vault's timer for its current view expire'
-fn timer(stage: &mut [u8], v: u8, out: &mut [u8]) -> Answer
+fn timer(stage: &mut [u8], v: u8, out: &mut [u8]) -> Result<usize, Refusal>
     requires { (length stage.old ≡ stage_size) × (v ≤ 3) }
     ensures { Called stage.old v (timer_of (record_of stage.old v)) out.old result stage.new out.new }
 {
@@ -57,7 +57,7 @@ fn timer(stage: &mut [u8], v: u8, out: &mut [u8]) -> Answer
 }
 
 // The call that a line makes, by its kind.
-pub fn call(stage: &mut [u8], bytes: &[u8], out: &mut [u8]) -> Answer
+pub fn call(stage: &mut [u8], bytes: &[u8], out: &mut [u8]) -> Result<usize, Refusal>
     requires { (length stage.old ≡ stage_size) × Named bytes.now }
     ensures { Called stage.old (vault_in bytes.now) (call_of stage.old bytes.now) out.old result stage.new out.new }
 {

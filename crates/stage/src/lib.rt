@@ -4,11 +4,11 @@
 #![tactic(auto)]
 
 ghost use Rattle.std.specs.Prelude.{◌≡◌, length, get_or};
-ghost use Rattle.frame.specs.Refusal.{first};
+ghost use Rattle.frame.specs.Refusal.{first, number_in};
 ghost use Rattle.stage.specs.Stage.{stage_size};
 ghost use Rattle.stage.specs.Lines.{vault_in, wrong_length, no_vault, no_frame, second_liar, not_liar, misnamed, line_rows};
 
-use frame::numbers;
+use frame::Refusal;
 
 pub mod calls;
 pub mod places;
@@ -40,9 +40,6 @@ pub const TIMER: u8 = 5;
 
 // 'numbers 0 to 3'
 pub const LAST_VAULT: u8 = 3;
-
-// 'a line naming a frame not waiting or a vault above 3, declaring a second liar, or making up a frame for a vault not declared'
-pub const REFUSED_NAME: u8 = 23;
 
 // 'a frame's entry is led by fc and its number, or by fb where 256 wait and it is lost'
 pub const WAITS: u8 = 252;
@@ -146,7 +143,7 @@ fn not_liar(stage: &[u8], bytes: &[u8]) -> bool
     !places::is_liar(stage, vault_in(bytes))
 }
 
-// 23, whole.
+// 23, whole: 'a line naming a frame not waiting or a vault above 3, declaring a second liar, or making up a frame for a vault not declared'.
 fn misnamed(stage: &[u8], bytes: &[u8]) -> bool
     requires { length stage.now ≡ stage_size }
     ensures { result ≡ misnamed stage.now bytes.now }
@@ -163,24 +160,24 @@ fn misnamed(stage: &[u8], bytes: &[u8]) -> bool
     not_liar(stage, bytes)
 }
 
-// The number of a line's refusal, before its call; 0 where there is none. 'then an empty line or unknown kind gives 9 and a wrong length 10'
-pub fn refusal(stage: &[u8], bytes: &[u8]) -> u8
+// A line's refusal, before its call. 'then an empty line or unknown kind gives 9 and a wrong length 10'
+pub fn refusal(stage: &[u8], bytes: &[u8]) -> Result<(), Refusal>
     requires { length stage.now ≡ stage_size }
-    ensures { result ≡ first (line_rows stage.now bytes.now) }
+    ensures { number_in result ≡ first (line_rows stage.now bytes.now) }
 {
     if bytes.len() == 0 {
-        return numbers::REFUSED_KIND;
+        return Err(Refusal::Kind);
     }
     if TIMER < bytes[0] {
-        return numbers::REFUSED_KIND;
+        return Err(Refusal::Kind);
     }
     let is_wrong = wrong_length(bytes[0], bytes.len());
     let is_misnamed = misnamed(stage, bytes);
     if is_wrong {
-        return numbers::REFUSED_LENGTH;
+        return Err(Refusal::Length);
     }
     if is_misnamed {
-        return REFUSED_NAME;
+        return Err(Refusal::Name);
     }
-    0
+    Ok(())
 }

@@ -1,6 +1,5 @@
 -- `answers::answer_line` meets its contract: '20 is tested before all else', then the call that the bytes make.
 -- Assumes nothing.
-use mathlib.Core.Path.{refl}
 use borrow.Author.Rules.{rules}
 use Rattle.answers.proofs.Answers.{bad_answered, count_answered, count_within}
 use Rattle.answers.proofs.answer_line.Goals as goal
@@ -10,7 +9,7 @@ returns-in_default c =
     let p = c.put_refusal in
     let told = c.in_default.is in
     let both = bad_answered c.args.rec.now c.args.text.now c.args.page.now c.args.at c.bytes_in.result
-    c.bytes_in.new.bytes c.bytes_in.ensures.0 told p.new.page p.result _ p.ensures refl in
+    c.bytes_in.new.bytes c.bytes_in.ensures.0 told p.new.page p.result _ p.ensures c.from.ensures in
     record { answered = both.0; upper_bound = both.1 }
 
 pub slice_bounds-answer-end : goal.slice_bounds-answer-end

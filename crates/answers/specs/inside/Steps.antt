@@ -1,13 +1,12 @@
 -- What the parts of a line's answer promise each other: sizes, and answers whose bytes can be printed.
 -- Assumes nothing.
-use Rattle.std.specs.Prelude.{ℕ, ◌+◌, ◌*◌, ◌≤◌, ◌≡◌, List, length, take}
+use Rattle.std.specs.Prelude.{Result, Ok, Err, ℕ, ◌+◌, ◌*◌, ◌≤◌, ◌≡◌, List, length, take}
 use Rattle.entry.specs.Layout.{layout}
 use Rattle.entry.specs.Valid.{AllValid}
 use Rattle.entry.specs.Reading.{entries_of}
 use Rattle.contents.specs.Left.{Left}
 use Rattle.runs.specs.Runs.{record_in}
-use Rattle.vault.specs.declared.Answer.{Answer}
-use Rattle.vault.specs.declared.Answer.TheVariants.{Written, Refused}
+use Rattle.frame.specs.declared.Refusal.{Refusal}
 use Rattle.lines.specs.inside.Steps.{OnPage}
 use Rattle.answers.specs.Lines.{printed}
 
@@ -29,9 +28,9 @@ pub record LaidOut (s : List ℕ) : Type 0 where
   pub entries : layout (entries_of s) ≡ s
 
 -- An answer whose written bytes are entries.
-abbrev pub Printable : Answer → List ℕ → Type 0
-Printable (Written count) out = (count ≤ output_size) × (length out ≡ output_size) × LaidOut (take count out)
-Printable (Refused number) out = Unit {0}
+abbrev pub Printable : Result ℕ Refusal → List ℕ → Type 0
+Printable (Ok count) out = (count ≤ output_size) × (length out ≡ output_size) × LaidOut (take count out)
+Printable (Err why) out = Unit {0}
 
 -- What a call left, put on the page: the record's bytes afterwards, and what is printed.
 pub record AnswerPut (left : Left) (page : List ℕ) (at : ℕ) (rec' page' : List ℕ) (next : ℕ) : Type 0 where

@@ -1,6 +1,5 @@
 -- `obey::obey_line` meets its contract: 20 is tested before all else, 'Here 20 allows 94 digits', then the bytes are obeyed.
 -- Assumes nothing.
-use mathlib.Core.Path.{refl}
 use borrow.Author.Rules.{rules}
 use Rattle.answers.proofs.Answers.{count_within}
 use Rattle.obey.proofs.Answers.{bad_obeyed, count_obeyed}
@@ -11,7 +10,7 @@ returns-in_default c =
     let p = c.put_refusal in
     let a = c.args in
     let both = bad_obeyed a.stage.now a.text.now a.page.now a.at c.bytes_in.result c.bytes_in.new.bytes
-    c.bytes_in.ensures.0 c.in_default.is p.new.page p.result _ p.ensures refl in
+    c.bytes_in.ensures.0 c.in_default.is p.new.page p.result _ p.ensures c.from.ensures in
     record { answered = both.0; upper_bound = both.1 }
 
 pub slice_bounds-obey-end : goal.slice_bounds-obey-end

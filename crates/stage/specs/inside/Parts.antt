@@ -1,9 +1,9 @@
 -- What the parts of the stage promise each other, and their callers.
 -- Assumes nothing.
-use Rattle.std.specs.Prelude.{Option, Some, None, ℕ, ◌-◌, ◌+◌, ◌≤◌, ◌<◌, ◌≡◌, false, cond, List, ltb, length}
+use Rattle.std.specs.Prelude.{Option, Some, None, Result, ℕ, ◌-◌, ◌+◌, ◌≤◌, ◌<◌, ◌≡◌, false, cond, List, ltb, length}
 use Rattle.runs.specs.Runs.{ByteCall}
 use Rattle.runs.specs.Fixed.{leaves}
-use Rattle.vault.specs.declared.Answer.{Answer}
+use Rattle.frame.specs.declared.Refusal.{Refusal}
 use Rattle.vault.specs.Answers.{left_by}
 use Rattle.stage.specs.declared.Way.{Way}
 use Rattle.stage.specs.Stage.{place_count, record_of, with_record, Waiting}
@@ -38,7 +38,7 @@ pub record Named (b : List ℕ) : Type 0 where
   pub vault : vault_in b ≤ 3
 
 -- A call at vault v was made: its answer, with the record that it left, is what the vault's own call leaves.
-pub record Called (s : List ℕ) (v : ℕ) (a : ByteCall) (out : List ℕ) (r : Answer) (s' out' : List ℕ) : Type 0 where
+pub record Called (s : List ℕ) (v : ℕ) (a : ByteCall) (out : List ℕ) (r : Result ℕ Refusal) (s' out' : List ℕ) : Type 0 where
   pub rec : List ℕ
   pub left : left_by r rec out' ≡ leaves (record_of s v) a out
   pub stage : s' ≡ with_record s v rec
