@@ -8,4 +8,4 @@ use Rattle.rules.specs.Sets.{weigh}
 use Rattle.claims.proofs.count_at.Given as goal
 
 abbrev pub invariant-loop-r : goal.invariant-loop-r
-invariant-loop-r l = (l.r ≤ l.n) × (l.count ≤ l.r) × (l.count ≡ weigh (λ i. 1) (stands_at l.standings l.k) l.r)
+invariant-loop-r l = (l.count ≤ l.r) × (l.count ≡ weigh (λ i. 1) (stands_at l.standings l.k) l.r)

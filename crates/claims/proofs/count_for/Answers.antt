@@ -12,7 +12,7 @@ use Rattle.claims.proofs.count_for.Goals as goal
 pub loop-r-init : goal.loop-r-init
 loop-r-init c =
     let a = c.args in
-    (omega arith, omega arith, omega (arith, count_none a.plans.now a.at a.p))
+    (omega arith, omega (arith, count_none a.plans.now a.at a.p))
 
 pub loop-r-preserved : goal.loop-r-preserved
 loop-r-preserved c =
@@ -20,7 +20,6 @@ loop-r-preserved c =
     let at = c.loop-r in
     let share = c.plan_share-count in
     let most = share_most (eqb (get_or a.plans.now (a.at + at.r) 0) a.p) 1 share.result share.ensures in (
-      omega arith,
       omega (arith, most),
-      count_step a.plans.now a.at at.r a.p a.tally.every at.count share.result at.invariant.2 share.ensures,
+      count_step a.plans.now a.at at.r a.p a.tally.every at.count share.result at.invariant.1 share.ensures,
     )

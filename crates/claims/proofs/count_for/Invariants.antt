@@ -7,4 +7,4 @@ use Rattle.claims.specs.inside.Rows.{count_of}
 use Rattle.claims.proofs.count_for.Given as goal
 
 abbrev pub invariant-loop-r : goal.invariant-loop-r
-invariant-loop-r l = (l.r ≤ l.some) × (l.count ≤ l.initial.count + l.r) × (l.count ≡ l.initial.count + count_of l.plans l.at l.r l.p)
+invariant-loop-r l = (l.count ≤ l.initial.count + l.r) × (l.count ≡ l.initial.count + count_of l.plans l.at l.r l.p)

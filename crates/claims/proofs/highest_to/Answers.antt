@@ -9,11 +9,11 @@ use Rattle.claims.proofs.Spans.{highest_more, highest_none}
 use Rattle.claims.proofs.highest_to.Goals as goal
 
 pub loop-r-init : goal.loop-r-init
-loop-r-init c = (search rules, sym (highest_none _ _))
+loop-r-init c = sym (highest_none _ _)
 
 pub loop-r-preserved : goal.loop-r-preserved
 loop-r-preserved c =
     let at = c.loop-r in
     let a = c.args in
-    let step = c.max-best.ensures ∙ (λ i. max (at.invariant.1 i) (c.span_to.ensures i)) in
-    (omega arith, step ∙ sym (highest_more a.spans.now a.w at.r))
+    let step = c.max-best.ensures ∙ (λ i. max (at.invariant i) (c.span_to.ensures i)) in
+    step ∙ sym (highest_more a.spans.now a.w at.r)

@@ -7,4 +7,4 @@ use Rattle.claims.specs.inside.Spans.{highest_to}
 use Rattle.claims.proofs.highest_to.Given as goal
 
 abbrev pub invariant-loop-r : goal.invariant-loop-r
-invariant-loop-r l = (l.r ≤ l.n) × (l.best ≡ highest_to l.spans l.w l.r)
+invariant-loop-r l = l.best ≡ highest_to l.spans l.w l.r

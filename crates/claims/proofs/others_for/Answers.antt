@@ -9,7 +9,7 @@ use Rattle.claims.proofs.others_for.Goals as goal
 pub loop-r-init : goal.loop-r-init
 loop-r-init c =
     let a = c.args in
-    (omega arith, omega arith, others_none a.plans.now a.p)
+    (omega arith, others_none a.plans.now a.p)
 
 pub loop-r-preserved : goal.loop-r-preserved
 loop-r-preserved c =
@@ -17,4 +17,4 @@ loop-r-preserved c =
     let at = c.loop-r in
     let share = c.other_share-count in
     let most : share.result ≤ 1 = others_share a.plans.now at.r a.p share.result share.ensures in
-    (omega arith, omega arith, others_more a.plans.now at.r a.p at.count share.result at.invariant.2 share.ensures)
+    (omega arith, others_more a.plans.now at.r a.p at.count share.result at.invariant.1 share.ensures)

@@ -7,4 +7,4 @@ use Rattle.claims.specs.inside.Walk.{others_of}
 use Rattle.claims.proofs.others_for.Given as goal
 
 abbrev pub invariant-loop-r : goal.invariant-loop-r
-invariant-loop-r l = (l.r ≤ l.k) × (l.count ≤ l.r) × (l.count ≡ others_of l.plans l.r l.p)
+invariant-loop-r l = (l.count ≤ l.r) × (l.count ≡ others_of l.plans l.r l.p)

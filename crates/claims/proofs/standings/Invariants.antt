@@ -10,4 +10,4 @@ use Rattle.claims.specs.Table.{column}
 use Rattle.claims.proofs.standings.Given as goal
 
 abbrev pub invariant-loop-r : goal.invariant-loop-r
-invariant-loop-r l = (l.r ≤ l.n) × (length l.found ≡ column) × AreSpans l.found l.r (standing l.table l.u l.end)
+invariant-loop-r l = (length l.found ≡ column) × AreSpans l.found l.r (standing l.table l.u l.end)

@@ -33,4 +33,4 @@ returns c =
     let never = sym c.served.ensures ∙ c.if-served.false in
     let end = ap (λ (t : Coming). t.from + t.some) c.coming_at-coming.ensures in
     none_found a.plans.now a.c a.w (chosen a.except) (λ x. served_at a.plans.now a.c a.w x pre.0.below pre.1 pre.2 pre.3)
-    first.result first.ensures pre.0.claims pre.0.below pre.2 pre.3 c.loop-r.r (omega (arith, end)) never c.loop-r.invariant.2
+    first.result first.ensures pre.0.claims pre.0.below pre.2 pre.3 c.loop-r.r (omega (arith, end)) never c.loop-r.invariant.1

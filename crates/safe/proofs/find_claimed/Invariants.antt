@@ -11,4 +11,4 @@ use Rattle.safe.proofs.find_claimed.Given as goal
 
 abbrev pub invariant-loop-r : goal.invariant-loop-r
 invariant-loop-r l =
-    (l.r ≤ l.end) × (tried l.plans l.c l.w (chosen l.except) l.last ≡ false) × NonePass l.plans l.c l.w (chosen l.except) l.r × (l.end ≤ 2 * column)
+    (tried l.plans l.c l.w (chosen l.except) l.last ≡ false) × NonePass l.plans l.c l.w (chosen l.except) l.r × (l.end ≤ 2 * column)

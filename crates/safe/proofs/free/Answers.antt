@@ -12,7 +12,7 @@ use Rattle.rules.specs.Rules.{unlocked, reporting}
 use Rattle.safe.proofs.free.Goals as goal
 
 pub loop-r-init : goal.loop-r-init
-loop-r-init c = (omega arith, omega arith, sym (weigh_none _ _))
+loop-r-init c = (omega arith, sym (weigh_none _ _))
 
 pub loop-r-preserved : goal.loop-r-preserved
 loop-r-preserved c =
@@ -21,7 +21,7 @@ loop-r-preserved c =
     let add = c.unlocked_share-count in
     let s = reporting (reports_in_table a.table.now) unlocked in
     let most : add.result ≤ 1 = share_most (s at.r) 1 add.result add.ensures in
-    (omega arith, omega arith, weigh_step (λ i. 1) s at.r at.count add.result at.invariant.2 add.ensures)
+    (omega arith, weigh_step (λ i. 1) s at.r at.count add.result at.invariant.1 add.ensures)
 
 pub returns : goal.returns
 unfolding free
@@ -30,4 +30,4 @@ returns c =
     let at = c.loop-r in
     let s = reporting (reports_in_table a.table.now) unlocked in
     let e : at.r ≡ a.n = omega arith in
-    c.is_quorum.ensures ∙ quorum_count a.n a.f s at.count (at.invariant.2 ∙ ap (weigh (λ i. 1) s) e)
+    c.is_quorum.ensures ∙ quorum_count a.n a.f s at.count (at.invariant.1 ∙ ap (weigh (λ i. 1) s) e)

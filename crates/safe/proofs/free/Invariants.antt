@@ -9,4 +9,4 @@ use Rattle.rules.specs.Rules.{unlocked, reporting}
 use Rattle.safe.proofs.free.Given as goal
 
 abbrev pub invariant-loop-r : goal.invariant-loop-r
-invariant-loop-r l = (l.r ≤ l.n) × (l.count ≤ l.r) × (l.count ≡ weigh (λ i. 1) (reporting (reports_in_table l.table) unlocked) l.r)
+invariant-loop-r l = (l.count ≤ l.r) × (l.count ≡ weigh (λ i. 1) (reporting (reports_in_table l.table) unlocked) l.r)

@@ -10,4 +10,4 @@ use Rattle.rules.specs.inside.Views.{lock_span}
 use Rattle.safe.proofs.lock_spans.Given as goal
 
 abbrev pub invariant-loop-r : goal.invariant-loop-r
-invariant-loop-r l = (l.r ≤ l.n) × (length l.spans ≡ column) × AreSpans l.spans l.r (λ i. lock_span l.v (reports_in_table l.table i))
+invariant-loop-r l = (length l.spans ≡ column) × AreSpans l.spans l.r (λ i. lock_span l.v (reports_in_table l.table i))

@@ -19,7 +19,6 @@ loop-r-init c =
     let at = c.tried_at-at in
     let count = c.tried_count-count in
     let (low, few) = tried_fits a.c a.plans.now a.locked at.result count.result pre.0 at.ensures count.ensures in (
-      omega arith,
       smallest_start (chosen a.best) (passes_in a.plans.now a.c a.locked) (λ i. get_or a.plans.now (tried_at a.locked + i) 0),
       ap (λ (b : Bool). smaller b a.start (chosen a.best)) pre.1,
       low,
@@ -34,10 +33,9 @@ loop-r-preserved c =
     let row = c.tried_at-at in
     let x = get_or a.plans.now (row.result + at.r) 0 in
     let is = ap (λ (o : ℕ). get_or a.plans.now (o + at.r) 0) row.ensures in (
-      omega arith,
       smallest_step (chosen a.best) (passes_in a.plans.now a.c a.locked) (λ i. get_or a.plans.now (tried_at a.locked + i) 0) at.r x
-          (chosen at.found) (chosen next.result) is next.ensures at.invariant.1,
+          (chosen at.found) (chosen next.result) is next.ensures at.invariant.0,
       smaller_twice x (passes_in a.plans.now a.c a.locked x) (chosen at.found) (chosen next.result) next.ensures,
+      at.invariant.2,
       at.invariant.3,
-      at.invariant.4,
     )

@@ -12,6 +12,5 @@ use Rattle.safe.proofs.smallest_in.Given as goal
 
 abbrev pub invariant-loop-r : goal.invariant-loop-r
 invariant-loop-r l =
-    (l.r ≤ l.count)
-    × (chosen l.found ≡ smallest_from (chosen l.initial.found) (passes_in l.plans l.c l.locked) (λ i. get_or l.plans (tried_at l.locked + i) 0) l.r)
+    (chosen l.found ≡ smallest_from (chosen l.initial.found) (passes_in l.plans l.c l.locked) (λ i. get_or l.plans (tried_at l.locked + i) 0) l.r)
     × (smaller (passes_in l.plans l.c l.locked l.last) l.last (chosen l.found) ≡ chosen l.found) × (l.at ≤ lock_row) × (l.count ≤ column)

@@ -7,4 +7,4 @@ use Rattle.tally.specs.inside.Changes.{asking}
 use Rattle.tally.proofs.count_asking.Given as goal
 
 abbrev pub invariant-loop-x : goal.invariant-loop-x
-invariant-loop-x l = (l.x-index ≤ length l.views) × (l.count ≡ asking l.views l.x-index l.w) × (l.count ≤ l.x-index)
+invariant-loop-x l = (l.count ≡ asking l.views l.x-index l.w) × (l.count ≤ l.x-index)

@@ -5,4 +5,4 @@ use native.Mathlib.Omega.{arith}
 use Rattle.tally.proofs.gather.Goals as goal
 
 pub loop-i-init : goal.loop-i-init
-loop-i-init c = (omega arith, filled_none _)
+loop-i-init c = filled_none _

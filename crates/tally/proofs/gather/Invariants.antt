@@ -5,4 +5,4 @@ use Rattle.tally.specs.inside.Reports.{reports_by, Filled}
 use Rattle.tally.proofs.gather.Given as goal
 
 abbrev pub invariant-loop-i : goal.invariant-loop-i
-invariant-loop-i l = (l.i ≤ l.n) × Filled (reports_by l.block l.kind l.v) l.i l.table
+invariant-loop-i l = Filled (reports_by l.block l.kind l.v) l.i l.table

@@ -16,12 +16,12 @@ pub loop-w-preserved : goal.loop-w-preserved
 loop-w-preserved c =
     let a = c.args in
     let at = c.loop-w in
-    let next = search_more a.views.now a.need a.low at.w-index at.best at.invariant.1 in
-    (omega arith, subst (λ (b : ℕ). Searched a.views.now a.need a.low (at.w-index + 1) b) (sym c.raised-best.ensures) next)
+    let next = search_more a.views.now a.need a.low at.w-index at.best at.invariant in
+    subst (λ (b : ℕ). Searched a.views.now a.need a.low (at.w-index + 1) b) (sym c.raised-best.ensures) next
 
 pub returns : goal.returns
 returns c =
     let a = c.args in
     let at = c.loop-w in
     let all : at.w-index ≡ length a.views.now = omega arith in
-    search_done a.views.now a.need a.low at.w-index at.best at.invariant.1 c.requires.1 all
+    search_done a.views.now a.need a.low at.w-index at.best at.invariant c.requires.1 all

@@ -6,4 +6,4 @@ use Rattle.tally.proofs.Changes.{Searched}
 use Rattle.tally.proofs.highest_of.Given as goal
 
 abbrev pub invariant-loop-w : goal.invariant-loop-w
-invariant-loop-w l = (l.w-index ≤ length l.views) × Searched l.views l.need l.low l.w-index l.best
+invariant-loop-w l = Searched l.views l.need l.low l.w-index l.best

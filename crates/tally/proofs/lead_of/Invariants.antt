@@ -6,4 +6,4 @@ use Rattle.tally.specs.inside.Votes.{row_votes, leading}
 use Rattle.tally.proofs.lead_of.Given as goal
 
 abbrev pub invariant-loop-j : goal.invariant-loop-j
-invariant-loop-j l = (l.j ≤ l.n) × (l.b ≡ leading (row_votes l.block l.v l.from) l.j)
+invariant-loop-j l = l.b ≡ leading (row_votes l.block l.v l.from) l.j

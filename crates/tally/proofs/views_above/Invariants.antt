@@ -8,4 +8,4 @@ use Rattle.tally.proofs.Changes.{Passed}
 use Rattle.tally.proofs.views_above.Given as goal
 
 abbrev pub invariant-loop-j : goal.invariant-loop-j
-invariant-loop-j l = (l.j ≤ l.n) × Passed (change_in l.shared) l.j l.low l.views l.count × (length l.views ≡ 64)
+invariant-loop-j l = Passed (change_in l.shared) l.j l.low l.views l.count × (length l.views ≡ 64)

@@ -10,7 +10,7 @@ use native.Mathlib.Omega.{arith}
 use Rattle.tally.proofs.votes_for.Goals as goal
 
 pub loop-j-init : goal.loop-j-init
-loop-j-init c = (omega arith, omega arith, sym (weigh_none _ _))
+loop-j-init c = (omega arith, sym (weigh_none _ _))
 
 pub loop-j-preserved : goal.loop-j-preserved
 loop-j-preserved c =
@@ -19,6 +19,5 @@ loop-j-preserved c =
     let m = c.vote_share-count in
     let little : m.result ≤ 1 = share_most (holds (eqb a.p) (row_votes a.block.now a.v a.from at.j)) 1 m.result m.ensures in (
       omega arith,
-      omega arith,
-      weigh_step (λ i. 1) (λ i. holds (eqb a.p) (row_votes a.block.now a.v a.from i)) at.j at.count m.result at.invariant.2 m.ensures,
+      weigh_step (λ i. 1) (λ i. holds (eqb a.p) (row_votes a.block.now a.v a.from i)) at.j at.count m.result at.invariant.1 m.ensures,
     )

@@ -7,4 +7,4 @@ use Rattle.tally.proofs.Votes.{tally}
 use Rattle.tally.proofs.votes_for.Given as goal
 
 abbrev pub invariant-loop-j : goal.invariant-loop-j
-invariant-loop-j l = (l.j ≤ l.n) × (l.count ≤ l.j) × (l.count ≡ tally (row_votes l.block l.v l.from) l.p l.j)
+invariant-loop-j l = (l.count ≤ l.j) × (l.count ≡ tally (row_votes l.block l.v l.from) l.p l.j)
