@@ -149,7 +149,7 @@ fn act_h(rec: &[u8], set: Settings, view: u32) -> Option<Act>
     Some(Act::Decide(p))
 }
 
-// What the step of a number, 0 to 7 for A to H, is to do.
+// What the step of a number, 0 to 7 for A to H, is to do. It stays a number: a pass begins at the step of a number, and `act_at` in specs/ goes by it.
 pub fn act_at(rec: &[u8], set: Settings, view: u32, k: u8) -> Option<Act>
     requires { Ready rec.now × (set ≡ (decode_record rec.now).set) × (view ≡ (decode_record rec.now).view) × (k < 8) }
     ensures { as_act result ≡ act_at k (contents_in rec.now) }

@@ -174,7 +174,7 @@ fn other_plan(x: u64) -> u64
 }
 
 // Where a vault stands that claims every plan in both candidate views; the plan of its highest vote in both, and the others at u; that plan
-// in both; every plan at u; that plan at u.
+// in both; every plan at u; that plan at u. They stay numbers: a standing is a sum, and `standing` in specs/ gives these.
 const EVERY_NEXT: u32 = 6;
 
 const OWN_NEXT_OTHERS_HERE: u32 = 5;
@@ -416,6 +416,7 @@ fn highest_to<'a>(spans: &'a [u32], n: usize, w: u32) -> u32
 // The lowest view that fewer than f + 1 of the spans cover, downwards from v: some quorum has no lock above it.
 // Between two ends of spans the same spans cover a view, so the candidates are the ends. The count is carried down the candidates: a lock
 // above a view is above every lower view, so at each candidate only those come in whose span ends there, and each vault is counted once.
+// The nested loops with labels are a form that document 01 names.
 pub fn lowest_cleared<'a>(spans: &'a [u32], n: usize, f: usize, v: u32) -> u32
     requires { (n ≤ column) × (length spans.now ≡ column) × Within spans.now n v }
     ensures { result ≡ covered_views spans.now n f v }

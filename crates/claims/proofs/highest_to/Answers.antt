@@ -3,8 +3,6 @@
 -- Assumes nothing.
 use Prim.Native.Nat.{max}
 use mathlib.Core.Path.{sym, ◌∙◌}
-use native.Mathlib.Omega.{arith}
-use borrow.Author.Rules.{rules}
 use Rattle.claims.proofs.Spans.{highest_more, highest_none}
 use Rattle.claims.proofs.highest_to.Goals as goal
 

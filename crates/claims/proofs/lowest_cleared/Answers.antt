@@ -24,7 +24,7 @@ reporters-init c =
     let at = c.views in
     let none = weigh_none (λ i. 1) (stands_at a.spans.now at.t) in
     let most = weigh_most (covering a.spans.now at.t) a.n in
-    (omega arith, omega arith, omega (arith, none), omega (arith, most, at.invariant.are, c.requires.0))
+    (omega arith, omega (arith, none), omega (arith, most, at.invariant.are, c.requires.0))
 
 pub reporters-preserved : goal.reporters-preserved
 reporters-preserved c =
@@ -34,10 +34,9 @@ reporters-preserved c =
     let share = c.share_at-locks in
     let inv = c.reporters.invariant in
     let most = share_most (stands_at a.spans.now t c.reporters.r) 1 share.result share.ensures in (
-      omega arith,
       omega (arith, most),
-      locks_more a.spans.now a.n a.f t c.reporters.r locks c.reporters.locks share.result inv.2 share.ensures,
-      inv.3,
+      locks_more a.spans.now a.n a.f t c.reporters.r locks c.reporters.locks share.result inv.1 share.ensures,
+      inv.2,
     )
 
 pub views-smaller : goal.views-smaller
@@ -50,7 +49,7 @@ counted : (c : After-is_blocking)
     → c.reporters.locks ≡ c.views.locks + weigh (λ i. 1) (stands_at c.args.spans.now c.views.t) c.args.n
 counted c =
     let last = c.reporters in
-    last.invariant.2 ∙ ap (λ (k : ℕ). c.views.locks + weigh (λ i. 1) (stands_at c.args.spans.now c.views.t) k) (omega arith)
+    last.invariant.1 ∙ ap (λ (k : ℕ). c.views.locks + weigh (λ i. 1) (stands_at c.args.spans.now c.views.t) k) (omega arith)
 
 pub views-preserved : goal.views-preserved
 views-preserved c =

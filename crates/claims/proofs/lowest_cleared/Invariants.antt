@@ -12,7 +12,7 @@ use Rattle.claims.proofs.lowest_cleared.Given as goal
 
 abbrev pub invariant-reporters : goal.invariant-reporters
 invariant-reporters l =
-    (l.r ≤ l.n) × (l.locks ≤ l.initial.locks + l.r) × (l.locks ≡ l.initial.locks + weigh (λ i. 1) (stands_at l.spans l.t) l.r)
+    (l.locks ≤ l.initial.locks + l.r) × (l.locks ≡ l.initial.locks + weigh (λ i. 1) (stands_at l.spans l.t) l.r)
     × (l.initial.locks ≤ column)
 
 abbrev pub invariant-views : goal.invariant-views

@@ -49,7 +49,6 @@ reporters-init c =
     let d = (goal.at.reporters-init c).After-others_for in
     let (every, others, from, some) = fits d in (
       omega arith,
-      omega arith,
       omega (arith, count_none a.plans.now c.coming_at-coming.result.from a.p),
       from,
       some,
@@ -62,12 +61,11 @@ reporters-preserved c =
     let at = c.reporters in
     let from = c.coming_at-coming.result.from in
     let share = share_most (eqb (get_or a.plans.now (from + at.r) 0) a.p) 1 c.plan_share-claimers.result c.plan_share-claimers.ensures in (
-      omega arith,
       omega (arith, share),
-      count_step a.plans.now from at.r a.p _ at.claimers c.plan_share-claimers.result at.invariant.2 c.plan_share-claimers.ensures,
+      count_step a.plans.now from at.r a.p _ at.claimers c.plan_share-claimers.result at.invariant.1 c.plan_share-claimers.ensures,
+      at.invariant.2,
       at.invariant.3,
       at.invariant.4,
-      at.invariant.5,
     )
 
 abbrev view : After-is_blocking → ℕ
@@ -83,7 +81,7 @@ comes c =
     let was = c.views.claimers in
     let all : at.r ≡ t.some = omega arith in
     let sum : at.claimers ≡ was + coming_for a.plans.now t a.p
-    = omega (arith, at.invariant.2, c.others_for.ensures, ap (λ (k : ℕ). count_of a.plans.now t.from k a.p) all) in
+    = omega (arith, at.invariant.1, c.others_for.ensures, ap (λ (k : ℕ). count_of a.plans.now t.from k a.p) all) in
     sum ∙ ap (λ (t : Coming). was + coming_for a.plans.now t a.p) c.coming_at-coming.ensures
 
 pub views-preserved : goal.views-preserved
@@ -100,7 +98,6 @@ views-preserved c =
         last.invariant.2,
         c.if-end-low.false,
         c.reporters.invariant.0,
-        c.reporters.invariant.1,
         (fits (goal.at.views-preserved c).After-others_for).0,
         (fits (goal.at.views-preserved c).After-others_for).3,
         most (goal.at.views-preserved c).After-others_for,

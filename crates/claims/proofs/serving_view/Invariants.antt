@@ -11,7 +11,7 @@ use Rattle.claims.proofs.serving_view.Given as goal
 
 abbrev pub invariant-reporters : goal.invariant-reporters
 invariant-reporters l =
-    (l.r ≤ l.some) × (l.claimers ≤ l.initial.claimers + l.r) × (l.claimers ≡ l.initial.claimers + count_of l.plans l.from l.r l.p)
+    (l.claimers ≤ l.initial.claimers + l.r) × (l.claimers ≡ l.initial.claimers + count_of l.plans l.from l.r l.p)
     × (l.from ≤ column) × (l.some ≤ column) × (l.initial.claimers ≤ 900000000000)
 
 abbrev pub invariant-views : goal.invariant-views

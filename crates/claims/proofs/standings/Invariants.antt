@@ -1,7 +1,6 @@
 -- `claims::standings` meets its contract.
 -- The first r places tell where the first r vaults stand.
 -- Assumes nothing.
-use Prim.Native.Nat.{◌≤◌}
 use mathlib.Core.Path.{◌≡◌}
 use lib.ListN.{length}
 use Rattle.claims.specs.inside.Spans.{AreSpans}
