@@ -14,7 +14,7 @@ fn report_at(s: &[u8], at: usize) -> Report
     Report {
         mark: s[at],
         view: wire::number32(s, at + 1),
-        plan: wire::number(s, at + 5, 8),
+        plan: wire::number64(s, at + 5),
     }
 }
 
@@ -39,7 +39,7 @@ fn body_as(kind: u8, s: &[u8]) -> Body
     ensures { result ≡ body_as kind s.now }
 {
     match kind {
-        1..=5 => Body::Plan(wire::number(s, 6, 8)),
+        1..=5 => Body::Plan(wire::number64(s, 6)),
         6 => Body::Empty,
         _ => Body::Told(reports_at(s, 6)),
     }

@@ -12,7 +12,7 @@ pub fn wide(x: u8) -> u64
     x as u64
 }
 
-// The number that the width bytes at a place spell.
+// The number that the width bytes at a place spell: for widths of which the library has no method. Those of 4 and 8 follow.
 pub fn number(s: &[u8], at: usize, width: usize) -> u64
     requires { (width ≤ 8) × (at + width ≤ length s.now) }
     ensures { result ≡ number_at width s.now at }

@@ -10,8 +10,8 @@ use Rattle.frame.proofs.Laws.{bounds, length_plan, length_reports, body_of_plan,
 use Rattle.frame.proofs.reader.body_as.Goals as goal
 use Rattle.frame.proofs.reader.body_as.Goals.{in_default-via-then-kind-lt1, in_default-via-else-kind-lt1+else-kind-lt6}
 
-pub number-requires : goal.number-requires
-number-requires c =
+pub number64-requires : goal.number64-requires
+number64-requires c =
     let a = c.args in
     omega (arith, length_plan a.kind (omega arith) (omega arith))
 
@@ -30,7 +30,7 @@ returns-in-6 c =
 pub returns-in-1-to-5 : goal.returns-in-1-to-5
 returns-in-1-to-5 c =
     let a = c.args in
-    ap (λ (p : ℕ). Plan p) c.number.ensures ∙ sym (body_of_plan a.kind a.s.now (omega arith) (omega arith))
+    ap (λ (p : ℕ). Plan p) c.number64.ensures ∙ sym (body_of_plan a.kind a.s.now (omega arith) (omega arith))
 
 pub returns-in_default : goal.returns-in_default
 returns-in_default c =
