@@ -104,7 +104,10 @@ fn frame_in(rec: &mut [u8], sender: u8, bytes: &[u8], out: &mut [u8]) -> Result<
     ensures { left_by result rec.new out.new ≡ frame_left rec.old sender bytes.now out.old }
 {
     let set = record::settings_of(rec);
-    let f = frame::reader::read(bytes, sender, set.n, set.id)?;
+    let got = frame::reader::read(bytes, sender, set.n, set.id);
+    let Ok(f) = got else {
+        return Err(got.unwrap_err());
+    };
     frame_read(rec, set, f, out)
 }
 
