@@ -15,6 +15,9 @@ pub const COLUMN: usize = 64;
 
 pub const TABLE: usize = 7 * COLUMN;
 
+// The places of the two rows of plans.
+pub const ROWS: usize = 2 * COLUMN;
+
 // Where the columns begin of the view + 1 and of the plan: of the highest vote, of the previous vote, and of the lock.
 pub const HIGHEST: usize = COLUMN;
 
@@ -88,8 +91,8 @@ fn share_at(s: u32, k: u32) -> u32
 }
 
 // Whether vault r has reported.
-pub fn reported<'a>(table: &'a [u64], r: usize) -> bool
-    requires { (length table.now ≡ table_size) × (r < column) }
+pub fn reported<'a>(table: &'a [u64; TABLE], r: usize) -> bool
+    requires { r < column }
     ensures { result ≡ reporter table.now r }
 {
     table[r] != 0
@@ -129,8 +132,8 @@ pub fn reach(highest: Vote, previous: Vote, p: u64) -> u64
 }
 
 // How far the report of vault r reaches for plan p.
-fn reach_of<'a>(table: &'a [u64], r: usize, p: u64) -> u64
-    requires { (length table.now ≡ table_size) × (r < column) }
+fn reach_of<'a>(table: &'a [u64; TABLE], r: usize, p: u64) -> u64
+    requires { r < column }
     ensures { result ≡ reach_in table.now r p }
 {
     let highest = Vote {
@@ -145,8 +148,8 @@ fn reach_of<'a>(table: &'a [u64], r: usize, p: u64) -> u64
 }
 
 // In how many views below end, from 0 on, vault r claims plan p: in none where it has not reported.
-fn claim_end<'a>(table: &'a [u64], r: usize, p: u64, end: u32) -> u32
-    requires { (length table.now ≡ table_size) × (r < column) }
+fn claim_end<'a>(table: &'a [u64; TABLE], r: usize, p: u64, end: u32) -> u32
+    requires { r < column }
     ensures { result ≡ claim_end end p (reports_in_table table.now r) }
 {
     if reported(table, r) {
@@ -186,8 +189,8 @@ const EVERY_HERE: u32 = 3;
 const OWN_HERE: u32 = 2;
 
 // Where vault r stands: twice the candidate views in which it claims the plan of its highest vote, and those in which it claims the others.
-fn standing_of<'a>(table: &'a [u64], r: usize, u: u32, end: u32) -> u32
-    requires { (length table.now ≡ table_size) × (r < column) × (end ≤ u + 2) }
+fn standing_of<'a>(table: &'a [u64; TABLE], r: usize, u: u32, end: u32) -> u32
+    requires { (r < column) × (end ≤ u + 2) }
     ensures { result ≡ standing table.now u end r }
 {
     let x = table[VOTED + r];
@@ -197,8 +200,8 @@ fn standing_of<'a>(table: &'a [u64], r: usize, u: u32, end: u32) -> u32
 }
 
 // Where the first n vaults stand.
-fn standings<'a>(table: &'a [u64], n: usize, u: u32, end: u32) -> [u32; COLUMN]
-    requires { (length table.now ≡ table_size) × (n ≤ column) × (end ≤ u + 2) }
+fn standings<'a>(table: &'a [u64; TABLE], n: usize, u: u32, end: u32) -> [u32; COLUMN]
+    requires { (n ≤ column) × (end ≤ u + 2) }
     ensures { AreSpans result n (standing table.now u end) }
 {
     let mut found = [0u32; COLUMN];
@@ -211,8 +214,8 @@ fn standings<'a>(table: &'a [u64], n: usize, u: u32, end: u32) -> [u32; COLUMN]
 // ---- the row of claims
 
 // How many stand at k.
-fn count_at<'a>(standings: &'a [u32], n: usize, k: u32) -> usize
-    requires { (n ≤ column) × (length standings.now ≡ column) }
+fn count_at<'a>(standings: &'a [u32; COLUMN], n: usize, k: u32) -> usize
+    requires { n ≤ column }
     ensures { result ≡ weigh (λ i. 1) (stands_at standings.now k) n }
 {
     let mut count: u32 = 0;
@@ -224,15 +227,15 @@ fn count_at<'a>(standings: &'a [u32], n: usize, k: u32) -> usize
 
 // The plans of those that stand at k are written, from a place on. A plan that is not one of these is written over. Often there are none.
 fn list_at<'a>(
-    table: &'a [u64],
-    standings: &'a [u32],
+    table: &'a [u64; TABLE],
+    standings: &'a [u32; COLUMN],
     n: usize,
     k: u32,
-    plans: &mut [u64],
+    plans: &mut [u64; ROWS],
     from: usize,
 ) -> usize
-    requires { (length table.now ≡ table_size) × (length standings.now ≡ column) × (n ≤ column) × (length plans.old ≡ rows_size) × (from ≤ column) }
-    ensures { (length plans.new ≡ rows_size) × SameBelow plans.old plans.new from × Listed table.now standings.now n k plans.new from result }
+    requires { (n ≤ column) × (from ≤ column) }
+    ensures { SameBelow plans.old plans.new from × Listed table.now standings.now n k plans.new from result }
 {
     let total = count_at(standings, n, k);
     let mut count: usize = 0;
@@ -256,9 +259,14 @@ struct Row {
 }
 
 // The row of claims, in the order in which reporters come in.
-fn write_row<'a>(table: &'a [u64], standings: &'a [u32], n: usize, plans: &mut [u64]) -> Row
-    requires { (length table.now ≡ table_size) × (length standings.now ≡ column) × (n ≤ column) × (length plans.old ≡ rows_size) }
-    ensures { (length plans.new ≡ rows_size) × InOrder table.now standings.now n plans.new result.both result.only result.here }
+fn write_row<'a>(
+    table: &'a [u64; TABLE],
+    standings: &'a [u32; COLUMN],
+    n: usize,
+    plans: &mut [u64; ROWS],
+) -> Row
+    requires { n ≤ column }
+    ensures { InOrder table.now standings.now n plans.new result.both result.only result.here }
 {
     let both = list_at(table, standings, n, OWN_NEXT_OTHERS_HERE, plans, 0);
     let only = list_at(table, standings, n, OWN_NEXT, plans, both);
@@ -267,9 +275,15 @@ fn write_row<'a>(table: &'a [u64], standings: &'a [u32], n: usize, plans: &mut [
 }
 
 // Who claims which plan at the candidate views below end: who comes in at each, by the row that is written.
-pub fn claims_from<'a>(table: &'a [u64], n: usize, u: u32, end: u32, plans: &mut [u64]) -> Claims
-    requires { (length table.now ≡ table_size) × (n ≤ column) × (length plans.old ≡ rows_size) × (end ≤ u + 2) }
-    ensures { (length plans.new ≡ rows_size) × Told (reports_in_table table.now) n u end plans.new result.next result.here }
+pub fn claims_from<'a>(
+    table: &'a [u64; TABLE],
+    n: usize,
+    u: u32,
+    end: u32,
+    plans: &mut [u64; ROWS],
+) -> Claims
+    requires { (n ≤ column) × (end ≤ u + 2) }
+    ensures { Told (reports_in_table table.now) n u end plans.new result.next result.here }
 {
     let found = standings(table, n, u, end);
     let row = write_row(table, &found, n, plans);
@@ -291,8 +305,8 @@ pub fn claims_from<'a>(table: &'a [u64], n: usize, u: u32, end: u32, plans: &mut
 }
 
 // One report more: its plan is written behind the row, and counts where the report is for that plan only. Else it is written over.
-pub fn add_share(plans: &mut [u64], at: usize, tally: Tally, share: Tally, plan: u64) -> Tally
-    requires { (length plans.old ≡ rows_size) × (at + tally.some < rows_size) × (tally.every + share.every ≤ column) × (tally.some + share.some ≤ column) }
+pub fn add_share(plans: &mut [u64; ROWS], at: usize, tally: Tally, share: Tally, plan: u64) -> Tally
+    requires { (at + tally.some < rows_size) × (tally.every + share.every ≤ column) × (tally.some + share.some ≤ column) }
     ensures { (plans.new ≡ set plans.old (at + tally.some) plan) × (result ≡ added tally share) }
 {
     plans[at + tally.some] = plan;
@@ -340,8 +354,8 @@ fn other_share(x: u64, p: u64) -> usize
 }
 
 // How many of the first k plans are not p.
-fn others_for<'a>(plans: &'a [u64], k: usize, p: u64) -> usize
-    requires { (length plans.now ≡ rows_size) × (k ≤ column) }
+fn others_for<'a>(plans: &'a [u64; ROWS], k: usize, p: u64) -> usize
+    requires { k ≤ column }
     ensures { result ≡ others_of plans.now k p }
 {
     let mut count: usize = 0;
@@ -352,8 +366,8 @@ fn others_for<'a>(plans: &'a [u64], k: usize, p: u64) -> usize
 }
 
 // How many are for plan p, by the row that begins at a place.
-pub fn count_for<'a>(plans: &'a [u64], at: usize, tally: Tally, p: u64) -> usize
-    requires { (length plans.now ≡ rows_size) × (at + column ≤ rows_size) × FitsRow tally }
+pub fn count_for<'a>(plans: &'a [u64; ROWS], at: usize, tally: Tally, p: u64) -> usize
+    requires { (at + column ≤ rows_size) × FitsRow tally }
     ensures { result ≡ for_plan plans.now at tally p }
 {
     let some = tally.some;
@@ -366,8 +380,8 @@ pub fn count_for<'a>(plans: &'a [u64], at: usize, tally: Tally, p: u64) -> usize
 
 // The walk down the candidate views, not below low: the first view at which a blocking set of reporters claims plan p, v where there is
 // none. The count is new for every plan, and carried from view to view. The nested loops with labels are a form that document 01 names.
-pub fn serving_view<'a>(plans: &'a [u64], c: Search, low: u32, p: u64) -> u32
-    requires { (length plans.now ≡ rows_size) × (c.u < c.v) × FitsComing c.next × FitsComing c.here }
+pub fn serving_view<'a>(plans: &'a [u64; ROWS], c: Search, low: u32, p: u64) -> u32
+    requires { (c.u < c.v) × FitsComing c.next × FitsComing c.here }
     ensures { result ≡ serving_view (claimed_in plans.now c p) low c.v (end_of c) }
 {
     let mut end = end_of(c.u, c.v);
@@ -402,8 +416,8 @@ fn span_to(t: u32, w: u32) -> u32
 }
 
 // The highest span that is not above w.
-fn highest_to<'a>(spans: &'a [u32], n: usize, w: u32) -> u32
-    requires { (n ≤ column) × (length spans.now ≡ column) }
+fn highest_to<'a>(spans: &'a [u32; COLUMN], n: usize, w: u32) -> u32
+    requires { n ≤ column }
     ensures { result ≡ highest_to spans.now w n }
 {
     let mut best: u32 = 0;
@@ -417,8 +431,8 @@ fn highest_to<'a>(spans: &'a [u32], n: usize, w: u32) -> u32
 // Between two ends of spans the same spans cover a view, so the candidates are the ends. The count is carried down the candidates: a lock
 // above a view is above every lower view, so at each candidate only those come in whose span ends there, and each vault is counted once.
 // The nested loops with labels are a form that document 01 names.
-pub fn lowest_cleared<'a>(spans: &'a [u32], n: usize, f: usize, v: u32) -> u32
-    requires { (n ≤ column) × (length spans.now ≡ column) × Within spans.now n v }
+pub fn lowest_cleared<'a>(spans: &'a [u32; COLUMN], n: usize, f: usize, v: u32) -> u32
+    requires { (n ≤ column) × Within spans.now n v }
     ensures { result ≡ covered_views spans.now n f v }
 {
     let mut t = highest_to(spans, n, v);

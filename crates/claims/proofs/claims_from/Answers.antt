@@ -6,8 +6,6 @@ use Rattle.claims.proofs.claims_from.Goals as goal
 
 pub returns : goal.returns
 returns c =
-    let a = c.args in (
-      c.write_row-row.ensures.0,
-      standing_told a.table.now a.n a.u a.end c.requires.3 _ c.standings-found.ensures _ _ _ _ c.write_row-row.ensures.1 _ _
-          c.count_at.ensures c.count_at-2.ensures,
-    )
+    let a = c.args in
+    standing_told a.table.now a.n a.u a.end c.requires.1 _ c.standings-found.ensures _ _ _ _ c.write_row-row.ensures _ _
+    c.count_at.ensures c.count_at-2.ensures

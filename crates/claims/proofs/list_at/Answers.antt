@@ -8,7 +8,7 @@ use Rattle.rules.proofs.Quorums.{share_most}
 use Rattle.claims.proofs.list_at.Goals as goal
 
 pub loop-r-init : goal.loop-r-init
-loop-r-init c = listing_none _ _ _ _ _ _ c.requires.3
+loop-r-init c = listing_none _ _ _ _ _ _ (omega arith)
 
 pub overflow_add-plans-in-loop-r : goal.overflow_add-plans-in-loop-r
 overflow_add-plans-in-loop-r c = omega (arith, listing_most c.loop-r.invariant, c.loop-r.invariant.size)
@@ -30,7 +30,7 @@ overflow_add-count c =
     )
 
 pub loop-r-preserved : goal.loop-r-preserved
-loop-r-preserved c = listing_more c.loop-r.invariant (omega arith) c.requires.2 c.requires.4 _ c.share_at.ensures
+loop-r-preserved c = listing_more c.loop-r.invariant (omega arith) c.requires.0 c.requires.1 _ c.share_at.ensures
 
 pub returns-then-count-total : goal.returns-then-count-total
-returns-then-count-total c = listing_all c.loop-r.invariant _ c.count_at-total.ensures (omega arith)
+returns-then-count-total c = let all = listing_all c.loop-r.invariant _ c.count_at-total.ensures (omega arith) in (all.1, all.2)

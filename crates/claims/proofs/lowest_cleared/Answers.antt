@@ -16,7 +16,7 @@ use Rattle.claims.proofs.lowest_cleared.Goals.{After-is_blocking}
 pub views-init : goal.views-init
 views-init c =
     let a = c.args in
-    locks_first a.spans.now a.n a.f a.v c.highest_to-t.result c.requires.2 c.highest_to-t.ensures
+    locks_first a.spans.now a.n a.f a.v c.highest_to-t.result c.requires.1 c.highest_to-t.ensures
 
 pub reporters-init : goal.reporters-init
 reporters-init c =

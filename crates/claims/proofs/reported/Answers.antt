@@ -8,4 +8,4 @@ use Rattle.claims.proofs.reported.Goals as goal
 
 pub returns : goal.returns
 unfolding reporter
-returns c = simp (lt-ltb _ _ c.requires.1) refl
+returns c = simp (lt-ltb _ _ c.requires) refl

@@ -29,7 +29,7 @@ views-init c =
 fits : (c : After-others_for) → FitsComing c.coming_at-coming.result
 fits c =
     let w = c.views.end - 1 in
-    coming_fits c.args.c w c.coming_at-coming.result c.coming_at-coming.ensures c.requires.2 c.requires.3
+    coming_fits c.args.c w c.coming_at-coming.result c.coming_at-coming.ensures c.requires.1 c.requires.2
 
 -- Of the others no more come in than there are.
 most : (c : After-others_for) → c.others_for.result ≤ column
@@ -88,7 +88,7 @@ pub views-preserved : goal.views-preserved
 views-preserved c =
     let a = c.args in
     let last = c.views in
-    let (below, two, most') = end_bounds a.c.u a.c.v c.requires.1 in
+    let (below, two, most') = end_bounds a.c.u a.c.v c.requires.0 in
     let few = sym c.is_blocking.ensures ∙ c.if-is_blocking.false in (
       last.invariant.0,
       omega (arith, last.invariant.1),

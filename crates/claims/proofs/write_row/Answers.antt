@@ -9,21 +9,21 @@ pub list_at-only-requires : goal.list_at-only-requires
 list_at-only-requires c =
     let five = c.list_at-both.ensures in
     let pre = c.requires in
-    (pre.0, pre.1, pre.2, five.0, omega (arith, pre.2, listed_most _ _ _ _ _ _ _ five.2))
+    (pre, omega (arith, pre, listed_most _ _ _ _ _ _ _ five.1))
 
 pub overflow_add-both : goal.overflow_add-both
 overflow_add-both c =
     let pre = c.requires in
-    omega (arith, pre.2, two_most c.list_at-both.ensures.2 c.list_at-only.ensures.2)
+    omega (arith, pre, two_most c.list_at-both.ensures.1 c.list_at-only.ensures.1)
 
 pub list_at-here-requires : goal.list_at-here-requires
 list_at-here-requires c =
     let four = c.list_at-only.ensures in
     let pre = c.requires in
-    (pre.0, pre.1, pre.2, four.0, omega (arith, pre.2, two_most c.list_at-both.ensures.2 four.2))
+    (pre, omega (arith, pre, two_most c.list_at-both.ensures.1 four.1))
 
 pub returns : goal.returns
 returns c =
     let two = c.list_at-here.ensures in
     let four = c.list_at-only.ensures in
-    (two.0, in_order c.list_at-both.ensures.2 four.1 four.2 two.1 two.2)
+    in_order c.list_at-both.ensures.1 four.0 four.1 two.0 two.1
