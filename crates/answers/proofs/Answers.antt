@@ -15,7 +15,7 @@ use Rattle.contents.specs.Left.{Left, gave}
 use Rattle.runs.specs.Runs.{record_in}
 use Rattle.runs.specs.Left.{Kept, LeavesWell}
 use Rattle.frame.specs.declared.Refusal.{Refusal}
-use Rattle.frame.specs.Refusal.{number_of}
+use Rattle.frame.specs.Numbers.{number_of}
 use Rattle.vault.specs.Answers.{left_by}
 use Rattle.std.specs.Prelude.{Option as Counted, Some, None, Result, Ok, Err}
 use Rattle.lines.specs.Digits.{refusal_line, bytes_of}
