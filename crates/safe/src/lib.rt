@@ -19,32 +19,30 @@ ghost use Rattle.safe.specs.inside.Searches.{lock_row, allowed_in, served_from, 
 use claims::{Search, Tally};
 use settings::Settings;
 
-// Where the row of locks begins, and the places of both rows.
+// Where the row of locks begins.
 const LOCKS: usize = claims::COLUMN;
-
-const ROOM: usize = 2 * claims::COLUMN;
 
 // ---- locks
 
 // The view + 1 of vault r's lock, 0 where it has none.
-fn lock_of<'a>(table: &'a [u64], r: usize) -> u64
-    requires { (length table.now ≡ table_size) × (r < column) }
+fn lock_of<'a>(table: &'a [u64; claims::TABLE], r: usize) -> u64
+    requires { r < column }
     ensures { result ≡ get_or table.now (column * 5 + r) 0 }
 {
     table[claims::LOCK + r]
 }
 
 // What vault r adds to the reporters that have no lock.
-fn unlocked_share<'a>(table: &'a [u64], r: usize) -> usize
-    requires { (length table.now ≡ table_size) × (r < column) }
+fn unlocked_share<'a>(table: &'a [u64; claims::TABLE], r: usize) -> usize
+    requires { r < column }
     ensures { result ≡ cond (reporting (reports_in_table table.now) unlocked r) 1 0 }
 {
     usize::from(claims::reported(table, r) && lock_of(table, r) == 0)
 }
 
 // Whether 'some quorum q of reporters has no lock at all'.
-fn free<'a>(table: &'a [u64], n: usize, f: usize) -> bool
-    requires { (length table.now ≡ table_size) × (n ≤ column) × (f < n) }
+fn free<'a>(table: &'a [u64; claims::TABLE], n: usize, f: usize) -> bool
+    requires { (n ≤ column) × (f < n) }
     ensures { result ≡ free (equals n f) (reports_in_table table.now) }
 {
     let mut count: usize = 0;
@@ -55,8 +53,8 @@ fn free<'a>(table: &'a [u64], n: usize, f: usize) -> bool
 }
 
 // In how many views below v vault r has a lock above the view: in all where it has not reported.
-fn lock_span<'a>(table: &'a [u64], r: usize, v: u32) -> u32
-    requires { (length table.now ≡ table_size) × (r < column) }
+fn lock_span<'a>(table: &'a [u64; claims::TABLE], r: usize, v: u32) -> u32
+    requires { r < column }
     ensures { result ≡ lock_span v (reports_in_table table.now r) }
 {
     if claims::reported(table, r) {
@@ -70,8 +68,8 @@ fn lock_span<'a>(table: &'a [u64], r: usize, v: u32) -> u32
 }
 
 // These spans of the first n vaults.
-fn lock_spans<'a>(table: &'a [u64], n: usize, v: u32) -> [u32; claims::COLUMN]
-    requires { (length table.now ≡ table_size) × (n ≤ column) }
+fn lock_spans<'a>(table: &'a [u64; claims::TABLE], n: usize, v: u32) -> [u32; claims::COLUMN]
+    requires { n ≤ column }
     ensures { AreSpans result n (λ i. lock_span v (reports_in_table table.now i)) }
 {
     let mut spans = [0u32; claims::COLUMN];
@@ -83,8 +81,8 @@ fn lock_spans<'a>(table: &'a [u64], n: usize, v: u32) -> [u32; claims::COLUMN]
 
 // The lowest view that can serve a plan, v where there is none: some quorum of reporters has no lock above it.
 // Below it no plan is allowed, above it every plan is.
-fn lowest_view<'a>(table: &'a [u64], n: usize, f: usize, v: u32) -> u32
-    requires { (length table.now ≡ table_size) × (n ≤ column) }
+fn lowest_view<'a>(table: &'a [u64; claims::TABLE], n: usize, f: usize, v: u32) -> u32
+    requires { n ≤ column }
     ensures { result ≡ lowest_view (equals n f) (reports_in_table table.now) v }
 {
     let spans = lock_spans(table, n, v);
@@ -92,8 +90,8 @@ fn lowest_view<'a>(table: &'a [u64], n: usize, f: usize, v: u32) -> u32
 }
 
 // Which plans the lock of vault r allows at view u: every plan where it has none or a lower one, its own where it is at view u.
-fn allow_share<'a>(table: &'a [u64], r: usize, u: u64) -> Tally
-    requires { (length table.now ≡ table_size) × (r < column) }
+fn allow_share<'a>(table: &'a [u64; claims::TABLE], r: usize, u: u64) -> Tally
+    requires { r < column }
     ensures { Stance (λ p. reporting (reports_in_table table.now) (allows p u) r) (get_or table.now (column * 6 + r) 0) result.every result.some }
 {
     if claims::reported(table, r) {
@@ -110,9 +108,14 @@ fn allow_share<'a>(table: &'a [u64], r: usize, u: u64) -> Tally
 }
 
 // Whose lock allows which plan at view u: the row of locks is written.
-fn locks_at<'a>(table: &'a [u64], n: usize, u: u32, plans: &mut [u64]) -> Tally
-    requires { (length table.now ≡ table_size) × (n ≤ column) × (length plans.old ≡ rows_size) }
-    ensures { (length plans.new ≡ rows_size) × SameBelow plans.old plans.new lock_row × RowTells (reports_in_table table.now) n (λ p. allows p u) plans.new lock_row result }
+fn locks_at<'a>(
+    table: &'a [u64; claims::TABLE],
+    n: usize,
+    u: u32,
+    plans: &mut [u64; claims::ROWS],
+) -> Tally
+    requires { n ≤ column }
+    ensures { SameBelow plans.old plans.new lock_row × RowTells (reports_in_table table.now) n (λ p. allows p u) plans.new lock_row result }
 {
     let view = u as u64;
     let mut tally = Tally { every: 0, some: 0 };
@@ -126,8 +129,15 @@ fn locks_at<'a>(table: &'a [u64], n: usize, u: u32, plans: &mut [u64]) -> Tally
 // ---- what is prepared
 
 // All rows, for the search that starts at view u. The rows are lent: by value they would be copied at each return.
-fn prepare<'a>(table: &'a [u64], n: usize, f: usize, u: u32, v: u32, plans: &mut [u64]) -> Search
-    requires { (length table.now ≡ table_size) × (n ≤ column) × (f < n) × (u < v) × (length plans.old ≡ rows_size) }
+fn prepare<'a>(
+    table: &'a [u64; claims::TABLE],
+    n: usize,
+    f: usize,
+    u: u32,
+    v: u32,
+    plans: &mut [u64; claims::ROWS],
+) -> Search
+    requires { (n ≤ column) × (f < n) × (u < v) }
     ensures { Prepared (reports_in_table table.now) result plans.new × (result.n ≡ n) × (result.f ≡ f) × (result.u ≡ u) × (result.v ≡ v) }
 {
     let end = claims::end_of(u, v);
@@ -149,7 +159,7 @@ fn prepare<'a>(table: &'a [u64], n: usize, f: usize, u: u32, v: u32, plans: &mut
 // ---- one plan
 
 // Whether some quorum of reporters has no lock that stands against p at view u.
-fn allowed<'a>(plans: &'a [u64], c: Search, p: u64) -> bool
+fn allowed<'a>(plans: &'a [u64; claims::ROWS], c: Search, p: u64) -> bool
     requires { Laid c plans.now }
     ensures { result ≡ allowed_in plans.now c p }
 {
@@ -157,7 +167,7 @@ fn allowed<'a>(plans: &'a [u64], c: Search, p: u64) -> bool
 }
 
 // Whether a candidate view, not below low, serves p.
-fn served<'a>(plans: &'a [u64], c: Search, low: u32, p: u64) -> bool
+fn served<'a>(plans: &'a [u64; claims::ROWS], c: Search, low: u32, p: u64) -> bool
     requires { Laid c plans.now }
     ensures { result ≡ served_from plans.now c low p }
 {
@@ -165,7 +175,7 @@ fn served<'a>(plans: &'a [u64], c: Search, low: u32, p: u64) -> bool
 }
 
 // Whether p is safe by Rule 1: view u can serve it where the locks there allow it, and the next view can.
-fn safe_one<'a>(plans: &'a [u64], c: Search, p: u64) -> bool
+fn safe_one<'a>(plans: &'a [u64; claims::ROWS], c: Search, p: u64) -> bool
     requires { Laid c plans.now }
     ensures { result ≡ safe_in plans.now c p }
 {
@@ -193,7 +203,7 @@ fn first_plan(except: Option<u64>) -> u64
 
 // Whether plan x is not left out and is claimed at view w. The plan tried last, which did not pass, is not tried again.
 fn other_claimed<'a>(
-    plans: &'a [u64],
+    plans: &'a [u64; claims::ROWS],
     c: Search,
     w: u32,
     except: Option<u64>,
@@ -212,7 +222,12 @@ fn other_claimed<'a>(
 }
 
 // A plan that is claimed at the candidate view w, if any, and is not left out: the first plan, or one of those that come in up to there.
-fn find_claimed<'a>(plans: &'a [u64], c: Search, w: u32, except: Option<u64>) -> Option<u64>
+fn find_claimed<'a>(
+    plans: &'a [u64; claims::ROWS],
+    c: Search,
+    w: u32,
+    except: Option<u64>,
+) -> Option<u64>
     requires { Laid c plans.now × Falling plans.now c × (c.u ≤ w) × (w < end_of c) }
     ensures { Found (λ x. apart x (chosen except) && claimed_in plans.now c x w) (chosen result) }
 {
@@ -234,7 +249,7 @@ fn find_claimed<'a>(plans: &'a [u64], c: Search, w: u32, except: Option<u64>) ->
 }
 
 // The two-set clause at view u: a plan that is claimed at the next view, and another plan that is claimed at u.
-fn two_sets<'a>(plans: &'a [u64], c: Search) -> bool
+fn two_sets<'a>(plans: &'a [u64; claims::ROWS], c: Search) -> bool
     requires { Laid c plans.now × Falling plans.now c × (c.u + 1 < c.v) }
     ensures { Pair (λ x. claimed_in plans.now c x (c.u + 1)) (λ x. claimed_in plans.now c x c.u) result }
 {
@@ -246,13 +261,13 @@ fn two_sets<'a>(plans: &'a [u64], c: Search) -> bool
 }
 
 // The same at the next view, where that is below v.
-fn two_sets_after<'a>(table: &'a [u64], c: Search) -> bool
-    requires { (length table.now ≡ table_size) × (c.n ≤ column) × (c.f < c.n) × (c.u + 1 < c.v) }
+fn two_sets_after<'a>(table: &'a [u64; claims::TABLE], c: Search) -> bool
+    requires { (c.n ≤ column) × (c.f < c.n) × (c.u + 1 < c.v) }
     ensures { result ≡ two_sets (equals c.n c.f) (reports_in_table table.now) c.v (c.u + 1) }
 {
     let low = c.u + 1;
     if low + 1 < c.v {
-        let mut plans = [0u64; ROOM];
+        let mut plans = [0u64; claims::ROWS];
         let later = prepare(table, c.n, c.f, low, c.v, &mut plans);
         return two_sets(&plans, later);
     }
@@ -262,8 +277,13 @@ fn two_sets_after<'a>(table: &'a [u64], c: Search) -> bool
 // ---- Rules 1 and 3
 
 // Whether p is safe by Rule 3, which also accepts the two-set clause at the view that Rule 1 goes by.
-fn safe_three<'a>(table: &'a [u64], plans: &'a [u64], c: Search, p: u64) -> bool
-    requires { (length table.now ≡ table_size) × (c.n ≤ column) × Prepared (reports_in_table table.now) c plans.now × Lowest (equals c.n c.f) (reports_in_table table.now) c.v c.u }
+fn safe_three<'a>(
+    table: &'a [u64; claims::TABLE],
+    plans: &'a [u64; claims::ROWS],
+    c: Search,
+    p: u64,
+) -> bool
+    requires { (c.n ≤ column) × Prepared (reports_in_table table.now) c plans.now × Lowest (equals c.n c.f) (reports_in_table table.now) c.v c.u }
     ensures { result ≡ safe rule3 (equals c.n c.f) (reports_in_table table.now) c.v p }
 {
     if safe_one(plans, c, p) {
@@ -279,8 +299,8 @@ fn safe_three<'a>(table: &'a [u64], plans: &'a [u64], c: Search, p: u64) -> bool
 }
 
 // Whether every plan is safe: in view 0, and where some quorum has no lock at all.
-fn every_safe<'a>(table: &'a [u64], n: usize, f: usize, v: u32) -> bool
-    requires { (length table.now ≡ table_size) × (n ≤ column) × (f < n) }
+fn every_safe<'a>(table: &'a [u64; claims::TABLE], n: usize, f: usize, v: u32) -> bool
+    requires { (n ≤ column) × (f < n) }
     ensures { result ≡ every_safe (equals n f) (reports_in_table table.now) v }
 {
     if v == 0 {
@@ -290,16 +310,29 @@ fn every_safe<'a>(table: &'a [u64], n: usize, f: usize, v: u32) -> bool
 }
 
 // All rows, for the search of a call: it starts at the lowest view u that can serve a plan.
-fn begin<'a>(table: &'a [u64], n: usize, f: usize, u: u32, v: u32, plans: &mut [u64]) -> Search
-    requires { (length table.now ≡ table_size) × (n ≤ column) × (f < n) × Lowest (equals n f) (reports_in_table table.now) v u × (length plans.old ≡ rows_size) }
+fn begin<'a>(
+    table: &'a [u64; claims::TABLE],
+    n: usize,
+    f: usize,
+    u: u32,
+    v: u32,
+    plans: &mut [u64; claims::ROWS],
+) -> Search
+    requires { (n ≤ column) × (f < n) × Lowest (equals n f) (reports_in_table table.now) v u }
     ensures { Begun (reports_in_table table.now) n f v result plans.new }
 {
     prepare(table, n, f, u, v, plans)
 }
 
 // Whether p is safe in view v: by Rule 3 where three is set, by Rule 1 where not.
-pub fn safe_by<'a>(table: &'a [u64], set: Settings, v: u32, p: u64, three: bool) -> bool
-    requires { (length table.now ≡ table_size) × (set.n ≤ 64) × (set.f < set.n) }
+pub fn safe_by<'a>(
+    table: &'a [u64; claims::TABLE],
+    set: Settings,
+    v: u32,
+    p: u64,
+    three: bool,
+) -> bool
+    requires { (set.n ≤ 64) × (set.f < set.n) }
     ensures { result ≡ safe (rule_of three) (vaults_of set) (reports_in_table table.now) v p }
 {
     let n = set.n as usize;
@@ -309,7 +342,7 @@ pub fn safe_by<'a>(table: &'a [u64], set: Settings, v: u32, p: u64, three: bool)
     }
     let u = lowest_view(table, n, f, v);
     if u < v {
-        let mut plans = [0u64; ROOM];
+        let mut plans = [0u64; claims::ROWS];
         let s = begin(table, n, f, u, v, &mut plans);
         if three {
             return safe_three(table, &plans, s, p);
@@ -329,7 +362,7 @@ fn improves(best: Option<u64>, x: u64) -> bool
 }
 
 // Whether view u serves a lock's plan, or the next view a highest vote's.
-fn passes<'a>(plans: &'a [u64], c: Search, locked: bool, x: u64) -> bool
+fn passes<'a>(plans: &'a [u64; claims::ROWS], c: Search, locked: bool, x: u64) -> bool
     requires { Laid c plans.now }
     ensures { result ≡ passes_in plans.now c locked x }
 {
@@ -344,7 +377,7 @@ fn passes<'a>(plans: &'a [u64], c: Search, locked: bool, x: u64) -> bool
 
 // The smallest plan that passes, once x has been tried. The plan tried last is not tried again.
 fn smaller_passing<'a>(
-    plans: &'a [u64],
+    plans: &'a [u64; claims::ROWS],
     c: Search,
     locked: bool,
     last: u64,
@@ -381,7 +414,7 @@ fn tried_count(c: Search, locked: bool) -> usize
 
 // The smallest plan that passes, of one row, or the best so far where that is smaller. The plan start does not pass.
 fn smallest_in<'a>(
-    plans: &'a [u64],
+    plans: &'a [u64; claims::ROWS],
     c: Search,
     locked: bool,
     start: u64,
@@ -403,7 +436,7 @@ fn smallest_in<'a>(
 }
 
 // The smallest plan that is safe by Rule 1, where start is not: of the locks at view u, and of the votes that come in at the next view.
-fn smallest_safe<'a>(plans: &'a [u64], c: Search, start: u64) -> Option<u64>
+fn smallest_safe<'a>(plans: &'a [u64; claims::ROWS], c: Search, start: u64) -> Option<u64>
     requires { Laid c plans.now × (passes_in plans.now c true start ≡ false) × (passes_in plans.now c false start ≡ false) }
     ensures { chosen result ≡ smallest_of plans.now c }
 {
@@ -412,8 +445,8 @@ fn smallest_safe<'a>(plans: &'a [u64], c: Search, start: u64) -> Option<u64>
 }
 
 // Step C: 'proposes its starting plan if that is safe by Rule 1, else the smallest safe plan, else waits'.
-pub fn choose<'a>(table: &'a [u64], set: Settings, v: u32, start: u64) -> Option<u64>
-    requires { (length table.now ≡ table_size) × (set.n ≤ 64) × (set.f < set.n) }
+pub fn choose<'a>(table: &'a [u64; claims::TABLE], set: Settings, v: u32, start: u64) -> Option<u64>
+    requires { (set.n ≤ 64) × (set.f < set.n) }
     ensures { chosen result ≡ choice (vaults_of set) (reports_in_table table.now) v start }
 {
     let n = set.n as usize;
@@ -423,7 +456,7 @@ pub fn choose<'a>(table: &'a [u64], set: Settings, v: u32, start: u64) -> Option
     }
     let u = lowest_view(table, n, f, v);
     if u < v {
-        let mut plans = [0u64; ROOM];
+        let mut plans = [0u64; claims::ROWS];
         let s = begin(table, n, f, u, v, &mut plans);
         if safe_one(&plans, s, start) {
             return Some(start);

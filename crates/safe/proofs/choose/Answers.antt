@@ -5,7 +5,6 @@ use mathlib.Core.Bool.{true, false}
 use mathlib.Core.Path.{sym, ◌∙◌}
 use Rattle.rules.specs.Rules.{rule1}
 use Rattle.safe.proofs.Searches.{safe_every, lowest_at, none_safe, choice_start, choice_none, one_same, start_fails, choice_same}
-use borrow.Author.Rules.{rules}
 use Rattle.safe.proofs.choose.Goals as goal
 
 pub returns-then-every_safe : goal.returns-then-every_safe
@@ -14,7 +13,7 @@ returns-then-every_safe c = choice_start _ _ _ _ (safe_every _ _ _ rule1 _ (sym 
 pub begin-s-requires : goal.begin-s-requires
 begin-s-requires c =
     let pre = c.requires in
-    (pre.0, pre.1, pre.2, lowest_at _ _ _ _ (sym c.every_safe.ensures ∙ c.if-every_safe.false) c.lowest_view-u.ensures c.if-u-v.true, search rules)
+    (pre.0, pre.1, lowest_at _ _ _ _ (sym c.every_safe.ensures ∙ c.if-every_safe.false) c.lowest_view-u.ensures c.if-u-v.true)
 
 pub returns-then-safe_one : goal.returns-then-safe_one
 returns-then-safe_one c =

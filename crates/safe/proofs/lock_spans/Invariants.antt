@@ -1,7 +1,6 @@
 -- `safe::lock_spans` meets its contract.
 -- The first r places hold the spans of the first r reports.
 -- Assumes nothing.
-use Prim.Native.Nat.{◌≤◌}
 use mathlib.Core.Path.{◌≡◌}
 use lib.ListN.{length}
 use Rattle.claims.specs.inside.Spans.{AreSpans}

@@ -6,10 +6,10 @@ use Rattle.claims.proofs.Rows.{row_none, row_more}
 use Rattle.safe.proofs.locks_at.Goals as goal
 
 pub loop-r-init : goal.loop-r-init
-loop-r-init c = row_none _ _ _ _ _ _ c.requires.2
+loop-r-init c = row_none _ _ _ _ _ _ (omega arith)
 
 pub loop-r-preserved : goal.loop-r-preserved
 loop-r-preserved c =
     let put = c.add_share-tally.ensures in
     let pre = c.requires in
-    row_more c.loop-r.invariant _ _ c.allow_share-share.ensures c.loop-r-test.true pre.1 (omega arith) _ _ put.0 put.1
+    row_more c.loop-r.invariant _ _ c.allow_share-share.ensures c.loop-r-test.true pre (omega arith) _ _ put.0 put.1

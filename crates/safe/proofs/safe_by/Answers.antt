@@ -4,7 +4,6 @@
 use mathlib.Core.Bool.{false}
 use mathlib.Core.Path.{sym, ◌∙◌}
 use Rattle.safe.proofs.Searches.{safe_every, lowest_at, none_safe, by_rule, one_same}
-use borrow.Author.Rules.{rules}
 use Rattle.safe.proofs.safe_by.Goals as goal
 
 pub returns-then-every_safe : goal.returns-then-every_safe
@@ -13,7 +12,7 @@ returns-then-every_safe c = safe_every _ _ _ _ _ (sym c.every_safe.ensures ∙ c
 pub begin-s-requires : goal.begin-s-requires
 begin-s-requires c =
     let pre = c.requires in
-    (pre.0, pre.1, pre.2, lowest_at _ _ _ _ (sym c.every_safe.ensures ∙ c.if-every_safe.false) c.lowest_view-u.ensures c.if-u-v.true, search rules)
+    (pre.0, pre.1, lowest_at _ _ _ _ (sym c.every_safe.ensures ∙ c.if-every_safe.false) c.lowest_view-u.ensures c.if-u-v.true)
 
 pub returns-then-u-v : goal.returns-then-u-v
 returns-then-u-v c =

@@ -14,14 +14,14 @@ returns-then-safe_one c =
     let a = c.args in
     let rs = reports_in_table a.table.now in
     let pre = c.requires in
-    three_one rs a.c a.plans.now pre.2 pre.3 a.p (sym c.safe_one.ensures ∙ c.if-safe_one.true)
+    three_one rs a.c a.plans.now pre.1 pre.2 a.p (sym c.safe_one.ensures ∙ c.if-safe_one.true)
 
 pub two_sets-requires : goal.two_sets-requires
 two_sets-requires c =
     let a = c.args in
     let rs = reports_in_table a.table.now in
     let pre = c.requires in
-    (pre.2.laid, falling rs a.c a.plans.now pre.2, c.if-c.true)
+    (pre.1.laid, falling rs a.c a.plans.now pre.1, c.if-c.true)
 
 -- Rule 1 does not accept the plan.
 never : (c : Else-safe_one) → let a = c.args in safe_in a.plans.now a.c a.p ≡ false
@@ -32,19 +32,19 @@ returns-then-allowed c =
     let a = c.args in
     let pre = c.requires in
     let rs = reports_in_table a.table.now in
-    let two = pair_two rs a.c a.plans.now pre.2 _ c.if-c.true c.two_sets.ensures in
-    three_first rs a.c a.plans.now pre.2 pre.3 a.p (never (goal.at.returns-then-allowed c).Else-safe_one) _ (sym c.allowed.ensures ∙ c.if-allowed.true) two
+    let two = pair_two rs a.c a.plans.now pre.1 _ c.if-c.true c.two_sets.ensures in
+    three_first rs a.c a.plans.now pre.1 pre.2 a.p (never (goal.at.returns-then-allowed c).Else-safe_one) _ (sym c.allowed.ensures ∙ c.if-allowed.true) two
 
 pub returns-then-c : goal.returns-then-c
 returns-then-c c =
     let a = c.args in
     let pre = c.requires in
     let block = sym c.allowed.ensures ∙ c.if-allowed.false in
-    three_next (reports_in_table a.table.now) a.c a.plans.now pre.2 pre.3 a.p (never (goal.at.returns-then-c c).Else-safe_one) _ block
+    three_next (reports_in_table a.table.now) a.c a.plans.now pre.1 pre.2 a.p (never (goal.at.returns-then-c c).Else-safe_one) _ block
     c.if-c.true c.two_sets_after.ensures
 
 pub returns : goal.returns
 returns c =
     let a = c.args in
     let pre = c.requires in
-    three_last (reports_in_table a.table.now) a.c a.plans.now pre.2 pre.3 a.p (never (goal.at.returns c).Else-safe_one) c.if-c.false
+    three_last (reports_in_table a.table.now) a.c a.plans.now pre.1 pre.2 a.p (never (goal.at.returns c).Else-safe_one) c.if-c.false
