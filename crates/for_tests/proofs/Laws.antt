@@ -2,14 +2,14 @@
 -- lie end to end' and each is at most 46. The search relies on what `laid` tests; it goes by settings, of which it reads the n and f of the call.
 -- Assumes nothing.
 use Prim.Native.Nat.{ℕ, ◌≤◌, ◌<◌}
-use mathlib.Core.Path.{◌≡◌}
-use mathlib.Core.Bool.{Bool, true, false, cond, not, and-false}
+use mathlib.Core.Path.{◌≡◌, refl}
+use mathlib.Core.Bool.{Bool, true, false, ◌&&◌, cond, not, and-false}
 use mathlib.Core.Option.{Option}
 use mathlib.Core.List.{List}
 use native.Mathlib.Omega.{arith}
-use lib.Dec.{leb, eqb}
+use lib.Dec.{leb, ltb, eqb}
 use lib.ListN.{length, length-append}
-use borrow.Author.Tests.{leb-true, ltb-true, eqb-true, lt-ltb, le-ltb}
+use borrow.Author.Tests.{leb-true, ltb-true, eq-eqb, ne_eqb, lt-ltb, le-ltb}
 use Rattle.frame.specs.declared.Frame.{Frame}
 use Rattle.entry.specs.declared.Entry.TheVariants.{ForAll, Timer, Decision}
 use Rattle.entry.specs.Layout.{layout}
@@ -41,12 +41,10 @@ module _ (table : List ℕ) (n f : ℕ) where
   -- n and f of the settings.
   module _ (all few : ℕ) (is : all ≡ n) (too : few ≡ f) where
     -- What the search asks for.
-    pub laid_parts : laid table n f ≡ true → (length table ≡ table_size) × (all ≤ column) × (few < all)
-    unfolding laid
+    pub laid_parts : (leb n column && ltb f n) ≡ true → (all ≤ column) × (few < all)
     laid_parts h =
-        let (a, h) = both_split (eqb (length table) table_size) _ h in
         let (l, h) = both_split (leb n column) _ h in
-        rw (is, too) (eqb-true _ _ a, leb-true n column l, ltb-true f n h)
+        rw (is, too) (leb-true n column l, ltb-true f n h)
 
     -- The search's answer as a number.
     pub safe_said : (v p three : ℕ) (b : Bool) → laid table n f ≡ true
@@ -59,6 +57,16 @@ module _ (table : List ℕ) (n f : ℕ) where
         → o ≡ choice (equals all few) (reports_in_table table) v start → proposed o out ≡ choose_plan table n f v start out
     unfolding choose_plan
     choose_said v start o out h room e = rw (h, lt-ltb 0 (length out) room, ← is, ← too, ← e)
+
+  -- A table that has its size is laid where the two numbers are.
+  pub laid_by : {b : Bool} → length table ≡ table_size → (leb n column && ltb f n) ≡ b → laid table n f ≡ b
+  unfolding laid
+  laid_by size e = rw (eq-eqb (length table) table_size size) e
+
+  -- One that has not is not.
+  pub unlaid_by : (length table ≡ table_size → ⊥) → laid table n f ≡ false
+  unfolding laid
+  unlaid_by other = rw (ne_eqb (length table) table_size other) refl
 
   -- A call that makes no sense asks for no search.
   pub safe_unlaid : (v p three : ℕ) → laid table n f ≡ false → 2 ≡ safe_plan table n f v p three

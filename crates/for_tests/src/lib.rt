@@ -2,11 +2,12 @@
 // Each answer is a number.
 #![tactic(auto)]
 
-ghost use Rattle.std.specs.Prelude.{◌≤◌, ◌≡◌, length};
+ghost use Rattle.std.specs.Prelude.{◌≤◌, ◌≡◌, ◌&&◌, length, leb, ltb};
+ghost use Rattle.claims.specs.Table.{column};
 ghost use Rattle.wire.specs.Placed.{placed};
 ghost use Rattle.entry.specs.Layout.{layout};
 ghost use Rattle.sound.specs.inside.Sound.{lent_is};
-ghost use Rattle.for_tests.specs.inside.Answers.{left, echo_entries, echo, laid, safe_plan, choose_plan, class_number};
+ghost use Rattle.for_tests.specs.inside.Answers.{left, echo_entries, echo, safe_plan, choose_plan, class_number};
 
 use entry::Entry;
 use frame::Frame;
@@ -50,17 +51,11 @@ pub extern "C" fn frame_echo(s: &[u8], link: u8, n: u8, own: u8, out: &mut [u8])
 
 // ---- safe plans, over one lent table of reports
 
-// Whether the table has its size, n is at most 64, and f is below n.
-fn is_laid<'a>(table: &'a [u64], n: u8, f: u8) -> bool
-    ensures { result ≡ laid table.now n f }
+// Whether n is at most 64, and f is below n.
+fn is_laid(n: u8, f: u8) -> bool
+    ensures { result ≡ (leb n column && ltb f n) }
 {
-    if table.len() != claims::TABLE {
-        return false;
-    }
-    if 64 < n {
-        return false;
-    }
-    f < n
+    n <= 64 && f < n
 }
 
 // Settings of which the search reads n and f only.
@@ -80,13 +75,16 @@ fn settings_for(n: u8, f: u8) -> Settings
 pub extern "C" fn safe_plan<'a>(table: &'a [u64], n: u8, f: u8, v: u32, p: u64, three: u8) -> u32
     ensures { result ≡ safe_plan table.now n f v p three }
 {
-    if is_laid(table, n, f) {
-        if safe::safe_by(table, settings_for(n, f), v, p, three != 0) {
-            return 1;
-        }
-        return 0;
+    let Ok(table) = <&[u64; claims::TABLE]>::try_from(table) else {
+        return 2;
+    };
+    if !is_laid(n, f) {
+        return 2;
     }
-    2
+    if safe::safe_by(table, settings_for(n, f), v, p, three != 0) {
+        return 1;
+    }
+    0
 }
 
 // Step C's choice: 1 with the plan in out[0], 0 where there is none, 2 where the call makes no sense or out is empty.
@@ -101,17 +99,20 @@ pub extern "C" fn choose_plan<'a>(
 ) -> u32
     ensures { left result out.new ≡ choose_plan table.now n f v start out.old }
 {
-    if is_laid(table, n, f) {
-        if 0 < out.len() {
-            let Some(p) = safe::choose(table, settings_for(n, f), v, start) else {
-                return 0;
-            };
-            out[0] = p;
-            return 1;
-        }
+    let Ok(table) = <&[u64; claims::TABLE]>::try_from(table) else {
+        return 2;
+    };
+    if !is_laid(n, f) {
         return 2;
     }
-    2
+    if out.len() == 0 {
+        return 2;
+    }
+    let Some(p) = safe::choose(table, settings_for(n, f), v, start) else {
+        return 0;
+    };
+    out[0] = p;
+    1
 }
 
 // ---- records
