@@ -1,35 +1,30 @@
 // What frames say, in plain words.
 ghost use Rattle.std.specs.Prelude.{◌≡◌, ◌≤◌};
 ghost use Rattle.frame.specs.Refusal.{first, form_rows};
-ghost use Rattle.frame.specs.inside.Reading.{refusal_of};
+ghost use Rattle.explain.specs.inside.Forms.{form_number};
 
-use crate::words::{end_line, end_with_number, say, say_byte, say_number};
-use frame::{Body, Frame, Reading, Report, Reports, numbers};
+use frame::{Body, Frame, Refusal, Report, Reports, numbers};
 use std::io;
 
 // The frame that bytes say, or refusal 9 or 10.
-pub(crate) fn frame_in(s: &[u8]) -> Reading
-    ensures { refusal_of result ≡ first (form_rows s.now) }
+pub(crate) fn frame_in(s: &[u8]) -> Result<Frame, Refusal>
+    ensures { form_number result ≡ first (form_rows s.now) }
 {
-    let why = frame::form_refusal(s);
-    if why != 0 {
-        return Reading::Refused(why);
-    }
-    Reading::Accepted(frame::reader::parse(s))
+    frame::form_refusal(s)?;
+    Ok(frame::reader::parse(s))
 }
 
 pub(crate) fn say_kind(rt: &impl Print, kind: u8) -> io::Result<()> {
     match kind {
-        numbers::PROPOSAL => say(rt, b"proposal"),
-        numbers::VOTE_1..=numbers::VOTE_4 => say_number(
-            rt,
-            b"vote-",
-            (kind - numbers::PROPOSAL) as u64,
-        ),
-        numbers::VIEW_CHANGE => say(rt, b"view-change"),
-        numbers::SUGGEST => say(rt, b"suggest"),
-        numbers::PROOF => say(rt, b"proof"),
-        _ => say(rt, b"frame"),
+        numbers::PROPOSAL => print!(rt; "proposal"),
+        numbers::VOTE_1..=numbers::VOTE_4 => {
+            let vote = kind - numbers::PROPOSAL;
+            print!(rt; "vote-{vote}")
+        }
+        numbers::VIEW_CHANGE => print!(rt; "view-change"),
+        numbers::SUGGEST => print!(rt; "suggest"),
+        numbers::PROOF => print!(rt; "proof"),
+        _ => print!(rt; "frame"),
     }
 }
 
@@ -47,30 +42,22 @@ pub(crate) fn lock_of(kind: u8) -> u8
 }
 
 fn say_place(rt: &impl Print, view: u32, plan: u64) -> io::Result<()> {
-    say_number(rt, b"view ", view as u64)?;
-    end_with_number(rt, b", plan ", plan)
+    println!(rt; "view {view}, plan {plan}")
 }
 
 fn is_none(r: Report) -> bool {
-    if r.mark != 0 {
-        return false;
-    }
-    if r.view != 0 {
-        return false;
-    }
-    r.plan == 0
+    r.mark == 0 && r.view == 0 && r.plan == 0
 }
 
 // A report: the vote, or none; where its mark fits neither, all of it.
-fn say_report(rt: &impl Print, name: &[u8], vote: u8, r: Report) -> io::Result<()> {
-    say_number(rt, name, vote as u64)?;
-    say(rt, b": ")?;
+fn say_report(rt: &impl Print, name: &str, vote: u8, r: Report) -> io::Result<()> {
+    print!(rt; "        {name} vote-{vote}: ")?;
     if is_none(r) {
-        return say(rt, b"none\n");
+        return println!(rt; "none");
     }
     if r.mark != numbers::PRESENT {
-        say_number(rt, b"mark ", r.mark as u64)?;
-        say(rt, b", ")?;
+        let mark = r.mark;
+        print!(rt; "mark {mark}, ")?;
     }
     say_place(rt, r.view, r.plan)
 }
@@ -79,21 +66,22 @@ fn say_reports(rt: &impl Print, kind: u8, r: Reports) -> io::Result<()> {
     let highest = r.highest;
     let previous = r.previous;
     let lock = r.lock;
-    say_report(rt, b"        highest vote-", vote_of(kind), highest)?;
-    say_report(rt, b"        previous vote-", vote_of(kind), previous)?;
-    say_report(rt, b"        highest vote-", lock_of(kind), lock)
+    say_report(rt, "highest", vote_of(kind), highest)?;
+    say_report(rt, "previous", vote_of(kind), previous)?;
+    say_report(rt, "highest", lock_of(kind), lock)
 }
 
 fn say_body(rt: &impl Print, f: Frame) -> io::Result<()> {
+    let view = f.view;
     let body = f.body;
     match body {
         Body::Plan(plan) => {
-            say(rt, b", ")?;
-            say_place(rt, f.view, plan)
+            print!(rt; ", ")?;
+            say_place(rt, view, plan)
         }
-        Body::Empty => end_with_number(rt, b" for view ", f.view as u64),
+        Body::Empty => println!(rt; " for view {view}"),
         Body::Told(r) => {
-            end_with_number(rt, b", view ", f.view as u64)?;
+            println!(rt; ", view {view}")?;
             say_reports(rt, f.kind, r)
         }
     }
@@ -102,7 +90,8 @@ fn say_body(rt: &impl Print, f: Frame) -> io::Result<()> {
 // Kind, sender and what the frame holds: 'vote-2 of vault 1, view 0, plan 7'.
 pub(crate) fn say_frame(rt: &impl Print, f: Frame) -> io::Result<()> {
     say_kind(rt, f.kind)?;
-    say_number(rt, b" of vault ", f.sender as u64)?;
+    let sender = f.sender;
+    print!(rt; " of vault {sender}")?;
     say_body(rt, f)
 }
 
@@ -111,18 +100,15 @@ pub(crate) fn say_frame(rt: &impl Print, f: Frame) -> io::Result<()> {
 // Where a line or a frame has another length than its kind.
 pub(crate) fn say_length(
     rt: &impl Print,
-    words: &[u8],
+    words: &str,
     count: usize,
     wanted: usize,
 ) -> io::Result<()> {
-    say(rt, words)?;
-    say_number(rt, b" of ", count as u64)?;
-    end_with_number(rt, b" bytes; it has to have ", wanted as u64)
+    println!(rt; "{words} of {count} bytes; it has to have {wanted}")
 }
 
-pub(crate) fn say_no_kind(rt: &impl Print, words: &[u8], kind: u8) -> io::Result<()> {
-    say_byte(rt, words, kind)?;
-    end_line(rt)
+pub(crate) fn say_no_kind(rt: &impl Print, kind: u8) -> io::Result<()> {
+    println!(rt; "there is no kind {kind:02x}")
 }
 
 // Why bytes are no frame, where there are any.
@@ -132,20 +118,20 @@ pub(crate) fn say_unformed(rt: &impl Print, s: &[u8]) -> io::Result<()> {
     }
     let size = frame::length_of(s[0]);
     if size == 0 {
-        return say_no_kind(rt, b"there is no kind ", s[0]);
+        return say_no_kind(rt, s[0]);
     }
-    say(rt, b"a ")?;
+    print!(rt; "a ")?;
     say_kind(rt, s[0])?;
-    say_length(rt, b"", s.len(), size)
+    say_length(rt, "", s.len(), size)
 }
 
 // What the vaults read in bytes: a frame, or why they are none.
 pub(crate) fn say_bytes(rt: &impl Print, s: &[u8]) -> io::Result<()> {
     if s.len() == 0 {
-        return say(rt, b"an empty frame\n");
+        return println!(rt; "an empty frame");
     }
-    let Reading::Accepted(f) = frame_in(s) else {
-        say(rt, b"no frame: ")?;
+    let Ok(f) = frame_in(s) else {
+        print!(rt; "no frame: ")?;
         return say_unformed(rt, s);
     };
     say_frame(rt, f)

@@ -1,7 +1,5 @@
 // What lines say that are given to vaultlines: 'Kind 00 starts ..; kind 09 is a timer ..; other lines are frames'.
 use crate::frames::{frame_in, say_frame, say_length, say_unformed};
-use crate::words::{end_with_number, say, say_number};
-use frame::Reading;
 use std::io;
 
 pub(crate) const START: u8 = 0;
@@ -13,41 +11,41 @@ pub(crate) const START_LENGTH: usize = 13;
 pub(crate) const TIMER_LENGTH: usize = 5;
 
 fn say_settings(rt: &impl Print, n: u8, f: u8, id: u8, class: u8) -> io::Result<()> {
-    say_number(rt, b"    start: ", n as u64)?;
-    say_number(rt, b" vaults of which ", f as u64)?;
-    say_number(rt, b" may lie, this one is vault ", id as u64)?;
-    say_number(rt, b", link class ", class as u64)
+    print!(rt;
+        "    start: {n} vaults of which {f} may lie, this one is vault {id}, link class {class}"
+    )
 }
 
 fn say_start(rt: &impl Print, s: &[u8]) -> io::Result<()> {
     if s.len() != START_LENGTH {
-        return say_length(rt, b"    a start", s.len(), START_LENGTH);
+        return say_length(rt, "    a start", s.len(), START_LENGTH);
     }
     say_settings(rt, s[1], s[2], s[3], s[4])?;
-    end_with_number(rt, b", starting plan ", wire::number64(s, 5))
+    let plan = wire::number64(s, 5);
+    println!(rt; ", starting plan {plan}")
 }
 
 fn say_timer(rt: &impl Print, s: &[u8]) -> io::Result<()> {
     if s.len() != TIMER_LENGTH {
-        return say_length(rt, b"    a timer", s.len(), TIMER_LENGTH);
+        return say_length(rt, "    a timer", s.len(), TIMER_LENGTH);
     }
-    say_number(rt, b"    the timer of view ", wire::number32(s, 1) as u64)?;
-    say(rt, b" ran out\n")
+    let view = wire::number32(s, 1);
+    println!(rt; "    the timer of view {view} ran out")
 }
 
 fn say_malformed(rt: &impl Print, s: &[u8]) -> io::Result<()> {
     if s.len() == 0 {
-        return say(rt, b"    an empty line: an empty frame\n");
+        return println!(rt; "    an empty line: an empty frame");
     }
-    say(rt, b"    ")?;
+    print!(rt; "    ")?;
     say_unformed(rt, s)
 }
 
 fn say_came(rt: &impl Print, s: &[u8]) -> io::Result<()> {
-    let Reading::Accepted(f) = frame_in(s) else {
+    let Ok(f) = frame_in(s) else {
         return say_malformed(rt, s);
     };
-    say(rt, b"    came: ")?;
+    print!(rt; "    came: ")?;
     say_frame(rt, f)
 }
 

@@ -10,14 +10,13 @@ mod programs;
 mod refusals;
 mod rehearsal;
 mod text;
-mod words;
 
-ghost use Rattle.std.specs.Prelude.{◌≡◌, ◌≤◌, length, IfOk};
-ghost use Rattle.explain.specs.inside.Sizes.{line_most, text_kept};
+ghost use Rattle.std.specs.Prelude.{◌≡◌, ◌≤◌, length, IfOk, IfSome};
+ghost use Rattle.explain.specs.inside.Sizes.{text_kept};
 
 use given::say_given;
 use printed::{is_printed, say_printed};
-use programs::{NO_PROGRAM, REHEARSAL, VAULTLINES, say_turn};
+use programs::{Program, say_turn};
 use rehearsal::say_rehearsed;
 use std::io::{self, Read};
 use text::{Line, TEXT, Writing, say_digits, say_writing};
@@ -25,32 +24,30 @@ use text::{Line, TEXT, Writing, say_digits, say_writing};
 const PIECE: usize = 4096;
 
 // A line may begin with a mark, that it was given or that it was printed.
-const GIVEN: u8 = b'>';
-
-const PRINTED: u8 = b'<';
-
-const UNMARKED: u8 = 0;
+#[derive(Clone, Copy)]
+enum Mark {
+    Given,
+    Printed,
+}
 
 // ---- lines
 
-fn mark_of(text: &[u8]) -> u8
-    ensures { result ≤ 62 }
-{
+fn mark_of(text: &[u8]) -> Option<Mark> {
     if text.len() == 0 {
-        return UNMARKED;
+        return None;
     }
     match text[0] {
-        GIVEN => GIVEN,
-        PRINTED => PRINTED,
-        _ => UNMARKED,
+        b'>' => Some(Mark::Given),
+        b'<' => Some(Mark::Printed),
+        _ => None,
     }
 }
 
 // Where the text begins, behind a mark and a blank.
-fn after_mark(text: &[u8], mark: u8) -> usize
+fn after_mark(text: &[u8], mark: Option<Mark>) -> usize
     ensures { result ≤ length text.now }
 {
-    if mark == UNMARKED {
+    if let None = mark {
         return 0;
     }
     if text.len() < 2 {
@@ -60,9 +57,7 @@ fn after_mark(text: &[u8], mark: u8) -> usize
 }
 
 // No line of a program was given yet, or what it led to was printed.
-fn no_line(program: u8) -> Line
-    ensures { result.count ≤ line_most }
-{
+fn no_line(program: Program) -> Line {
     let writing = Writing {
         is_cut: false,
         digits: 0,
@@ -71,33 +66,37 @@ fn no_line(program: u8) -> Line
         returns: 0,
         strange: 0,
     };
-    text::unread(program, writing)
+    Line {
+        program,
+        spelled: None,
+        writing,
+    }
 }
 
-fn was_printed(mark: u8, program: u8, s: &[u8]) -> bool {
+fn was_printed(mark: Option<Mark>, program: Program, s: &[u8]) -> bool {
     match mark {
-        GIVEN => false,
-        PRINTED => true,
-        _ => is_printed(program, s),
+        Some(Mark::Given) => false,
+        Some(Mark::Printed) => true,
+        None => is_printed(program, s),
     }
 }
 
-fn say_taken(rt: &impl Print, program: u8, s: &[u8]) -> io::Result<()> {
+fn say_taken(rt: &impl Print, program: Program, s: &[u8]) -> io::Result<()> {
     match program {
-        REHEARSAL => say_rehearsed(rt, s),
-        _ => say_given(rt, s),
+        Program::Vaultlines => say_given(rt, s),
+        Program::Rehearsal => say_rehearsed(rt, s),
     }
 }
 
-// Explains a line that could be read. Answers the line that is then waiting for what it leads to.
-fn explain_read(rt: &impl Print, mark: u8, line: Line, before: Line) -> io::Result<Line>
-    requires { (line.count ≤ line_most) × (before.count ≤ line_most) }
-    ensures { IfOk result (λ line. line.count ≤ line_most) }
-{
+// Explains a line that spells bytes. Answers the line that is then waiting for what it leads to.
+fn explain_read(
+    rt: &impl Print,
+    mark: Option<Mark>,
+    s: &[u8],
+    line: Line,
+    before: Line,
+) -> io::Result<Line> {
     let program = line.program;
-    let bytes = line.bytes;
-    let count = line.count;
-    let s = &bytes[0..count];
     if was_printed(mark, program, s) {
         say_printed(rt, s, before)?;
         return Ok(no_line(program));
@@ -108,30 +107,28 @@ fn explain_read(rt: &impl Print, mark: u8, line: Line, before: Line) -> io::Resu
 }
 
 // Explains a line's text behind its mark. It is of the same program as the line given before it.
-fn explain_text(rt: &impl Print, mark: u8, text: &[u8], before: Line) -> io::Result<Line>
-    requires { before.count ≤ line_most }
-    ensures { IfOk result (λ line. line.count ≤ line_most) }
-{
+fn explain_text(
+    rt: &impl Print,
+    mark: Option<Mark>,
+    text: &[u8],
+    before: Line,
+) -> io::Result<Line> {
     let program = before.program;
     let line = text::read(text, program);
     say_writing(rt, program, line.writing)?;
-    if line.is_read {
-        return explain_read(rt, mark, line, before);
+    if let Some(spelled) = line.spelled {
+        return explain_read(rt, mark, spelled.bytes(), line, before);
     }
     say_digits(rt, program, line.writing)?;
     Ok(line)
 }
 
 // Explains a line, where another was given before it.
-fn explain_line(rt: &impl Print, text: &[u8], before: Line) -> io::Result<Line>
-    requires { before.count ≤ line_most }
-    ensures { IfOk result (λ line. line.count ≤ line_most) }
-{
+fn explain_line(rt: &impl Print, text: &[u8], before: Line) -> io::Result<Line> {
     text::show(rt, text)?;
     let mark = mark_of(text);
     let from = after_mark(text, mark);
-    let program = text::program_in(&text[from..]);
-    if program != NO_PROGRAM {
+    if let Some(program) = text::program_in(&text[from..]) {
         say_turn(rt, program)?;
         return Ok(no_line(program));
     }
@@ -140,18 +137,18 @@ fn explain_line(rt: &impl Print, text: &[u8], before: Line) -> io::Result<Line>
 
 // ---- the input, in pieces
 
-// How much is kept of the line that has begun, the line given last, and whether the input is over.
+// How much is kept of the line that has begun, and the line given last.
 #[derive(Clone, Copy)]
 struct Place {
     len: usize,
     given: Line,
-    is_over: bool,
 }
 
 // A piece of input. The first len bytes of text are what is kept of the line that has begun.
+// The lines have different lengths, so the place in the piece is counted by the lines' ends.
 fn feed(rt: &impl Print, text: &mut [u8], place: Place, piece: &[u8]) -> io::Result<Place>
-    requires { (length text.old ≡ text_kept) × (place.len ≤ text_kept) × (place.given.count ≤ line_most) }
-    ensures { IfOk result (λ place. (place.len ≤ text_kept) × (place.given.count ≤ line_most)) }
+    requires { (length text.old ≡ text_kept) × (place.len ≤ text_kept) }
+    ensures { IfOk result (λ place. place.len ≤ text_kept) }
 {
     let mut len = place.len;
     let mut given = place.given;
@@ -161,51 +158,43 @@ fn feed(rt: &impl Print, text: &mut [u8], place: Place, piece: &[u8]) -> io::Res
         let to = taken.len;
         let end = taken.next;
         if end == piece.len() {
-            return Ok(Place {
-                len: to,
-                given,
-                is_over: false,
-            });
+            return Ok(Place { len: to, given });
         }
         given = explain_line(rt, &text[0..to], given)?;
         len = 0;
         i = end + 1;
     }
-    Ok(Place {
-        len,
-        given,
-        is_over: false,
-    })
+    Ok(Place { len, given })
 }
 
 // The input's end: the line that has not ended is explained too.
-fn finish(rt: &impl Print, text: &[u8], place: Place) -> io::Result<Place>
-    requires { (length text.now ≡ text_kept) × (place.len ≤ text_kept) × (place.given.count ≤ line_most) }
-    ensures { IfOk result (λ place. (place.len ≤ text_kept) × (place.given.count ≤ line_most)) }
+fn finish(rt: &impl Print, text: &[u8], place: Place) -> io::Result<()>
+    requires { (length text.now ≡ text_kept) × (place.len ≤ text_kept) }
 {
     let len = place.len;
     if len != 0 {
-        let given = place.given;
-        explain_line(rt, &text[0..len], given)?;
+        explain_line(rt, &text[0..len], place.given)?;
     }
-    Ok(Place {
-        len: 0,
-        given: no_line(VAULTLINES),
-        is_over: true,
-    })
+    Ok(())
 }
 
-// Reads once, and explains the lines that end in what came.
-fn explain_some(rt: &(impl Input + Print), text: &mut [u8], place: Place) -> io::Result<Place>
-    requires { (length text.old ≡ text_kept) × (place.len ≤ text_kept) × (place.given.count ≤ line_most) }
-    ensures { IfOk result (λ place. (place.len ≤ text_kept) × (place.given.count ≤ line_most)) }
+// Reads once, and explains the lines that end in what came; None where the input is over.
+fn explain_some(
+    rt: &(impl Input + Print),
+    text: &mut [u8],
+    place: Place,
+) -> io::Result<Option<Place>>
+    requires { (length text.old ≡ text_kept) × (place.len ≤ text_kept) }
+    ensures { IfOk result (λ more. IfSome more (λ place. place.len ≤ text_kept)) }
 {
     let mut piece = [0u8; PIECE];
     let count = rt.reader().read(&mut piece)?;
     if count == 0 {
-        return finish(rt, text, place);
+        finish(rt, text, place)?;
+        return Ok(None);
     }
-    feed(rt, text, place, &piece[..count])
+    let place = feed(rt, text, place, &piece[..count])?;
+    Ok(Some(place))
 }
 
 // A proved loop has to end, and nothing says that the input does: the loop takes so many turns that no run uses them up.
@@ -214,14 +203,13 @@ fn explain_all(rt: &(impl Input + Print), text: &mut [u8]) -> io::Result<()>
 {
     let mut place = Place {
         len: 0,
-        given: no_line(VAULTLINES),
-        is_over: false,
+        given: no_line(Program::Vaultlines),
     };
     for _ in 0..u64::MAX {
-        place = explain_some(rt, text, place)?;
-        if place.is_over {
+        let Some(next) = explain_some(rt, text, place)? else {
             return Ok(());
-        }
+        };
+        place = next;
     }
     Ok(())
 }

@@ -1,14 +1,12 @@
 // What lines say that the programs print: 'one output entry a line, or fd and the refusal number as one byte'. A rehearsal leads a frame's entry
 // 'by fc and its number, or by fb where 256 wait and it is lost'.
 ghost use Rattle.std.specs.Prelude.{◌≤◌, length};
-ghost use Rattle.explain.specs.inside.Sizes.{line_most};
 
 use crate::frames::{frame_in, say_bytes, say_frame};
-use crate::programs::{REHEARSAL, say_program};
+use crate::programs::Program;
 use crate::refusals::say_refusal;
 use crate::text::Line;
-use crate::words::{end_with_number, say, say_number};
-use frame::{Reading, numbers};
+use frame::numbers;
 use std::io;
 
 // Where its entry begins: behind fc and the number, or behind fb.
@@ -38,7 +36,7 @@ fn is_entry(s: &[u8]) -> bool {
     if s.len() < 2 {
         return false;
     }
-    frame::form_refusal(&s[1..]) == 0
+    frame::form_refusal(&s[1..]).is_ok()
 }
 
 // A vault sends nothing but suggests to a single vault. So a given frame that is a byte too long is not taken for an entry.
@@ -63,7 +61,7 @@ fn is_led(s: &[u8], from: usize) -> bool {
 }
 
 // Whether a line without a mark is one that is printed. No line that the program takes looks the same.
-pub(crate) fn is_printed(program: u8, s: &[u8]) -> bool {
+pub(crate) fn is_printed(program: Program, s: &[u8]) -> bool {
     if s.len() == 0 {
         return false;
     }
@@ -72,36 +70,35 @@ pub(crate) fn is_printed(program: u8, s: &[u8]) -> bool {
         numbers::TO_HOST => is_host_entry(s),
         stage::WAITS => is_led(s, AFTER_NUMBER),
         stage::LOST => is_led(s, AFTER_LOST),
-        numbers::TO_ALL => program != REHEARSAL && is_entry(s),
-        0..=63 => program != REHEARSAL && is_suggest(s),
+        numbers::TO_ALL => program == Program::Vaultlines && is_entry(s),
+        0..=63 => program == Program::Vaultlines && is_suggest(s),
         _ => false,
     }
 }
 
 // ---- what they say
 
-fn say_unknown(rt: &impl Print, program: u8) -> io::Result<()> {
-    say(rt, b"    nothing that ")?;
-    say_program(rt, program)?;
-    say(rt, b" prints\n")
+fn say_unknown(rt: &impl Print, program: Program) -> io::Result<()> {
+    println!(rt; "    nothing that {program} prints")
 }
 
 fn say_timer(rt: &impl Print, s: &[u8]) -> io::Result<()>
     requires { 10 ≤ length s.now }
 {
-    say_number(rt, b"    set a timer: view ", wire::number32(s, 2) as u64)?;
-    say_number(rt, b", ", wire::number32(s, 6) as u64)?;
-    say(rt, b" milliseconds\n")
+    let view = wire::number32(s, 2);
+    let millis = wire::number32(s, 6);
+    println!(rt; "    set a timer: view {view}, {millis} milliseconds")
 }
 
 fn say_decision(rt: &impl Print, s: &[u8]) -> io::Result<()>
     requires { 14 ≤ length s.now }
 {
-    say_number(rt, b"    decided: view ", wire::number32(s, 2) as u64)?;
-    end_with_number(rt, b", plan ", wire::number64(s, 6))
+    let view = wire::number32(s, 2);
+    let plan = wire::number64(s, 6);
+    println!(rt; "    decided: view {view}, plan {plan}")
 }
 
-fn say_host(rt: &impl Print, program: u8, s: &[u8]) -> io::Result<()> {
+fn say_host(rt: &impl Print, program: Program, s: &[u8]) -> io::Result<()> {
     if !is_host_entry(s) {
         return say_unknown(rt, program);
     }
@@ -114,50 +111,47 @@ fn say_host(rt: &impl Print, program: u8, s: &[u8]) -> io::Result<()> {
 
 fn say_recipient(rt: &impl Print, to: u8) -> io::Result<()> {
     if to == numbers::TO_ALL {
-        return say(rt, b"to all: ");
+        return print!(rt; "to all: ");
     }
-    say_number(rt, b"to vault ", to as u64)?;
-    say(rt, b": ")
+    print!(rt; "to vault {to}: ")
 }
 
 // A rehearsal prints no entry of a frame with nothing before it.
-fn say_entry(rt: &impl Print, program: u8, s: &[u8]) -> io::Result<()> {
-    if program == REHEARSAL {
+fn say_entry(rt: &impl Print, program: Program, s: &[u8]) -> io::Result<()> {
+    if program == Program::Rehearsal {
         return say_unknown(rt, program);
     }
     if s.len() == 0 {
         return say_unknown(rt, program);
     }
-    let Reading::Accepted(f) = frame_in(&s[1..]) else {
+    let Ok(f) = frame_in(&s[1..]) else {
         return say_unknown(rt, program);
     };
-    say(rt, b"    ")?;
+    print!(rt; "    ")?;
     say_recipient(rt, s[0])?;
     say_frame(rt, f)
 }
 
-fn say_waiting(rt: &impl Print, program: u8, s: &[u8]) -> io::Result<()> {
+fn say_waiting(rt: &impl Print, program: Program, s: &[u8]) -> io::Result<()> {
     if s.len() <= AFTER_NUMBER {
         return say_unknown(rt, program);
     }
-    say_number(rt, b"    frame ", wire::wide(s[1]))?;
-    say(rt, b" waits, ")?;
+    let number = s[1];
+    print!(rt; "    frame {number} waits, ")?;
     say_recipient(rt, s[AFTER_NUMBER])?;
     say_bytes(rt, &s[AFTER_NUMBER + 1..])
 }
 
-fn say_lost(rt: &impl Print, program: u8, s: &[u8]) -> io::Result<()> {
+fn say_lost(rt: &impl Print, program: Program, s: &[u8]) -> io::Result<()> {
     if s.len() <= AFTER_LOST {
         return say_unknown(rt, program);
     }
-    say(rt, b"    lost, as 256 frames wait, ")?;
+    print!(rt; "    lost, as 256 frames wait, ")?;
     say_recipient(rt, s[AFTER_LOST])?;
     say_bytes(rt, &s[AFTER_LOST + 1..])
 }
 
-fn say_refused(rt: &impl Print, s: &[u8], given: Line) -> io::Result<()>
-    requires { given.count ≤ line_most }
-{
+fn say_refused(rt: &impl Print, s: &[u8], given: Line) -> io::Result<()> {
     if s.len() != REFUSAL_LENGTH {
         return say_unknown(rt, given.program);
     }
@@ -165,9 +159,7 @@ fn say_refused(rt: &impl Print, s: &[u8], given: Line) -> io::Result<()>
 }
 
 // The line given before it is told for a refusal.
-pub(crate) fn say_printed(rt: &impl Print, s: &[u8], given: Line) -> io::Result<()>
-    requires { given.count ≤ line_most }
-{
+pub(crate) fn say_printed(rt: &impl Print, s: &[u8], given: Line) -> io::Result<()> {
     let program = given.program;
     if s.len() == 0 {
         return say_unknown(rt, program);

@@ -1,23 +1,22 @@
 // The programs whose lines are explained. A line that is just a program's name says that the lines below it are of that program.
-use crate::words::{end_line, say};
-use std::io;
+use std::{fmt, io};
 
-pub(crate) const NO_PROGRAM: u8 = 0;
+// At first lines are of vaultlines.
+#[derive(Clone, Copy, PartialEq, Eq)]
+pub(crate) enum Program {
+    Vaultlines,
+    Rehearsal,
+}
 
-// At first lines are of this one.
-pub(crate) const VAULTLINES: u8 = 1;
-
-pub(crate) const REHEARSAL: u8 = 2;
-
-pub(crate) fn say_program(rt: &impl Print, program: u8) -> io::Result<()> {
-    match program {
-        REHEARSAL => say(rt, b"rehearsal"),
-        _ => say(rt, b"vaultlines"),
+impl fmt::Display for Program {
+    fn fmt<W: fmt::Write>(&self, f: &mut fmt::Formatter<W>) -> fmt::Result {
+        match self {
+            Program::Vaultlines => write!(f, "vaultlines"),
+            Program::Rehearsal => write!(f, "rehearsal"),
+        }
     }
 }
 
-pub(crate) fn say_turn(rt: &impl Print, program: u8) -> io::Result<()> {
-    say(rt, b"    from here on: lines of ")?;
-    say_program(rt, program)?;
-    end_line(rt)
+pub(crate) fn say_turn(rt: &impl Print, program: Program) -> io::Result<()> {
+    println!(rt; "    from here on: lines of {program}")
 }

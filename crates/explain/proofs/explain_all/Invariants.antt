@@ -3,9 +3,9 @@
 use Prim.Native.Nat.{◌≤◌}
 use mathlib.Core.Path.{◌≡◌}
 use lib.ListN.{length}
-use Rattle.explain.specs.inside.Sizes.{line_most, text_kept}
+use Rattle.explain.specs.inside.Sizes.{text_kept}
 use Rattle.explain.proofs.explain_all.Given as goal
 
 abbrev pub invariant-loop : goal.invariant-loop
 invariant-loop g l =
-    (length l.text ≡ length l.initial.text) × (length l.text ≡ text_kept) × (l.place.len ≤ text_kept) × (l.place.given.count ≤ line_most)
+    (length l.text ≡ length l.initial.text) × (length l.text ≡ text_kept) × (l.place.len ≤ text_kept)

@@ -1,8 +1,20 @@
 -- Which sentence the desk is told of a report at fault, by the reader's own tests: 1 to 6, in the order of `say_wrong`, and 0 for none.
 -- Assumes nothing.
-use Rattle.std.specs.Prelude.{ℕ, cond, leb, ltb, eqb}
+use Rattle.std.specs.Prelude.{Option, Some, None, ℕ, cond, leb, ltb, eqb}
+use Rattle.explain.specs.declared.refusals.Fault.{Fault}
+use Rattle.explain.specs.declared.refusals.Fault.TheVariants.{BadMark, NotAllZero, ViewTooHigh, NoHighest, NotBelowHighest, HighestPlan}
 use Rattle.frame.specs.declared.Report.{Report}
 use Rattle.frame.specs.Refusal.{present, bad_form, too_high, bad_previous}
+
+-- The number of the sentence for what is found; 0 for none.
+abbrev pub fault_number : Option Fault → ℕ
+fault_number None = 0
+fault_number (Some BadMark) = 1
+fault_number (Some NotAllZero) = 2
+fault_number (Some ViewTooHigh) = 3
+fault_number (Some NoHighest) = 4
+fault_number (Some NotBelowHighest) = 5
+fault_number (Some HighestPlan) = 6
 
 -- 14: 'a bad mark or a nonzero byte in an absent report'
 unfoldable pub form_fault : Report → ℕ

@@ -1,24 +1,51 @@
--- `explain::refusals::report_alone` meets its contract: the number says which test is asked.
+-- `explain::refusals::report_alone` meets its contract: the refusal says which test is asked.
 -- Assumes nothing.
-use mathlib.Core.Path.{refl}
-use native.Mathlib.Omega.{arith}
-use borrow.Author.Tests.{eq-eqb, ne_eqb}
+use Prim.Native.Nat.{ℕ}
+use mathlib.Core.Path.{◌≡◌, refl, sym}
+use Rattle.frame.specs.declared.Report.{Report}
+use Rattle.frame.specs.declared.Refusal.{Refusal}
+use Rattle.frame.specs.declared.Refusal.TheVariants as why
+use Rattle.frame.specs.Numbers.{number_of}
 use Rattle.explain.specs.inside.Faults.{fault_alone}
 use Rattle.explain.proofs.refusals.report_alone.Goals as goal
 
-pub returns-in-14 : goal.returns-in-14
+-- Any other refusal finds nothing in a report.
+other_alone : (reason : Refusal) (view : ℕ) (r : Report) → (reason ≡ why.Report → ⊥) → (reason ≡ why.ReportView → ⊥) → fault_alone (number_of reason) view r ≡ 0
 unfolding fault_alone
-returns-in-14 c = rw (eq-eqb c.args.number 14 c.in-14.is) c.form_fault.ensures
+other_alone why.Output view r not14 not21 = refl
+other_alone why.Blank view r not14 not21 = refl
+other_alone why.Unsound view r not14 not21 = refl
+other_alone why.Started view r not14 not21 = refl
+other_alone why.N view r not14 not21 = refl
+other_alone why.F view r not14 not21 = refl
+other_alone why.Id view r not14 not21 = refl
+other_alone why.Class view r not14 not21 = refl
+other_alone why.Kind view r not14 not21 = refl
+other_alone why.Length view r not14 not21 = refl
+other_alone why.Link view r not14 not21 = refl
+other_alone why.Sender view r not14 not21 = refl
+other_alone why.ViewZero view r not14 not21 = refl
+other_alone why.Report view r not14 not21 = absurd (not14 refl)
+other_alone why.Leader view r not14 not21 = refl
+other_alone why.Over view r not14 not21 = refl
+other_alone why.Kept view r not14 not21 = refl
+other_alone why.Timer view r not14 not21 = refl
+other_alone why.LastView view r not14 not21 = refl
+other_alone why.Line view r not14 not21 = refl
+other_alone why.ReportView view r not14 not21 = absurd (not21 refl)
+other_alone why.Previous view r not14 not21 = refl
+other_alone why.Name view r not14 not21 = refl
+other_alone why.Records view r not14 not21 = refl
+other_alone why.RemnantLength view r not14 not21 = refl
+other_alone why.RemnantUnsound view r not14 not21 = refl
 
-pub returns-in-21 : goal.returns-in-21
+pub returns-in-Report : goal.returns-in-Report
 unfolding fault_alone
-returns-in-21 c =
-    let number = c.args.number in
-    let is = c.in-21.is in
-    rw (ne_eqb number 14 (λ e. omega arith), eq-eqb number 21 is) c.view_fault.ensures
+returns-in-Report c = rw c.in-Report.is c.form_fault.ensures
+
+pub returns-in-ReportView : goal.returns-in-ReportView
+unfolding fault_alone
+returns-in-ReportView c = rw c.in-ReportView.is c.view_fault.ensures
 
 pub returns-in_default : goal.returns-in_default
-unfolding fault_alone
-returns-in_default c =
-    let number = c.args.number in
-    rw (ne_eqb number 14 c.in_default.in_default-own.rest.0.1, ne_eqb number 21 c.in_default.in_default-own.rest.1) refl
+returns-in_default c = sym (other_alone c.args.why c.args.view c.args.r c.in_default.not-Report c.in_default.not-ReportView)
