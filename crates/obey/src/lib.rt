@@ -193,7 +193,8 @@ impl LineProgram for Rehearsal {
 
 // A piece of input. The first len bytes of text are what is kept of the line that has begun; the page starts empty.
 pub fn feed(stage: &mut [u8], text: &mut [u8], len: usize, page: &mut [u8], piece: &[u8]) -> Place
-    requires { (length stage.old ≡ stage_size) × (length text.old ≡ kept_size) × (len ≤ kept_size) × (length page.old ≡ page_size) × (length piece.now ≤ piece_size) }
+    requires stage_fits { length stage.old ≡ stage_size }
+    requires sized { (length text.old ≡ kept_size) × (len ≤ kept_size) × (length page.old ≡ page_size) × (length piece.now ≤ piece_size) }
     ensures fed { Fed rehearsal kept_size stage.old (take len text.old) piece.now stage.new (take result.len text.new) (take result.at page.new) }
     ensures len_le_kept_size { (result.len ≤ kept_size) × (result.at ≤ page_size) }
 {

@@ -1,13 +1,15 @@
 // The stage's bytes, read and changed where they lie: 256 places for frames on their way, a byte for the liar, four records.
 ghost use Rattle.std.specs.Prelude.{◌≡◌, ◌+◌, ◌≤◌, eqb, length, take};
 ghost use Rattle.record.specs.Size.{record_size};
-ghost use Rattle.stage.specs.Stage.{stage_size, place_size, place_of, liar_place, record_place, liar_in, is_liar, with_liar, is_free, first_free, with_waiting, with_free};
+ghost use Rattle.stage.specs.Stage.{stage_size, place_size, place_of, liar_place, record_place, liar_in, is_liar, with_liar};
+ghost use Rattle.stage.specs.Stage.{is_free, first_free, with_waiting, with_free};
 ghost use Rattle.stage.specs.Lines.{waiting_now};
 ghost use Rattle.stage.specs.inside.Parts.{frame_most, free_number, held_length, on_way};
 
 use crate::Way;
 
-// A place of the 256 ('up to 256 frames on their way'): one more than the frame's length (0 where none waits), the writer, the recipient byte, and up to 45 bytes.
+// A place, of 256 ('up to 256 frames on their way'): one more than the frame's length (0 where none waits), the writer, the recipient byte,
+// and up to 45 bytes.
 const PLACE: usize = 48;
 
 // The bytes before the frame's.
