@@ -63,8 +63,7 @@ fn place_of(t: u8) -> usize
 // ---- read and changed by itself
 
 // The settings.
-pub fn settings_in(own: &[u8]) -> Settings
-    requires { length own.now ≡ remnant_size }
+pub fn settings_in(own: &[u8; SIZE]) -> Settings
     ensures { result ≡ settings_in own.now }
 {
     Settings {
@@ -76,40 +75,37 @@ pub fn settings_in(own: &[u8]) -> Settings
 }
 
 // The current view.
-pub fn view_in(own: &[u8]) -> u32
-    requires { length own.now ≡ remnant_size }
+pub fn view_in(own: &[u8; SIZE]) -> u32
     ensures { result ≡ view_in own.now }
 {
     wire::number32(own, VIEW)
 }
 
 // The starting plan.
-pub fn plan_in(own: &[u8]) -> u64
-    requires { length own.now ≡ remnant_size }
+pub fn plan_in(own: &[u8; SIZE]) -> u64
     ensures { result ≡ plan_in own.now }
 {
     wire::number64(own, PLAN)
 }
 
 // What stands in slot t.
-pub fn slot_in(own: &[u8], t: u8) -> Report
-    requires { (length own.now ≡ remnant_size) × (t < remnant_slots) }
+pub fn slot_in(own: &[u8; SIZE], t: u8) -> Report
+    requires { t < remnant_slots }
     ensures { result ≡ own_in own.now t }
 {
     record::slot_at(own, place_of(t))
 }
 
 // Puts slot t.
-pub fn put_in(own: &mut [u8], t: u8, x: Report)
-    requires { (length own.old ≡ remnant_size) × (t < remnant_slots) }
+pub fn put_in(own: &mut [u8; SIZE], t: u8, x: Report)
+    requires { t < remnant_slots }
     ensures { Changes (λ r. with_slot r (own_slot r.set.id t) x) own.old own.new }
 {
     record::put_at(own, place_of(t), x);
 }
 
 // Another current view.
-pub fn put_view(own: &mut [u8], w: u32)
-    requires { length own.old ≡ remnant_size }
+pub fn put_view(own: &mut [u8; SIZE], w: u32)
     ensures { Changes (λ r. with_view r w) own.old own.new }
 {
     wire::put(own, VIEW, 4, w as u64);
@@ -148,7 +144,7 @@ fn load_slots(rec: &[u8], id: u8, own: &mut [u8])
     }
 }
 
-// The own part of a record, at the start of the bytes lent for it.
+// The own part of a record, at the start of the bytes lent for it: these are a slice, as a remnant is written to an output of any length.
 pub fn load(rec: &[u8], own: &mut [u8])
     requires { (length rec.now ≡ record_size) × ((decode_record rec.now).set.id < rows) × (remnant_size ≤ length own.old) }
     ensures { own.new ≡ placed own.old 0 (remnant_of (decode_record rec.now)) }
@@ -161,8 +157,8 @@ pub fn load(rec: &[u8], own: &mut [u8])
 // ---- and back
 
 // Puts slot t back.
-pub fn store_slot(own: &[u8], id: u8, t: u8, rec: &mut [u8])
-    requires { (length own.now ≡ remnant_size) × (id < rows) × (t < remnant_slots) × (length rec.old ≡ record_size) }
+pub fn store_slot(own: &[u8; SIZE], id: u8, t: u8, rec: &mut [u8])
+    requires { (id < rows) × (t < remnant_slots) × (length rec.old ≡ record_size) }
     ensures { HoldsRecord rec.new (with_slot (decode_record rec.old) (own_slot id t) (own_in own.now t)) }
 {
     let to = record::place_of(own_slot(id, t));
@@ -170,7 +166,7 @@ pub fn store_slot(own: &[u8], id: u8, t: u8, rec: &mut [u8])
 }
 
 // Puts an own part back: its view, and all of its slots. Settings and starting plan are there.
-pub fn store(own: &[u8], id: u8, rec: &mut [u8])
+pub fn store(own: &[u8; SIZE], id: u8, rec: &mut [u8])
     requires { Fitting rec.old id own.now }
     ensures { HoldsRecord rec.new (over (heard_in rec.old) own.now) }
 {

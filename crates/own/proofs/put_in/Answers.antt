@@ -3,6 +3,7 @@
 use Prim.Native.Nat.{ℕ}
 use mathlib.Core.Path.{sym, subst, ap, ◌∙◌}
 use mathlib.Core.List.{List}
+use native.Mathlib.Omega.{arith}
 use Rattle.wire.specs.Placed.{placed}
 use Rattle.record.specs.Layout.{slot_bytes}
 use Rattle.record.specs.inside.Slots.{with_slot}
@@ -19,4 +20,4 @@ returns c =
     let x = c.args.x in
     let put = c.put_at.ensures ∙ ap (λ (at : ℕ). placed o at (slot_bytes x)) c.place_of.ensures.0 in
     subst (λ (l : List ℕ). Changes (λ r. with_slot r (own_slot r.set.id t) x) o l) (sym put)
-    (slot_changes o c.requires.0 t c.requires.1 x (record { mark = search rules; view = search rules; plan = search rules }))
+    (slot_changes o (omega arith) t c.requires x (record { mark = search rules; view = search rules; plan = search rules }))

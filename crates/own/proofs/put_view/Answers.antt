@@ -3,6 +3,7 @@
 use Prim.Native.Nat.{ℕ}
 use mathlib.Core.Path.{sym, subst}
 use mathlib.Core.List.{List}
+use native.Mathlib.Omega.{arith}
 use Rattle.record.specs.inside.Slots.{with_view}
 use Rattle.own.specs.inside.Own.{Changes}
 use Rattle.own.proofs.Changes.{view_changes}
@@ -13,4 +14,4 @@ pub returns : goal.returns
 returns c =
     let o = c.args.own.now in
     let w = c.args.w in
-    subst (λ (l : List ℕ). Changes (λ r. with_view r w) o l) (sym c.put.ensures) (view_changes o c.requires w (search rules))
+    subst (λ (l : List ℕ). Changes (λ r. with_view r w) o l) (sym c.put.ensures) (view_changes o (omega arith) w (search rules))

@@ -1,5 +1,7 @@
 -- `own::store_slot` meets its contract: thirteen bytes copied to the slot's place.
 -- Assumes nothing.
+use native.Mathlib.Omega.{arith}
+use borrow.Author.Rules.{rules}
 use Rattle.own.proofs.Stored.{slot_stored}
 use Rattle.own.proofs.store_slot.Goals as goal
 
@@ -8,6 +10,6 @@ returns c =
     let a = c.args in
     let own = c.own_slot.ensures in
     slot_stored a.own.now a.rec.now a.id a.t
-    (λ i. (c.type_inv.own i).fits) c.requires.0 c.requires.3 own.0 own.1
+    (λ i. search rules) (omega arith) c.requires.2 own.0 own.1
     c.place_of-to.ensures.0 c.place_of.ensures
     c.copy.ensures
