@@ -99,8 +99,8 @@ pub fn slot_of_previous(kind: u8) -> u8
 }
 
 // Moves the own kept vote to the previous one, where a new vote of that kind for a plan moves it.
-fn shift(part: &mut [u8], kind: u8, p: u64)
-    requires { (length part.old ≡ remnant_size) × (1 ≤ kind) × (kind ≤ 5) }
+fn shift(part: &mut [u8; own::SIZE], kind: u8, p: u64)
+    requires { (1 ≤ kind) × (kind ≤ 5) }
     ensures { Changes (λ r. shifted_slots r kind p) part.old part.new }
 {
     let slot = own::slot_in(part, slot_of_kind(kind));
@@ -138,8 +138,8 @@ fn decide_in(part: &mut [u8; own::SIZE], p: u64) -> Entries
 }
 
 // The reports of the own suggest or proof: the highest and the previous own vote of the kind `claim`, and the highest of the kind `lock`.
-fn reports_of(part: &[u8], claim: u8, lock: u8) -> Reports
-    requires { (length part.now ≡ remnant_size) × (2 ≤ claim) × (claim ≤ 3) × (1 ≤ lock) × (lock ≤ 8) }
+fn reports_of(part: &[u8; own::SIZE], claim: u8, lock: u8) -> Reports
+    requires { (2 ≤ claim) × (claim ≤ 3) × (1 ≤ lock) × (lock ≤ 8) }
     ensures { result ≡ reports_in part.now claim lock }
 {
     let highest = own::slot_in(part, slot_of_kind(claim));
@@ -161,8 +161,8 @@ fn leader_in(w: u32, n: u8) -> u8
 }
 
 // Keeps the own suggest or proof of a view.
-fn keep_told(part: &mut [u8], kind: u8, w: u32, t: Reports)
-    requires { (length part.old ≡ remnant_size) × (7 ≤ kind) × (kind ≤ 8) }
+fn keep_told(part: &mut [u8; own::SIZE], kind: u8, w: u32, t: Reports)
+    requires { (7 ≤ kind) × (kind ≤ 8) }
     ensures { Changes (λ r. keep_frame r r.set.id (told kind r.set.id w t)) part.old part.new }
 {
     let first = own::REPORTS + 3 * (kind - numbers::SUGGEST);
@@ -176,8 +176,8 @@ fn keep_told(part: &mut [u8], kind: u8, w: u32, t: Reports)
 }
 
 // To enter a view, with the own reports as they are before it: the suggest is kept where the vault leads the view, and sent elsewhere.
-fn tell_in(part: &mut [u8], set: Settings, w: u32, proof: Reports, suggest: Reports) -> Entries
-    requires { (length part.old ≡ remnant_size) × (set ≡ settings_in part.old) × (0 < set.n) × Tell part.old proof suggest }
+fn tell_in(part: &mut [u8; own::SIZE], set: Settings, w: u32, proof: Reports, suggest: Reports) -> Entries
+    requires { (set ≡ settings_in part.old) × (0 < set.n) × Tell part.old proof suggest }
     ensures { Does (some (enter w)) part.old part.new result }
 {
     let millis = settings::timer_millis(set.class);

@@ -10,4 +10,4 @@ pub tell_in-requires : goal.tell_in-requires
 tell_in-requires c =
     let set = c.settings_in-set.ensures in
     let some = subst (λ (x : Settings). 0 < x.n) (sym set) c.requires in
-    (search rules, set, some, record { proofs = c.reports_of-proof.ensures; suggests = c.reports_of-suggest.ensures })
+    (set, some, record { proofs = c.reports_of-proof.ensures; suggests = c.reports_of-suggest.ensures })

@@ -13,7 +13,7 @@ use Rattle.steps.proofs.shift.Goals.{Else-not-vote_moves}
 pub returns-then-not-vote_moves : goal.returns-then-not-vote_moves
 returns-then-not-vote_moves c =
     let slot = c.slot_in-slot.ensures ∙ ap (own_in c.args.part.now) c.slot_of_kind.ensures in
-    shift_stays c.args.part.now c.requires.0 c.args.kind c.args.p c.requires.1 c.requires.2 slot
+    shift_stays c.args.part.now (omega arith) c.args.kind c.args.p c.requires.0 c.requires.1 slot
     (off c.vote_moves.ensures c.if-not-vote_moves.true)
 
 -- Only vote-1 and vote-2 move.
@@ -28,12 +28,12 @@ slot_of_previous-requires c = moved (goal.at.slot_of_previous-requires c).Else-n
 
 pub put_in-requires : goal.put_in-requires
 put_in-requires c =
-    (c.requires.0, omega (arith, c.slot_of_previous.ensures, (moved (goal.at.put_in-requires c).Else-not-vote_moves).1))
+    omega (arith, c.slot_of_previous.ensures, (moved (goal.at.put_in-requires c).Else-not-vote_moves).1)
 
 pub returns : goal.returns
 returns c =
     let slot = c.slot_in-slot.ensures ∙ ap (own_in c.args.part.now)
     c.slot_of_kind.ensures in
-    shift_moves c.args.part.now c.requires.0 c.args.kind c.args.p c.requires.1 c.requires.2 slot
+    shift_moves c.args.part.now (omega arith) c.args.kind c.args.p c.requires.0 c.requires.1 slot
     (on c.vote_moves.ensures c.if-not-vote_moves.false)
     (put_as _ c.slot_of_previous.ensures c.put_in.ensures)
