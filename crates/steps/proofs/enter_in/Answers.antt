@@ -3,7 +3,6 @@
 use Prim.Native.Nat.{◌<◌}
 use mathlib.Core.Path.{sym, subst}
 use Rattle.settings.specs.declared.Settings.{Settings}
-use borrow.Author.Rules.{rules}
 use Rattle.steps.proofs.enter_in.Goals as goal
 
 pub tell_in-requires : goal.tell_in-requires
