@@ -42,7 +42,7 @@ fn load(rec: &[u8]) -> Own
 }
 
 // Puts back what sending vote-k changed: the vote and, of vote-1 and vote-2, the previous one.
-fn store_vote(part: &[u8], id: u8, k: u8, rec: &mut [u8])
+fn store_vote(part: &[u8; own::SIZE], id: u8, k: u8, rec: &mut [u8])
     requires { PartBut (AtVote id k) rec.old id part.now × (k ≤ 4) }
     ensures { HoldsRecord rec.new (over (heard_in rec.old) part.now) }
 {

@@ -13,7 +13,6 @@ use Rattle.pass.proofs.run_ask.Goals as goal
 pub store_slot-requires : goal.store_slot-requires
 unfolding act_at
 store_slot-requires c = (
-  c.step_a-left.ensures.size,
   subst (λ (i : ℕ). i < rows) (sym c.requires.0.own)
       (ready_row c.requires.0.ready),
   omega arith,
