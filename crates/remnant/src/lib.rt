@@ -52,8 +52,8 @@ pub fn write_remnant(rec: &[u8], out: &mut [u8]) -> Result<usize, Refusal>
 // ---- restart
 
 // Whether a remnant makes a sound record. Settings that are refused make none; they are tested first, as their id may have no row.
-fn makes_sound(remnant: &[u8], set: Settings) -> bool
-    requires { (length remnant.now ≡ remnant_size) × (set ≡ settings_in remnant.now) }
+fn makes_sound(remnant: &[u8; SIZE], set: Settings) -> bool
+    requires { set ≡ settings_in remnant.now }
     ensures { result ≡ is_sound (lent_is (encode_record (restored remnant.now))) }
 {
     if settings::settings_refusal(set).is_err() {
@@ -63,7 +63,7 @@ fn makes_sound(remnant: &[u8], set: Settings) -> bool
 }
 
 // The record that a remnant makes. What the lent bytes held is cleared.
-fn rebuild(rec: &mut [u8], remnant: &[u8], set: Settings)
+fn rebuild(rec: &mut [u8], remnant: &[u8; SIZE], set: Settings)
     requires { (length rec.old ≡ record_size) × Fitting remnant.now set }
     ensures { rec.new ≡ encode_record (restored remnant.now) }
 {
@@ -73,7 +73,7 @@ fn rebuild(rec: &mut [u8], remnant: &[u8], set: Settings)
 }
 
 // Makes the record, and enters its current view with a timer entry.
-fn come_back(rec: &mut [u8], remnant: &[u8], set: Settings, out: &mut [u8]) -> usize
+fn come_back(rec: &mut [u8], remnant: &[u8; SIZE], set: Settings, out: &mut [u8]) -> usize
     requires { (length rec.old ≡ record_size) × Fitting remnant.now set × (256 ≤ length out.old) }
     ensures { wrote result rec.new out.new ≡ made_back (restored remnant.now) out.old }
 {
@@ -97,12 +97,12 @@ pub fn restart(rec: &mut [u8], remnant: &[u8], out: &mut [u8]) -> Result<usize, 
     if held.n != 0 {
         return Err(Refusal::Started);
     }
-    if remnant.len() != SIZE {
+    let Ok(part) = <&[u8; SIZE]>::try_from(remnant) else {
         return Err(Refusal::RemnantLength);
-    }
-    let set = own::settings_in(remnant);
-    if !makes_sound(remnant, set) {
+    };
+    let set = own::settings_in(part);
+    if !makes_sound(part, set) {
         return Err(Refusal::RemnantUnsound);
     }
-    Ok(come_back(rec, remnant, set, out))
+    Ok(come_back(rec, part, set, out))
 }

@@ -16,7 +16,7 @@ use settings::Settings;
 // ---- the frame of a kind
 
 // The three reports of the own suggest or proof.
-fn reports_in(own: &[u8], kind: u8) -> Reports
+fn reports_in(own: &[u8; own::SIZE], kind: u8) -> Reports
     requires { (7 ≤ kind) × Kind own.now kind }
     ensures { result ≡ reports_in (row_in own.now) kind (id_in own.now) }
 {
@@ -32,7 +32,7 @@ fn reports_in(own: &[u8], kind: u8) -> Reports
 }
 
 // What follows the head of the own frame, by its kind.
-fn body_in(own: &[u8], kind: u8, head: Report) -> Body
+fn body_in(own: &[u8; own::SIZE], kind: u8, head: Report) -> Body
     requires { Kind own.now kind × Head own.now kind head }
     ensures { result ≡ body_in (row_in own.now) kind (id_in own.now) }
 {
@@ -46,7 +46,7 @@ fn body_in(own: &[u8], kind: u8, head: Report) -> Body
 }
 
 // The own frame of a kind.
-fn frame_in(own: &[u8], id: u8, kind: u8, head: Report) -> Frame
+fn frame_in(own: &[u8; own::SIZE], id: u8, kind: u8, head: Report) -> Frame
     requires { (id ≡ id_in own.now) × Kind own.now kind × Head own.now kind head }
     ensures { result ≡ frame_held (row_in own.now) kind (id_in own.now) }
 {
@@ -93,7 +93,7 @@ fn no_plan(kind: u8, plan: u64) -> bool
 }
 
 // Nothing is kept of a kind: neither a frame nor a report.
-fn empty_at(own: &[u8], kind: u8, head: Report) -> bool
+fn empty_at(own: &[u8; own::SIZE], kind: u8, head: Report) -> bool
     requires { Kind own.now kind × Head own.now kind head }
     ensures { result ≡ empty_at (row_in own.now) kind (id_in own.now) }
 {
@@ -114,7 +114,7 @@ fn empty_at(own: &[u8], kind: u8, head: Report) -> bool
 }
 
 // What stands for a kind is a sound frame, or nothing at all.
-fn place_sound(own: &[u8], set: Settings, view: u32, kind: u8) -> bool
+fn place_sound(own: &[u8; own::SIZE], set: Settings, view: u32, kind: u8) -> bool
     requires { Fitting own.now set × (1 ≤ kind) × (kind ≤ 8) }
     ensures { result ≡ place_sound (row_in own.now) set view kind set.id }
 {
@@ -131,7 +131,7 @@ fn place_sound(own: &[u8], set: Settings, view: u32, kind: u8) -> bool
 // ---- the row
 
 // The eight kinds.
-fn frames_sound(own: &[u8], set: Settings, view: u32) -> bool
+fn frames_sound(own: &[u8; own::SIZE], set: Settings, view: u32) -> bool
     requires { Fitting own.now set }
     ensures { result ≡ all (λ k. place_sound (row_in own.now) set view (k + 1) set.id) kinds }
 {
@@ -144,8 +144,8 @@ fn frames_sound(own: &[u8], set: Settings, view: u32) -> bool
 }
 
 // The own previous vote of a kind (2 is vote-1, 3 is vote-2) against the own kept one.
-fn previous_sound(own: &[u8], kind: u8) -> bool
-    requires { (2 ≤ kind) × (kind ≤ 3) × (length own.now ≡ remnant_size) × (id_in own.now < rows) }
+fn previous_sound(own: &[u8; own::SIZE], kind: u8) -> bool
+    requires { (2 ≤ kind) × (kind ≤ 3) × (id_in own.now < rows) }
     ensures { result ≡ previous_sound (row_in own.now) (id_in own.now) kind }
 {
     let highest = own::slot_in(own, kind - 1);
@@ -154,8 +154,8 @@ fn previous_sound(own: &[u8], kind: u8) -> bool
 }
 
 // The own previous votes and the decision.
-fn votes_sound(own: &[u8]) -> bool
-    requires { (length own.now ≡ remnant_size) × (id_in own.now < rows) }
+fn votes_sound(own: &[u8; own::SIZE]) -> bool
+    requires { id_in own.now < rows }
     ensures { result ≡ votes_sound (row_in own.now) (id_in own.now) }
 {
     if !previous_sound(own, numbers::VOTE_1) {
@@ -168,7 +168,7 @@ fn votes_sound(own: &[u8]) -> bool
 }
 
 // Whether a remnant whose settings pass makes a sound record.
-pub fn is_sound(own: &[u8], set: Settings) -> bool
+pub fn is_sound(own: &[u8; own::SIZE], set: Settings) -> bool
     requires { Fitting own.now set }
     ensures { result ≡ is_sound (lent_is (encode_record (restored own.now))) }
 {

@@ -2,6 +2,7 @@
 -- Assumes nothing.
 use mathlib.Core.Path.{ap, sym, ◌∙◌}
 use mathlib.Core.Bool.{not}
+use native.Mathlib.Omega.{arith}
 use Rattle.frame.specs.declared.Report.{Report}
 use Rattle.frame.specs.Refusal.{bad_form}
 use Rattle.sound.proofs.Laws.{off, on, votes_first, votes_second, votes_decision}
@@ -23,6 +24,6 @@ returns-then-not-previous_sound-2 c =
 pub returns : goal.returns
 returns c =
     let own = c.args.own.now in
-    c.well_formed-2.ensures ∙ ap (λ (x : Report). not (bad_form x)) (c.slot_in.ensures ∙ decision_there own c.requires.0 c.requires.1)
+    c.well_formed-2.ensures ∙ ap (λ (x : Report). not (bad_form x)) (c.slot_in.ensures ∙ decision_there own (omega arith) c.requires)
     ∙ sym (votes_decision (row_in own) (id_in own) (on c.previous_sound.ensures c.if-not-previous_sound.false)
     (on c.previous_sound-2.ensures c.if-not-previous_sound-2.false))
