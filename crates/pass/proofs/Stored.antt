@@ -83,7 +83,7 @@ module _ (r t : Record) (a : ℕ) {d : ℕ → Type 0} (h : SameBut d r t) (only
 
 -- ---- of an own part
 
-module _ (rec : List ℕ) (id : ℕ) (s : List ℕ) {d : ℕ → Type 0} (p : PartBut d rec id s) where
+module _ (rec : List ℕ) (id : ℕ) (s : List ℕ) (long : length s ≡ remnant_size) {d : ℕ → Type 0} (p : PartBut d rec id s) where
   -- The record that it makes.
   abbrev target : Record
   target = over (heard_in rec) s
@@ -95,7 +95,7 @@ module _ (rec : List ℕ) (id : ℕ) (s : List ℕ) {d : ℕ → Type 0} (p : Pa
   -- What its slot t holds is what the target holds at its place.
   held : (t : ℕ) → t < remnant_slots → own_in s t ≡ slot_of target (part.own_slot id t)
   held t low =
-      sym (slot_over s p.fits.long (subst (λ (i : ℕ). i < rows) named p.fits.row) (heard_in rec) t low)
+      sym (slot_over s long (subst (λ (i : ℕ). i < rows) named p.fits.row) (heard_in rec) t low)
       ∙ ap (λ (i : ℕ). slot_of target (part.own_slot i t)) (sym named)
 
   -- Where they differ in one slot, that is put back.
@@ -118,7 +118,7 @@ module _ (rec : List ℕ) (id : ℕ) (s : List ℕ) {d : ℕ → Type 0} (p : Pa
       ∙ same_both (decode_record rec) target (part.own_slot id t) (part.own_slot id u) p.same only)
 
 -- A vote's slot, and that of the previous vote, as the code puts them back.
-module _ (rec : List ℕ) (id k : ℕ) (s : List ℕ) (p : PartBut (AtVote id k) rec id s) (low : k ≤ 4) where
+module _ (rec : List ℕ) (id k : ℕ) (s : List ℕ) (long : length s ≡ remnant_size) (p : PartBut (AtVote id k) rec id s) (low : k ≤ 4) where
   -- The vote's own slot.
   vote_at : part.own_slot id k ≡ frame_slot (k + 1) id
   vote_at = own_head id k (omega arith) ∙ omega arith
@@ -126,7 +126,7 @@ module _ (rec : List ℕ) (id k : ℕ) (s : List ℕ) (p : PartBut (AtVote id k)
   -- A vote without a previous one.
   pub vote_stored : {left : List ℕ} → ¬ ((1 ≤ k) × (k ≤ 2)) → HoldsRecord left (with_slot (decode_record rec) (part.own_slot id k) (own_in s k))
       → HoldsRecord left (over (heard_in rec) s)
-  vote_stored none = stored_one rec id s p k (omega arith) only
+  vote_stored none = stored_one rec id s long p k (omega arith) only
     where
       only : (i : ℕ) → AtVote id k i → i ≡ part.own_slot id k
       only i (inl e) = e ∙ sym vote_at
@@ -136,7 +136,7 @@ module _ (rec : List ℕ) (id k : ℕ) (s : List ℕ) (p : PartBut (AtVote id k)
   pub votes_stored : {at : ℕ} {first left : List ℕ} → 1 ≤ k → k ≤ 2 → at ≡ k + 1 + 12 → HoldsRecord first
       (with_slot (decode_record rec) (part.own_slot id k) (own_in s k))
       → HoldsRecord left (with_slot (decode_record first) (part.own_slot id at) (own_in s at)) → HoldsRecord left (over (heard_in rec) s)
-  votes_stored {at} one two ea = stored_two rec id s p k at (omega arith) (omega arith) only
+  votes_stored {at} one two ea = stored_two rec id s long p k at (omega arith) (omega arith) only
     where
       previous_at : part.own_slot id at ≡ previous_slot (k + 1)
       previous_at = own_last id at (omega (arith, ea, one)) ∙ omega (arith, ea, one)
@@ -192,12 +192,11 @@ module _ (r : Record) (k p : ℕ) where
 -- ---- what an act left
 
 -- What an act leaves has the settings and the starting plan of the record, so its own part fits.
-pub fits_left : (rec : List ℕ) (id : ℕ) (t : List ℕ) {o : Out} {e : Entries} → Ready rec → id ≡ (decode_record rec).set.id → length t ≡ remnant_size
+pub fits_left : (rec : List ℕ) (id : ℕ) (t : List ℕ) {o : Out} {e : Entries} → Ready rec → id ≡ (decode_record rec).set.id
     → Did o (over (heard_in rec) t) e → o.left.set ≡ (contents_in rec).set → o.left.start ≡ (contents_in rec).start → Fitting rec id t
 unfolding over contents
-fits_left rec id t h own long did set start = record {
+fits_left rec id t h own did set start = record {
   size = h.size;
-  long = long;
   own = own;
   row = subst (λ (i : ℕ). i < rows) (sym own) (ready_row h);
   set = ap (λ (x : protocol.Record). x.set) did.left ∙ set;
@@ -208,7 +207,7 @@ fits_left rec id t h own long did set start = record {
 same_clean : (r t : Record) → Clean r → Clean t → contents r ≡ contents t → r ≡ t
 same_clean r t a b e = sym (slotted_contents r a) ∙ ap slotted e ∙ slotted_contents t b
 
-module _ (rec : List ℕ) (h : Ready rec) (id : ℕ) (own : id ≡ (decode_record rec).set.id) (t : List ℕ) (long : length t ≡ remnant_size) where
+module _ (rec : List ℕ) (h : Ready rec) (id : ℕ) (own : id ≡ (decode_record rec).set.id) (t : List ℕ) where
   -- The record before the act.
   abbrev r : Record
   r = decode_record rec
@@ -217,7 +216,7 @@ module _ (rec : List ℕ) (h : Ready rec) (id : ℕ) (own : id ≡ (decode_recor
   part_left : (a : Act) (left : Record) {d : ℕ → Type 0} {e : Entries} → Clean left → contents left ≡ (taken (contents_in rec) (some a)).left → SameBut d r left
       → Did (taken (contents_in rec) (some a)) (over (heard_in rec) t) e → PartBut d rec id t
   part_left a left {d} clean is but did = record {
-    fits = fits_left rec id t h own long did (taken_set (contents_in rec) (some a)) (taken_start (contents_in rec) (some a));
+    fits = fits_left rec id t h own did (taken_set (contents_in rec) (some a)) (taken_start (contents_in rec) (some a));
     same = subst (SameBut d r) (same_clean left (over (heard_in rec) t) clean did.clean (is ∙ sym did.left)) but;
   }
 

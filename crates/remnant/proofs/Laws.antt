@@ -92,7 +92,6 @@ fresh_held s rec {set} f ep held =
     record {
       fits = record {
         size = held.size;
-        long = f.size;
         own = ap (λ (x : Settings). x.id) (sym es);
         row = own_row set f.good;
         set = sym f.is ∙ sym es;

@@ -176,7 +176,13 @@ fn keep_told(part: &mut [u8; own::SIZE], kind: u8, w: u32, t: Reports)
 }
 
 // To enter a view, with the own reports as they are before it: the suggest is kept where the vault leads the view, and sent elsewhere.
-fn tell_in(part: &mut [u8; own::SIZE], set: Settings, w: u32, proof: Reports, suggest: Reports) -> Entries
+fn tell_in(
+    part: &mut [u8; own::SIZE],
+    set: Settings,
+    w: u32,
+    proof: Reports,
+    suggest: Reports,
+) -> Entries
     requires { (set ≡ settings_in part.old) × (0 < set.n) × Tell part.old proof suggest }
     ensures { Does (some (enter w)) part.old part.new result }
 {

@@ -60,7 +60,6 @@ pub record Changes (f : Record → Record) (s t : List ℕ) : Type 0 where
 -- An own part that says the settings and the starting plan of a record.
 pub record Fitting (rec : List ℕ) (id : ℕ) (s : List ℕ) : Type 0 where
   pub size : length rec ≡ record_size
-  pub long : length s ≡ remnant_size
   pub own : id ≡ (decode_record rec).set.id
   pub row : id < rows
   pub set : settings_in s ≡ (decode_record rec).set

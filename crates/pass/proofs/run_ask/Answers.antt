@@ -30,10 +30,10 @@ pub returns : goal.returns
 unfolding act_at
 returns c =
     let held = stored_one c.args.rec.now c.args.id
-    c.step_a-left.result.bytes
+    c.step_a-left.result.bytes c.step_a-left.ensures.size
     (ask_left c.args.rec.now c.requires.0.ready c.args.id c.requires.0.own
     c.step_a-left.result.bytes
-    c.step_a-left.ensures.size c.args.w
+    c.args.w
     (did_act 0 c.args.rec.now c.requires.0
     c.load.ensures
     c.step_a-left.result.bytes

@@ -8,7 +8,7 @@ use Rattle.pass.proofs.run_cast.Goals as goal
 pub store_vote-requires : goal.store_vote-requires
 store_vote-requires c = (
   cast_left c.args.rec.now c.requires.0.ready c.args.id c.requires.0.own c.step_cast-left.result.bytes
-      c.step_cast-left.ensures.size c.args.k c.args.p c.requires.1
+      c.args.k c.args.p c.requires.1
       (did_act (c.args.k + 2) c.args.rec.now c.requires.0 c.load.ensures
       c.step_cast-left.result.bytes c.step_cast-left.ensures),
   c.requires.1,

@@ -30,10 +30,10 @@ pub returns : goal.returns
 unfolding act_at
 returns c =
     let held = stored_one c.args.rec.now c.args.id
-    c.step_h-left.result.bytes
+    c.step_h-left.result.bytes c.step_h-left.ensures.size
     (decide_left c.args.rec.now c.requires.0.ready c.args.id c.requires.0.own
     c.step_h-left.result.bytes
-    c.step_h-left.ensures.size c.args.p
+    c.args.p
     (did_act 7 c.args.rec.now c.requires.0
     c.load.ensures
     c.step_h-left.result.bytes

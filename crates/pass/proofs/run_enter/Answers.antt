@@ -14,7 +14,6 @@ pub store-requires : goal.store-requires
 unfolding act_at
 store-requires c =
     fits_left c.args.rec.now c.args.id c.step_b-left.result.bytes c.requires.0.ready c.requires.0.own
-    c.step_b-left.ensures.size
     (did_step 1 c.args.rec.now c.requires.0 c.load.ensures
     c.step_b-left.result.bytes c.step_b-left.ensures)
     (step_set 1 (contents_in c.args.rec.now)) (step_start 1 (contents_in c.args.rec.now))

@@ -1,7 +1,6 @@
 -- `remnant::makes_sound` meets its contract: settings that are refused make no sound record.
 -- Assumes nothing.
 use mathlib.Core.Path.{sym, ap, ◌∙◌}
-use native.Mathlib.Omega.{arith}
 use Rattle.frame.specs.Refusal.{first}
 use Rattle.frame.proofs.Laws.{told, refuses, passes}
 use Rattle.settings.specs.declared.Settings.{Settings}
@@ -18,7 +17,6 @@ returns-then-is_err c =
 pub is_sound-requires : goal.is_sound-requires
 is_sound-requires c =
     record {
-      size = omega arith;
       is = c.requires;
       good = passes _ (told c.is_err.ensures.value c.if-is_err.false) c.settings_refusal.ensures;
     }

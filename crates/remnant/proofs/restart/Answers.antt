@@ -1,13 +1,15 @@
 -- `remnant::restart` meets its contract: 1, 4, 25 and 26 in their order, else the record and its timer entry.
 -- Assumes nothing.
 use Prim.Native.Nat.{ℕ}
+use mathlib.Core.Path.{◌≡◌, ap, ◌∙◌}
+use mathlib.Core.Bool.{Bool}
 use mathlib.Core.List.{List}
-use mathlib.Core.Path.{◌≡◌, ap, subst, ◌∙◌}
-use lib.ListN.{length}
+use Rattle.record.specs.Layout.{encode_record}
+use Rattle.sound.specs.inside.Sound.{lent_is}
 use Rattle.sound.proofs.Laws.{off, on}
-use Rattle.contents.specs.Left.{wrote, gave}
-use Rattle.contents.specs.Remnant.{restart_left}
-use Rattle.remnant.specs.inside.Parts.{Fitting}
+use Rattle.own.specs.Part.{restored}
+use Rattle.contents.specs.Which.{is_sound}
+use Rattle.contents.specs.Remnant.{made_back}
 use Rattle.remnant.proofs.Laws.{back_good, blank_by, restart_short, restart_length, restart_held, remnant_length, remnant_unsound, remnant_taken}
 use Rattle.remnant.proofs.restart.Goals as goal
 
@@ -32,31 +34,32 @@ returns-in_default c =
     let blank = blank_by a.rec.now c.if-rec-ne-SIZE.false c.settings_of-held.ensures c.if-held-ne0.false in
     remnant_length a.rec.now a.remnant.now a.out.now c.if-out-lt-ROOM.false blank c.in_default.ensures.1
 
+-- The array holds the bytes lent: so they make a sound record where it does.
+lent_as : {part lent : List ℕ} {b : Bool} → part ≡ lent → b ≡ is_sound (lent_is (encode_record (restored part)))
+    → b ≡ is_sound (lent_is (encode_record (restored lent)))
+lent_as same is = is ∙ ap (λ (s : List ℕ). is_sound (lent_is (encode_record (restored s)))) same
+
 pub returns-then-not-makes_sound : goal.returns-then-not-makes_sound
 returns-then-not-makes_sound c =
     let a = c.args in
-    let part = c.in-Ok.ensures.1 in
     let blank = blank_by a.rec.now c.if-rec-ne-SIZE.false c.settings_of-held.ensures c.if-held-ne0.false in
-    subst (λ (s : List ℕ). gave 26 a.rec.now a.out.now ≡ restart_left a.rec.now s a.out.now) part.same
-    (remnant_unsound a.rec.now c.in-Ok.part.now a.out.now c.if-out-lt-ROOM.false blank (ap length part.same ∙ part.long)
-    (off c.makes_sound.ensures c.if-not-makes_sound.true))
+    remnant_unsound a.rec.now a.remnant.now a.out.now c.if-out-lt-ROOM.false blank
+    c.in-Ok.ensures.1.long (off (lent_as c.in-Ok.ensures.1.same c.makes_sound.ensures) c.if-not-makes_sound.true)
 
 pub come_back-requires : goal.come_back-requires
-come_back-requires c =
-    let part = c.in-Ok.part.now in
-    let fitting : Fitting part c.settings_in-set.result = record {
-      size = ap length c.in-Ok.ensures.1.same ∙ c.in-Ok.ensures.1.long;
-      is = c.settings_in-set.ensures;
-      good = back_good part c.settings_in-set.ensures (on c.makes_sound.ensures c.if-not-makes_sound.false);
-    } in
-    (c.if-rec-ne-SIZE.false, fitting, c.if-out-lt-ROOM.false)
+come_back-requires c = (
+  c.if-rec-ne-SIZE.false,
+  record {
+    is = c.settings_in-set.ensures;
+    good = back_good _ c.settings_in-set.ensures (on c.makes_sound.ensures c.if-not-makes_sound.false);
+  },
+  c.if-out-lt-ROOM.false,
+)
 
 pub returns : goal.returns
 returns c =
     let a = c.args in
-    let part = c.in-Ok.ensures.1 in
     let blank = blank_by a.rec.now c.if-rec-ne-SIZE.false c.settings_of-held.ensures c.if-held-ne0.false in
-    subst (λ (s : List ℕ). wrote c.come_back.result c.come_back.new.rec c.come_back.new.out ≡ restart_left a.rec.now s a.out.now) part.same
-    (c.come_back.ensures
-    ∙ remnant_taken a.rec.now c.in-Ok.part.now a.out.now c.if-out-lt-ROOM.false blank (ap length part.same ∙ part.long)
-    (on c.makes_sound.ensures c.if-not-makes_sound.false))
+    c.come_back.ensures ∙ ap (λ (s : List ℕ). made_back (restored s) a.out.now) c.in-Ok.ensures.1.same
+    ∙ remnant_taken a.rec.now a.remnant.now a.out.now c.if-out-lt-ROOM.false blank
+    c.in-Ok.ensures.1.long (on (lent_as c.in-Ok.ensures.1.same c.makes_sound.ensures) c.if-not-makes_sound.false)

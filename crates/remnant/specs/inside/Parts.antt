@@ -1,6 +1,6 @@
 -- What the code of a restart goes by: the row that a remnant holds, and when its settings pass.
 -- Assumes nothing.
-use Rattle.std.specs.Prelude.{ℕ, ◌≤◌, ◌<◌, ◌≡◌, not, List, [], ◌∷◌, ltb, length}
+use Rattle.std.specs.Prelude.{ℕ, ◌≤◌, ◌<◌, ◌≡◌, not, List, [], ◌∷◌, ltb}
 use Rattle.frame.specs.declared.Report.{Report}
 use Rattle.frame.specs.Refusal.{row, first}
 use Rattle.settings.specs.declared.Settings.{Settings}
@@ -26,15 +26,13 @@ id_in s = (settings_in s).id
 abbrev pub row_in : List ℕ → ℕ → Report
 row_in s = slot_of (restored s)
 
--- A remnant of its length, and its settings, which pass 5 to 8.
+-- A remnant's settings, which pass 5 to 8.
 pub record Fitting (s : List ℕ) (set : Settings) : Type 0 where
-  pub size : length s ≡ remnant_size
   pub is : set ≡ settings_in s
   pub good : first (setting_rows set) ≡ 0
 
 -- A remnant of a vault that has a row, and a kind of frames.
 pub record Kind (s : List ℕ) (kind : ℕ) : Type 0 where
-  pub size : length s ≡ remnant_size
   pub row : id_in s < rows
   pub low : 1 ≤ kind
   pub high : kind ≤ 8

@@ -1,6 +1,7 @@
 -- `row::place_sound` meets its contract: by the mark of the frame's slot, then its plan, then the frame.
 -- Assumes nothing.
 use mathlib.Core.Path.{ap, ◌∙◌}
+use native.Mathlib.Omega.{arith}
 use Rattle.settings.specs.declared.Settings.{Settings}
 use Rattle.sound.proofs.Laws.{off, on}
 use Rattle.remnant.specs.inside.Parts.{Kind, Head}
@@ -13,12 +14,12 @@ use Rattle.remnant.proofs.row.place_sound.Goals.{After-slot_in-head}
 kind : (c : After-slot_in-head) → Kind c.args.own.now c.args.kind
 kind c =
     let p = c.requires in
-    record { size = p.0.size; row = fitting_row _ p.0; low = p.1; high = p.2 }
+    record { row = fitting_row _ p.0; low = p.1; high = p.2 }
 
 head : (c : After-slot_in-head) → Head c.args.own.now c.args.kind c.slot_in-head.result
 head c =
     let k = kind c in
-    record { is = c.slot_in-head.ensures ∙ head_there c.args.own.now k.size k.row c.args.kind k.low k.high }
+    record { is = c.slot_in-head.ensures ∙ head_there c.args.own.now (omega arith) k.row c.args.kind k.low k.high }
 
 pub empty_at-requires : goal.empty_at-requires
 empty_at-requires c = (kind (goal.at.empty_at-requires c).After-slot_in-head, head (goal.at.empty_at-requires c).After-slot_in-head)

@@ -11,7 +11,7 @@ pub returns : goal.returns
 returns c =
     let a = c.args in
     let k = c.requires.1 in
-    let three = reports_there a.own.now k.size k.row a.kind c.requires.0 k.high in
+    let three = reports_there a.own.now (omega arith) k.row a.kind c.requires.0 k.high in
     let first = ap (own_in a.own.now) (sym (add-zero _)) ∙ three 0 (omega arith) in
     let highest = c.slot_in-highest.ensures ∙ first in
     let previous = c.slot_in-previous.ensures ∙ three 1 (omega arith) in
