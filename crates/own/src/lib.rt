@@ -5,7 +5,7 @@
 ghost use Rattle.std.specs.Prelude.{◌≡◌, ◌+◌, ◌≤◌, ◌<◌, length, take, drop};
 ghost use Rattle.wire.specs.Placed.{placed};
 ghost use Rattle.record.specs.Slots.{rows, slot_count};
-ghost use Rattle.record.specs.Layout.{head_size, slot_size, decode_record};
+ghost use Rattle.record.specs.Layout.{slot_size, decode_record};
 ghost use Rattle.record.specs.Size.{record_size};
 ghost use Rattle.record.specs.inside.Slots.{with_slot, with_view};
 ghost use Rattle.record.specs.inside.Layout.{HoldsRecord};

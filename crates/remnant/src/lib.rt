@@ -10,7 +10,6 @@ ghost use Rattle.record.specs.Layout.{encode_record};
 ghost use Rattle.record.specs.Size.{record_size};
 ghost use Rattle.sound.specs.inside.Sound.{lent_is};
 ghost use Rattle.contents.specs.Left.{wrote};
-ghost use Rattle.own.specs.Size.{remnant_size};
 ghost use Rattle.own.specs.Part.{restored};
 ghost use Rattle.own.specs.inside.Own.{settings_in};
 ghost use Rattle.contents.specs.Which.{is_sound};

@@ -1,11 +1,10 @@
 // Whether the record that a remnant makes is sound, told by the remnant's own bytes: that record has the one row that they hold, and nothing is at fault where
 // nothing is kept. So no record is made to be tested.
-ghost use Rattle.std.specs.Prelude.{◌≡◌, not, ◌&&◌, ◌+◌, ◌≤◌, ◌<◌, length, eqb, ltb};
+ghost use Rattle.std.specs.Prelude.{◌≡◌, not, ◌&&◌, ◌+◌, ◌≤◌, ◌<◌, eqb, ltb};
 ghost use Rattle.record.specs.Slots.{rows, kinds};
 ghost use Rattle.record.specs.Layout.{encode_record};
 ghost use Rattle.record.specs.Kept.{reports_in, body_in, frame_held};
 ghost use Rattle.sound.specs.inside.Sound.{all, empty_at, no_plan, frame_sound, place_sound, previous_sound, votes_sound, lent_is};
-ghost use Rattle.own.specs.Size.{remnant_size};
 ghost use Rattle.own.specs.Part.{restored};
 ghost use Rattle.contents.specs.Which.{is_sound};
 ghost use Rattle.remnant.specs.inside.Parts.{id_in, row_in, Fitting, Kind, Head};

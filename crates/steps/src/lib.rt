@@ -2,12 +2,11 @@
 // that part back with the entries. What the vault heard is only read, where the record lies.
 #![tactic(auto)]
 
-ghost use Rattle.std.specs.Prelude.{◌+◌, ◌-◌, ◌≤◌, ◌<◌, ◌≡◌, length, get_or};
+ghost use Rattle.std.specs.Prelude.{◌+◌, ◌-◌, ◌≤◌, ◌<◌, ◌≡◌, get_or};
 ghost use Rattle.std.proofs.Math.Option.{some};
 ghost use Rattle.frame.specs.Refusal.{leader_of};
 ghost use Rattle.record.specs.inside.Kept.{told, keep_frame};
 ghost use Rattle.record.specs.inside.Keeping.{moves, shifted_slots};
-ghost use Rattle.own.specs.Size.{remnant_size};
 ghost use Rattle.own.specs.inside.Own.{settings_in, reports_in, Changes};
 ghost use Rattle.protocol.specs.Pass.{ask, enter, cast, decide};
 ghost use Rattle.protocol.specs.Pass.{act_a, act_b, act_h, step_a, step_b, step_h};
