@@ -107,7 +107,7 @@ fn size_by(to: u8, next: u8) -> usize
     frame_size(next)
 }
 
-// How many bytes the entry at the start of some bytes takes; 0 where no whole entry stands there.
+// How many bytes the entry at the start of some bytes takes; 0 where no whole entry stands there, as the C interface has it (`vault_entry`).
 pub fn size_in(s: &[u8]) -> usize
     ensures { result ≡ size_in s.now }
 {

@@ -58,7 +58,7 @@ impl From<Refusal> for u8 {
     }
 }
 
-// A report of one vote: mark 1 is present; mark 0 is absent, with view and plan 0.
+// A report of one vote: mark 1 is present; mark 0 is absent, with view and plan 0. No option stands for it: any mark is read, and `bad_form` tells a bad one.
 #[derive(Clone, Copy)]
 pub struct Report {
     pub mark: u8,
@@ -102,7 +102,7 @@ pub struct Frame {
     pub body: Body,
 }
 
-// The length of the frames of a kind, 0 where there is no such kind.
+// The length of the frames of a kind, 0 where there is no such kind: so `length_of` in specs/Format, by which row 10 goes.
 pub fn length_of(kind: u8) -> usize
     ensures { result ≡ length_of kind }
 {

@@ -1,6 +1,7 @@
 // The numbers of document 01 by name, as every crate uses them.
 
-// The kinds of frames.
+// The kinds of frames. They stay numbers: the form that document 01 names is a match on the kind byte with ranges, rows of a record lie by
+// kind, and votes are counted up from one to the next. An enum would be cast at each of these places.
 pub const PROPOSAL: u8 = 1;
 
 pub const VOTE_1: u8 = 2;

@@ -70,7 +70,7 @@ pub fn decision_of(bytes: &[u8]) -> Result<Option<Decision>, Refusal>
 
 // ---- sentences
 
-// Copies a text to the start of an output that has room for it, and answers its length; 0 where there is none.
+// Copies a text to the start of an output that has room for it, and answers its length; 0 where there is none, as the C interface has it.
 fn put(out: &mut [u8], text: &[u8]) -> usize
     ensures { Written (fitting text.now (length out.old)) out.old out.new result }
 {

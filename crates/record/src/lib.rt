@@ -24,7 +24,8 @@ pub const HEAD: usize = 8;
 
 pub const SLOT: usize = 13;
 
-// The bytes of the shared part, and of a record. The block is what lies between.
+// The bytes of the shared part, and of a record. The block is what lies between. A record is lent as a slice, and its length stands in the
+// clauses: as an array it was tried, and after a call nothing says that its elements are bytes, which `accepted_left` (crate vault) needs.
 pub const SHARED: usize = 840;
 
 pub const SIZE: usize = 11703;

@@ -45,7 +45,7 @@ pub fn settings_refusal(s: Settings) -> Result<(), Refusal>
     Ok(())
 }
 
-// The delay of a link class; 0 for a class above 7, which refusal 8 keeps out of every record.
+// The delay of a link class; 0 for a class above 7, which refusal 8 keeps out of every record: so `delay_of` in specs/Settings.
 fn delay(class: u8) -> u32
     ensures { result ≡ delay_of class }
 {
