@@ -78,10 +78,7 @@ fn frame(rec: &mut [u8], bytes: &[u8], out: &mut [u8]) -> Result<usize, Refusal>
 fn is_kind(kind: u8, bytes: &[u8]) -> bool
     ensures { result ≡ is_kind kind bytes.now }
 {
-    if bytes.len() == 0 {
-        return false;
-    }
-    bytes[0] == kind
+    bytes.len() != 0 && bytes[0] == kind
 }
 
 // The call that a line's bytes make: 'an empty line is an empty frame'.

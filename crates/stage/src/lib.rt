@@ -60,15 +60,10 @@ pub struct Way {
 pub fn wrong_length(kind: u8, size: usize) -> bool
     ensures { result ≡ wrong_length kind size }
 {
-    if kind == MAKE_UP {
-        if size < NAME_SIZE {
-            return true;
-        }
-        return BYTES < size;
-    }
     match kind {
         START => size != START_SIZE,
         DELIVER => size != DELIVER_SIZE,
+        MAKE_UP => size < NAME_SIZE || BYTES < size,
         _ => size != NAME_SIZE,
     }
 }
@@ -77,10 +72,7 @@ pub fn wrong_length(kind: u8, size: usize) -> bool
 fn byte_at(bytes: &[u8], i: usize) -> u8
     ensures { result ≡ get_or bytes.now i 0 }
 {
-    if i < bytes.len() {
-        return bytes[i];
-    }
-    0
+    if i < bytes.len() { bytes[i] } else { 0 }
 }
 
 // The vault that a line names: behind the frame's number in 01, else behind the kind.
@@ -97,10 +89,7 @@ pub fn vault_in(bytes: &[u8]) -> u8
 pub fn no_vault(bytes: &[u8]) -> bool
     ensures { result ≡ no_vault bytes.now }
 {
-    if byte_at(bytes, 0) == DROP {
-        return false;
-    }
-    LAST_VAULT < vault_in(bytes)
+    byte_at(bytes, 0) != DROP && LAST_VAULT < vault_in(bytes)
 }
 
 // 'naming a frame not waiting'
@@ -138,27 +127,16 @@ fn not_liar(stage: &[u8], bytes: &[u8]) -> bool
     requires { length stage.now ≡ stage_size }
     ensures { result ≡ not_liar stage.now bytes.now }
 {
-    if byte_at(bytes, 0) != MAKE_UP {
-        return false;
-    }
-    !places::is_liar(stage, vault_in(bytes))
+    byte_at(bytes, 0) == MAKE_UP && !places::is_liar(stage, vault_in(bytes))
 }
 
 // 23, whole: 'a line naming a frame not waiting or a vault above 3, declaring a second liar, or making up a frame for a vault not declared'.
+#[tactic(auto, unfolding(crate::specs::Lines::misnamed))]
 fn misnamed(stage: &[u8], bytes: &[u8]) -> bool
     requires { length stage.now ≡ stage_size }
     ensures { result ≡ misnamed stage.now bytes.now }
 {
-    if no_vault(bytes) {
-        return true;
-    }
-    if no_frame(stage, bytes) {
-        return true;
-    }
-    if second_liar(stage, bytes) {
-        return true;
-    }
-    not_liar(stage, bytes)
+    no_vault(bytes) || no_frame(stage, bytes) || second_liar(stage, bytes) || not_liar(stage, bytes)
 }
 
 // A line's refusal, before its call. 'then an empty line or unknown kind gives 9 and a wrong length 10'
