@@ -16,21 +16,6 @@ pub loop-i-init : goal.loop-i-init
 loop-i-init c =
     (c.requires, spelled_first c.args.limit c.args.text.now c.args.bytes.now _ refl (omega arith) (omega arith) c.requires)
 
-pub overflow_mul-i : goal.overflow_mul-i
-overflow_mul-i c = omega arith
-
-pub bounds-text-i : goal.bounds-text-i
-bounds-text-i c = omega arith
-
-pub overflow_mul-i-in-loop-i : goal.overflow_mul-i-in-loop-i
-overflow_mul-i-in-loop-i c = omega arith
-
-pub overflow_add-i : goal.overflow_add-i
-overflow_add-i c = omega arith
-
-pub bounds-text-i-in-loop-i : goal.bounds-text-i-in-loop-i
-bounds-text-i-in-loop-i c = omega arith
-
 pub returns-in_err-high : goal.returns-in_err-high
 returns-in_err-high c =
     let l = c.loop-i in
@@ -48,15 +33,6 @@ returns-in_err-low c =
       omega arith,
     )
 
-pub overflow_mul-bytes : goal.overflow_mul-bytes
-overflow_mul-bytes c = omega arith
-
-pub overflow_add-bytes : goal.overflow_add-bytes
-overflow_add-bytes c = omega arith
-
-pub bounds-bytes-i : goal.bounds-bytes-i
-bounds-bytes-i c = omega arith
-
 pub loop-i-preserved : goal.loop-i-preserved
 loop-i-preserved c =
     let l = c.loop-i in
@@ -65,9 +41,6 @@ loop-i-preserved c =
       l.invariant.0,
       spelled_more _ _ l.bytes _ _ l.i l.invariant.1 c.loop-i-test.true _ _ high.0 low.0 (omega (arith, high.1)) (omega (arith, low.1)),
     )
-
-pub shape_of-bytes : goal.shape_of-bytes
-shape_of-bytes c = omega arith
 
 pub returns : goal.returns
 returns c =

@@ -1,26 +1,11 @@
 -- `lines::put_digits` meets its contract: two digits for each byte; 'Output digits are lower-case'.
 -- The invariant: the digits of the rest, put on what is there, give what is to come out.
 -- Assumes nothing.
-use mathlib.Core.Path.{refl, ◌∙◌}
+use mathlib.Core.Path.{◌∙◌}
 use native.Mathlib.Omega.{arith}
 use lib.ListN.{length-set}
 use Rattle.lines.proofs.Digits.{digits_step, digits_done, length_digits_of}
 use Rattle.lines.proofs.put_digits.Goals as goal
-
-pub loop-b-init : goal.loop-b-init
-loop-b-init c = (omega arith, refl, refl)
-
-pub bounds-page-to : goal.bounds-page-to
-bounds-page-to c = omega arith
-
-pub overflow_add-page : goal.overflow_add-page
-overflow_add-page c = omega arith
-
-pub bounds-page-to-in-loop-b : goal.bounds-page-to-in-loop-b
-bounds-page-to-in-loop-b c = simp length-set (omega arith)
-
-pub overflow_add-to : goal.overflow_add-to
-overflow_add-to c = omega arith
 
 pub loop-b-preserved : goal.loop-b-preserved
 loop-b-preserved c =

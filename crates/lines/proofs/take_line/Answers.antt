@@ -9,9 +9,6 @@ use Rattle.lines.proofs.take_line.Goals as goal
 pub loop-i-init : goal.loop-i-init
 loop-i-init c = taken_none c.args.text.now c.args.len c.args.piece.now c.args.from c.requires.0 c.requires.1
 
-pub bounds-piece-i : goal.bounds-piece-i
-bounds-piece-i c = omega arith
-
 pub shape_of-text-then-b-eq-LINE_END : goal.shape_of-text-then-b-eq-LINE_END
 shape_of-text-then-b-eq-LINE_END c = omega arith
 
@@ -22,9 +19,6 @@ returns-then-b-eq-LINE_END c =
     let end : get_or a.piece.now l.i 0 ≡ 10 = omega (arith, c.if-b-eq-LINE_END.true) in
     let ended = taken_end _ _ _ _ l.text l.to l.i l.invariant c.loop-i-test.true end in
     record { kept_of = ended.0; next_value = ended.1 }
-
-pub keep-to-requires : goal.keep-to-requires
-keep-to-requires c = omega arith
 
 pub loop-i-preserved : goal.loop-i-preserved
 loop-i-preserved c =

@@ -20,15 +20,6 @@ take_line-taken-requires g c =
     let l = c.loop-i in
     (omega (arith, l.invariant.1, l.invariant.3.few), l.invariant.3.within)
 
-pub shape_of-state-then-end-piece : goal.shape_of-state-then-end-piece
-shape_of-state-then-end-piece g c = omega arith
-
-pub shape_of-text-then-end-piece : goal.shape_of-text-then-end-piece
-shape_of-text-then-end-piece g c = omega arith
-
-pub shape_of-page-then-end-piece : goal.shape_of-page-then-end-piece
-shape_of-page-then-end-piece g c = omega arith
-
 pub returns-then-end-piece : goal.returns-then-end-piece
 returns-then-end-piece g c =
     let p = g.L.LineProgram in
@@ -37,12 +28,6 @@ returns-then-end-piece g c =
     let all = feed_end p.program p.sizes l.invariant.3 l.invariant.1 l.invariant.2 t.auto.text t.ensures.kept_of t.ensures.next_value
     c.if-end-piece.true in
     record { fed = all.0; within = all.1 }
-
-pub slice_bounds-answer_line-count : goal.slice_bounds-answer_line-count
-slice_bounds-answer_line-count g c = omega arith
-
-pub slice_bounds-answer_line-start : goal.slice_bounds-answer_line-start
-slice_bounds-answer_line-start g c = omega arith
 
 pub slice_bounds-answer_line-end : goal.slice_bounds-answer_line-end
 slice_bounds-answer_line-end g c = c.take_line-taken.ensures.kept_of.few
@@ -62,10 +47,6 @@ overflow_add-i g c =
     let low = line_within p.program p.sizes l.invariant.3 l.invariant.1 l.invariant.2 t.auto.text t.ensures.kept_of t.ensures.next_value in
     omega (arith, low, c.if-end-piece.false)
 
-pub loop-i-smaller : goal.loop-i-smaller
-loop-i-smaller g c =
-    omega (arith, c.take_line-taken.ensures.next_value, c.loop-i-test.true)
-
 pub loop-i-preserved : goal.loop-i-preserved
 loop-i-preserved g c =
     let p = g.L.LineProgram in
@@ -79,14 +60,8 @@ loop-i-preserved g c =
           c.if-end-piece.false r.new.state r.new.page r.result r.ensures.answered r.ensures.upper_bound,
     )
 
-pub shape_of-state : goal.shape_of-state
-shape_of-state g c = omega arith
-
 pub shape_of-text : goal.shape_of-text
 shape_of-text g c = omega arith
-
-pub shape_of-page : goal.shape_of-page
-shape_of-page g c = omega arith
 
 pub returns : goal.returns
 returns g c =
