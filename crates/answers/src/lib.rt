@@ -26,7 +26,7 @@ const BYTES: usize = 45;
 // 'a zeroed 256-byte output array'
 const OUTPUT: usize = 256;
 
-// The kinds of lines that are no frames.
+// The kinds of lines that are no frames. Any other byte is a frame's, so an enum of these two would tell no more.
 const START: u8 = 0;
 
 const TIMER: u8 = 9;
@@ -97,6 +97,7 @@ fn call(rec: &mut [u8], bytes: &[u8], out: &mut [u8]) -> Result<usize, Refusal>
 // ---- what it prints
 
 // Puts entries that lie end to end on the page, each on a line of its own.
+// Entries have different lengths, so the place goes from entry to entry and is no counted index.
 fn put_entries(page: &mut [u8], at: usize, s: &[u8]) -> usize
     requires { (at + 3 * length s.now ≤ length page.old) × LaidOut s.now }
     ensures { OnPage (entry_lines (entries_of s.now)) page.old at page.new result }

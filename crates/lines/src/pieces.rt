@@ -38,6 +38,7 @@ pub struct Place {
 }
 
 // A piece of input. The first len bytes of text are what is kept of the line that has begun; the page starts empty.
+// Lines have different lengths, so the place goes from line's end to line's end and is no counted index.
 pub fn feed<L: LineProgram>(
     state: &mut [u8],
     text: &mut [u8],

@@ -66,6 +66,7 @@ fn put_entry(stage: &mut [u8], writer: u8, e: &[u8], page: &mut [u8], at: usize)
 }
 
 // Entries that lie end to end, in their order.
+// Entries have different lengths, so the place goes from entry to entry and is no counted index.
 fn put_entries(stage: &mut [u8], writer: u8, s: &[u8], page: &mut [u8], at: usize) -> usize
     requires { (length stage.old ≡ stage_size) × LaidOut s.now × (at + 3 * length s.now ≤ length page.old) }
     ensures { DoneAt (entries_done writer stage.old (entries_of s.now)) page.old at stage.new page.new result }

@@ -26,7 +26,7 @@ pub const DELIVER_SIZE: usize = 3;
 
 pub const NAME_SIZE: usize = 2;
 
-// The kinds of lines.
+// The kinds of lines: the bytes that a line begins with, by which the table of refusals goes (`line_rows`). An enum would need a test of its own for 9.
 pub const START: u8 = 0;
 
 pub const DELIVER: u8 = 1;

@@ -8,15 +8,6 @@ use Rattle.answers.proofs.put_entries.Goals as goal
 pub loop-i-init : goal.loop-i-init
 loop-i-init c = put_none c.args.page.now c.args.at c.args.s.now c.requires.0 c.requires.1
 
-pub slice_bounds-size_in-count : goal.slice_bounds-size_in-count
-slice_bounds-size_in-count c = omega arith
-
-pub slice_bounds-size_in-start : goal.slice_bounds-size_in-start
-slice_bounds-size_in-start c = omega arith
-
-pub slice_bounds-size_in-end : goal.slice_bounds-size_in-end
-slice_bounds-size_in-end c = omega arith
-
 pub overflow_add-next : goal.overflow_add-next
 overflow_add-next c =
     let l = c.loop-i in
@@ -28,9 +19,6 @@ slice_bounds-put_line-count c =
     let l = c.loop-i in
     let n = next_is _ _ _ l.page l.i l.end l.invariant c.loop-i-test.true _ c.size_in.ensures in
     omega arith
-
-pub slice_bounds-put_line-start : goal.slice_bounds-put_line-start
-slice_bounds-put_line-start c = omega arith
 
 pub slice_bounds-put_line-end : goal.slice_bounds-put_line-end
 slice_bounds-put_line-end c =
@@ -57,9 +45,6 @@ loop-i-preserved c =
     let p = c.put_line-end in
     put_more _ _ _ l.page l.i l.end l.invariant c.loop-i-test.true _
     c.size_in.ensures p.new.page p.result p.ensures
-
-pub shape_of-page : goal.shape_of-page
-shape_of-page c = omega arith
 
 pub returns : goal.returns
 returns c = let l = c.loop-i in put_all _ _ _ l.page l.i l.end l.invariant c.loop-i-test.false

@@ -11,15 +11,6 @@ loop-i-init c =
     let a = c.args in
     sent_none a.writer a.stage.now a.page.now a.at a.s.now c.requires.1 c.requires.2
 
-pub slice_bounds-size_in-count : goal.slice_bounds-size_in-count
-slice_bounds-size_in-count c = omega arith
-
-pub slice_bounds-size_in-start : goal.slice_bounds-size_in-start
-slice_bounds-size_in-start c = omega arith
-
-pub slice_bounds-size_in-end : goal.slice_bounds-size_in-end
-slice_bounds-size_in-end c = omega arith
-
 pub overflow_add-next : goal.overflow_add-next
 overflow_add-next c =
     let l = c.loop-i in
@@ -31,9 +22,6 @@ slice_bounds-put_entry-count c =
     let l = c.loop-i in
     let n = next_entry _ _ _ _ _ l.stage l.page l.i l.end l.invariant c.loop-i-test.true _ c.size_in.ensures in
     omega arith
-
-pub slice_bounds-put_entry-start : goal.slice_bounds-put_entry-start
-slice_bounds-put_entry-start c = omega arith
 
 pub slice_bounds-put_entry-end : goal.slice_bounds-put_entry-end
 slice_bounds-put_entry-end c =
@@ -59,12 +47,6 @@ loop-i-preserved c =
     let p = c.put_entry-end in
     sent_more _ _ _ _ _ l.stage l.page l.i l.end l.invariant c.loop-i-test.true _ c.size_in.ensures p.new.stage
     p.new.page p.result (omega arith) (omega arith) p.ensures
-
-pub shape_of-stage : goal.shape_of-stage
-shape_of-stage c = omega arith
-
-pub shape_of-page : goal.shape_of-page
-shape_of-page c = omega arith
 
 pub returns : goal.returns
 returns c = let l = c.loop-i in sent_all _ _ _ _ _ l.stage l.page l.i l.end l.invariant c.loop-i-test.false

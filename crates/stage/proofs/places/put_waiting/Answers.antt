@@ -3,18 +3,12 @@
 use Prim.Native.Nat.{ℕ, ◌+◌}
 use mathlib.Core.Path.{ap, ◌∙◌}
 use native.Mathlib.Omega.{arith}
-use lib.ListN.{length, set, length-set}
+use lib.ListN.{length, set}
 use Rattle.wire.specs.Placed.{placed}
 use Rattle.stage.specs.Stage.{waiting_bytes}
 use Rattle.stage.specs.inside.Parts.{on_way}
 use Rattle.stage.proofs.Waiting.{copied_at, waiting_stored}
 use Rattle.stage.proofs.places.put_waiting.Goals as goal
-
-pub bounds-stage-at-2 : goal.bounds-stage-at-2
-bounds-stage-at-2 c = simp length-set (omega arith)
-
-pub bounds-stage-at-3 : goal.bounds-stage-at-3
-bounds-stage-at-3 c = simp length-set (omega arith)
 
 pub returns : goal.returns
 unfolding waiting_bytes
