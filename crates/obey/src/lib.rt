@@ -40,8 +40,8 @@ fn put_head(page: &mut [u8], at: usize, number: Option<u8>, to: u8) -> usize
 }
 
 // A new frame takes the smallest free number, or is lost; its line is put on the page.
-fn send(stage: &mut [u8], way: Way, frame: &[u8], page: &mut [u8], at: usize) -> usize
-    requires { (length stage.old ≡ stage_size) × (length frame.now ≤ frame_most) × ((at + 2 * length frame.now) + 7 ≤ length page.old) }
+fn send(stage: &mut [u8; places::SIZE], way: Way, frame: &[u8], page: &mut [u8], at: usize) -> usize
+    requires { (length frame.now ≤ frame_most) × ((at + 2 * length frame.now) + 7 ≤ length page.old) }
     ensures { DoneAt (sent stage.old (on_way way frame.now)) page.old at stage.new page.new result }
 {
     let number = places::first_free(stage);
@@ -54,8 +54,14 @@ fn send(stage: &mut [u8], way: Way, frame: &[u8], page: &mut [u8], at: usize) ->
 }
 
 // An entry that a vault wrote: 'It prints as `vaultlines` does .., but a frame's entry is led ..'.
-fn put_entry(stage: &mut [u8], writer: u8, e: &[u8], page: &mut [u8], at: usize) -> usize
-    requires { (length stage.old ≡ stage_size) × IsEntry e.now × ((at + 2 * length e.now) + 5 ≤ length page.old) }
+fn put_entry(
+    stage: &mut [u8; places::SIZE],
+    writer: u8,
+    e: &[u8],
+    page: &mut [u8],
+    at: usize,
+) -> usize
+    requires { IsEntry e.now × ((at + 2 * length e.now) + 5 ≤ length page.old) }
     ensures { DoneAt (entry_done writer stage.old (entry_at e.now)) page.old at stage.new page.new result }
 {
     if e[0] == numbers::TO_HOST {
@@ -67,8 +73,14 @@ fn put_entry(stage: &mut [u8], writer: u8, e: &[u8], page: &mut [u8], at: usize)
 
 // Entries that lie end to end, in their order.
 // Entries have different lengths, so the place goes from entry to entry and is no counted index.
-fn put_entries(stage: &mut [u8], writer: u8, s: &[u8], page: &mut [u8], at: usize) -> usize
-    requires { (length stage.old ≡ stage_size) × LaidOut s.now × (at + 3 * length s.now ≤ length page.old) }
+fn put_entries(
+    stage: &mut [u8; places::SIZE],
+    writer: u8,
+    s: &[u8],
+    page: &mut [u8],
+    at: usize,
+) -> usize
+    requires { LaidOut s.now × (at + 3 * length s.now ≤ length page.old) }
     ensures { DoneAt (entries_done writer stage.old (entries_of s.now)) page.old at stage.new page.new result }
 {
     let mut i = 0;
@@ -83,14 +95,14 @@ fn put_entries(stage: &mut [u8], writer: u8, s: &[u8], page: &mut [u8], at: usiz
 
 // What a call at a vault answered: 'one output entry a line, or fd and the refusal number as one byte'.
 fn put_answer(
-    stage: &mut [u8],
+    stage: &mut [u8; places::SIZE],
     writer: u8,
     answer: Result<usize, Refusal>,
     out: &[u8],
     page: &mut [u8],
     at: usize,
 ) -> usize
-    requires { (length stage.old ≡ stage_size) × Printable answer out.now × (at + answer_size ≤ length page.old) }
+    requires { Printable answer out.now × (at + answer_size ≤ length page.old) }
     ensures { DoneAt (put_by stage.old writer (left_by answer [] out.now)) page.old at stage.new page.new result }
 {
     match answer {
@@ -100,8 +112,8 @@ fn put_answer(
 }
 
 // A line's call is made, with 'a zeroed 256-byte output array', and its answer printed.
-fn answer(stage: &mut [u8], bytes: &[u8], page: &mut [u8], at: usize) -> usize
-    requires { (length stage.old ≡ stage_size) × Named bytes.now × (at + answer_size ≤ length page.old) }
+fn answer(stage: &mut [u8; places::SIZE], bytes: &[u8], page: &mut [u8], at: usize) -> usize
+    requires { Named bytes.now × (at + answer_size ≤ length page.old) }
     ensures done_at { DoneAt (done stage.old (call (vault_in bytes.now) (call_of stage.old bytes.now))) page.old at stage.new page.new result }
     ensures upper_bound { result ≤ at + answer_size }
 {
@@ -113,8 +125,8 @@ fn answer(stage: &mut [u8], bytes: &[u8], page: &mut [u8], at: usize) -> usize
 // ---- the lines
 
 // A line that is not refused, by its kind.
-fn act(stage: &mut [u8], bytes: &[u8], page: &mut [u8], at: usize) -> usize
-    requires { (length stage.old ≡ stage_size) × (first (line_rows stage.old bytes.now) ≡ 0) × (at + answer_size ≤ length page.old) }
+fn act(stage: &mut [u8; places::SIZE], bytes: &[u8], page: &mut [u8], at: usize) -> usize
+    requires { (first (line_rows stage.old bytes.now) ≡ 0) × (at + answer_size ≤ length page.old) }
     ensures done_at { DoneAt (done stage.old (taken stage.old bytes.now)) page.old at stage.new page.new result }
     ensures upper_bound { result ≤ at + answer_size }
 {
@@ -139,8 +151,8 @@ fn act(stage: &mut [u8], bytes: &[u8], page: &mut [u8], at: usize) -> usize
 }
 
 // A line's bytes are obeyed.
-fn obey(stage: &mut [u8], bytes: &[u8], page: &mut [u8], at: usize) -> usize
-    requires { (length stage.old ≡ stage_size) × (at + answer_size ≤ length page.old) }
+fn obey(stage: &mut [u8; places::SIZE], bytes: &[u8], page: &mut [u8], at: usize) -> usize
+    requires { at + answer_size ≤ length page.old }
     ensures done_at { DoneAt (done stage.old (meant stage.old bytes.now)) page.old at stage.new page.new result }
     ensures upper_bound { (result ≤ at + answer_size) × (length bytes.now < 2 → result ≤ at + 5) }
 {
@@ -160,7 +172,8 @@ pub fn obey_line(stage: &mut [u8], text: &[u8], page: &mut [u8], at: usize) -> u
     let Some(count) = lines::bytes_in(text, stage::DIGITS, &mut bytes) else {
         return lines::put_refusal(page, at, u8::from(Refusal::Line));
     };
-    obey(stage, &bytes[0..count], page, at)
+    let whole = stage.as_mut_array::<{ places::SIZE }>().unwrap();
+    obey(whole, &bytes[0..count], page, at)
 }
 
 // ---- the input in pieces

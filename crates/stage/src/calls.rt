@@ -14,8 +14,8 @@ const VAULTS: u8 = 4;
 const LIARS: u8 = 1;
 
 // '00 start (vault, class, plan)'
-fn start(stage: &mut [u8], bytes: &[u8], out: &mut [u8]) -> Result<usize, Refusal>
-    requires { (length stage.old ≡ stage_size) × Named bytes.now × (kind_of bytes.now ≡ 0) }
+fn start(stage: &mut [u8; places::SIZE], bytes: &[u8], out: &mut [u8]) -> Result<usize, Refusal>
+    requires { Named bytes.now × (kind_of bytes.now ≡ 0) }
     ensures { Called stage.old (vault_in bytes.now) (start_of bytes.now) out.old result stage.new out.new }
 {
     let set = Settings {
@@ -30,8 +30,8 @@ fn start(stage: &mut [u8], bytes: &[u8], out: &mut [u8]) -> Result<usize, Refusa
 }
 
 // '01 deliver (frame number, vault)': over the link from the frame's writer. The frame stays.
-fn deliver(stage: &mut [u8], k: u8, v: u8, out: &mut [u8]) -> Result<usize, Refusal>
-    requires { (length stage.old ≡ stage_size) × (v ≤ 3) }
+fn deliver(stage: &mut [u8; places::SIZE], k: u8, v: u8, out: &mut [u8]) -> Result<usize, Refusal>
+    requires { v ≤ 3 }
     ensures { Called stage.old v (delivered (waiting_now stage.old k)) out.old result stage.new out.new }
 {
     let mut frame = [0u8; places::MOST];
@@ -47,8 +47,8 @@ fn deliver(stage: &mut [u8], k: u8, v: u8, out: &mut [u8]) -> Result<usize, Refu
 }
 
 // '05 let a vault's timer for its current view expire'
-fn timer(stage: &mut [u8], v: u8, out: &mut [u8]) -> Result<usize, Refusal>
-    requires { (length stage.old ≡ stage_size) × (v ≤ 3) }
+fn timer(stage: &mut [u8; places::SIZE], v: u8, out: &mut [u8]) -> Result<usize, Refusal>
+    requires { v ≤ 3 }
     ensures { Called stage.old v (timer_of (record_of stage.old v)) out.old result stage.new out.new }
 {
     let at = places::record_place(v);
@@ -57,8 +57,8 @@ fn timer(stage: &mut [u8], v: u8, out: &mut [u8]) -> Result<usize, Refusal>
 }
 
 // The call that a line makes, by its kind.
-pub fn call(stage: &mut [u8], bytes: &[u8], out: &mut [u8]) -> Result<usize, Refusal>
-    requires { (length stage.old ≡ stage_size) × Named bytes.now }
+pub fn call(stage: &mut [u8; places::SIZE], bytes: &[u8], out: &mut [u8]) -> Result<usize, Refusal>
+    requires { Named bytes.now }
     ensures { Called stage.old (vault_in bytes.now) (call_of stage.old bytes.now) out.old result stage.new out.new }
 {
     if bytes[0] == START {

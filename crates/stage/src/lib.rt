@@ -93,8 +93,7 @@ pub fn no_vault(bytes: &[u8]) -> bool
 }
 
 // 'naming a frame not waiting'
-fn no_frame(stage: &[u8], bytes: &[u8]) -> bool
-    requires { length stage.now ≡ stage_size }
+fn no_frame(stage: &[u8; places::SIZE], bytes: &[u8]) -> bool
     ensures { result ≡ no_frame stage.now bytes.now }
 {
     let kind = byte_at(bytes, 0);
@@ -109,8 +108,7 @@ fn no_frame(stage: &[u8], bytes: &[u8]) -> bool
 }
 
 // 'declaring a second liar'; declaring the liar again is none.
-fn second_liar(stage: &[u8], bytes: &[u8]) -> bool
-    requires { length stage.now ≡ stage_size }
+fn second_liar(stage: &[u8; places::SIZE], bytes: &[u8]) -> bool
     ensures { result ≡ second_liar stage.now bytes.now }
 {
     if byte_at(bytes, 0) != DECLARE {
@@ -123,8 +121,7 @@ fn second_liar(stage: &[u8], bytes: &[u8]) -> bool
 }
 
 // 'making up a frame for a vault not declared'
-fn not_liar(stage: &[u8], bytes: &[u8]) -> bool
-    requires { length stage.now ≡ stage_size }
+fn not_liar(stage: &[u8; places::SIZE], bytes: &[u8]) -> bool
     ensures { result ≡ not_liar stage.now bytes.now }
 {
     byte_at(bytes, 0) == MAKE_UP && !places::is_liar(stage, vault_in(bytes))
@@ -132,16 +129,14 @@ fn not_liar(stage: &[u8], bytes: &[u8]) -> bool
 
 // 23, whole: 'a line naming a frame not waiting or a vault above 3, declaring a second liar, or making up a frame for a vault not declared'.
 #[tactic(auto, unfolding(crate::specs::Lines::misnamed))]
-fn misnamed(stage: &[u8], bytes: &[u8]) -> bool
-    requires { length stage.now ≡ stage_size }
+fn misnamed(stage: &[u8; places::SIZE], bytes: &[u8]) -> bool
     ensures { result ≡ misnamed stage.now bytes.now }
 {
     no_vault(bytes) || no_frame(stage, bytes) || second_liar(stage, bytes) || not_liar(stage, bytes)
 }
 
 // A line's refusal, before its call. 'then an empty line or unknown kind gives 9 and a wrong length 10'
-pub fn refusal(stage: &[u8], bytes: &[u8]) -> Result<(), Refusal>
-    requires { length stage.now ≡ stage_size }
+pub fn refusal(stage: &[u8; places::SIZE], bytes: &[u8]) -> Result<(), Refusal>
     ensures { number_in result ≡ first (line_rows stage.now bytes.now) }
 {
     if bytes.len() == 0 {

@@ -37,24 +37,22 @@ pub fn record_place(v: u8) -> usize
 }
 
 // Whether nobody is declared.
-pub fn no_liar(stage: &[u8]) -> bool
-    requires { length stage.now ≡ stage_size }
+pub fn no_liar(stage: &[u8; SIZE]) -> bool
     ensures { result ≡ eqb (liar_in stage.now) 0 }
 {
     stage[LIAR] == 0
 }
 
 // Whether a vault is declared.
-pub fn is_liar(stage: &[u8], v: u8) -> bool
-    requires { length stage.now ≡ stage_size }
+pub fn is_liar(stage: &[u8; SIZE], v: u8) -> bool
     ensures { result ≡ is_liar stage.now v }
 {
     usize::from(stage[LIAR]) == usize::from(v) + 1
 }
 
 // '03 declare a vault lying'
-pub fn declare(stage: &mut [u8], v: u8)
-    requires { (length stage.old ≡ stage_size) × (v ≤ 3) }
+pub fn declare(stage: &mut [u8; SIZE], v: u8)
+    requires { v ≤ 3 }
     ensures { stage.new ≡ with_liar stage.old v }
 {
     stage[LIAR] = v + 1;
@@ -70,16 +68,14 @@ fn place_of(k: u8) -> usize
 }
 
 // Whether no frame waits at a number.
-pub fn is_free(stage: &[u8], k: u8) -> bool
-    requires { length stage.now ≡ stage_size }
+pub fn is_free(stage: &[u8; SIZE], k: u8) -> bool
     ensures { result ≡ is_free stage.now k }
 {
     stage[place_of(k)] == 0
 }
 
 // 'a new frame gets the smallest free one'; None where 256 wait.
-pub fn first_free(stage: &[u8]) -> Option<u8>
-    requires { length stage.now ≡ stage_size }
+pub fn first_free(stage: &[u8; SIZE]) -> Option<u8>
     ensures { free_number result ≡ first_free stage.now }
 {
     for k in 0..=u8::MAX {
@@ -91,8 +87,8 @@ pub fn first_free(stage: &[u8]) -> Option<u8>
 }
 
 // A frame waits at a number.
-pub fn put_waiting(stage: &mut [u8], k: u8, way: Way, frame: &[u8])
-    requires { (length stage.old ≡ stage_size) × (length frame.now ≤ frame_most) }
+pub fn put_waiting(stage: &mut [u8; SIZE], k: u8, way: Way, frame: &[u8])
+    requires { length frame.now ≤ frame_most }
     ensures { stage.new ≡ with_waiting stage.old k (on_way way frame.now) }
 {
     let at = place_of(k);
@@ -104,8 +100,7 @@ pub fn put_waiting(stage: &mut [u8], k: u8, way: Way, frame: &[u8])
 }
 
 // 'a dropped one frees its number'
-pub fn free(stage: &mut [u8], k: u8)
-    requires { length stage.old ≡ stage_size }
+pub fn free(stage: &mut [u8; SIZE], k: u8)
     ensures { stage.new ≡ with_free stage.old k }
 {
     stage[place_of(k)] = 0;
@@ -119,16 +114,15 @@ fn held_length(mark: u8) -> usize
 }
 
 // The writer of the frame that waits at a number.
-pub fn writer_of(stage: &[u8], k: u8) -> u8
-    requires { length stage.now ≡ stage_size }
+pub fn writer_of(stage: &[u8; SIZE], k: u8) -> u8
     ensures { result ≡ (waiting_now stage.now k).writer }
 {
     stage[place_of(k) + 1]
 }
 
 // A copy of the frame that waits at a number: a record of the stage is lent while it is heard.
-pub fn copy_frame(stage: &[u8], k: u8, bytes: &mut [u8]) -> usize
-    requires { (length stage.now ≡ stage_size) × (length bytes.old ≡ frame_most) }
+pub fn copy_frame(stage: &[u8; SIZE], k: u8, bytes: &mut [u8]) -> usize
+    requires { length bytes.old ≡ frame_most }
     ensures { (take result bytes.new ≡ (waiting_now stage.now k).bytes) × (result ≤ frame_most) }
 {
     let at = place_of(k);

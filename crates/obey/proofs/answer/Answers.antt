@@ -1,6 +1,6 @@
 -- `obey::answer` meets its contract: the call's written bytes are entries end to end (`call_printable`), so they can be printed and sent.
 -- Assumes nothing.
-use native.Mathlib.Omega.{arith}
+use borrow.Author.Rules.{rules}
 use Rattle.wire.specs.Fields.{Bytes}
 use Rattle.answers.specs.Lines.{zeroed}
 use Rattle.obey.proofs.Answers.{call_printable, call_acted}
@@ -10,17 +10,17 @@ pub put_answer-requires : goal.put_answer-requires
 unfolding zeroed
 put_answer-requires c =
     let a = c.args in
-    let stage : Bytes a.stage.now = λ i. (c.slice_known-1.given i).fits in
+    let stage : Bytes a.stage.now = λ i. search rules in
     let bytes : Bytes a.bytes.now = λ i. (c.type_inv.bytes i).fits in
     let d = c.call-a in
     let may = call_printable a.stage.now a.bytes.now d.result d.new.stage d.new.out d.ensures stage bytes in
-    (omega arith, may, c.requires.2)
+    (may, c.requires.1)
 
 pub returns : goal.returns
 unfolding zeroed
 returns c =
     let a = c.args in
-    let stage : Bytes a.stage.now = λ i. (c.slice_known-1.given i).fits in
+    let stage : Bytes a.stage.now = λ i. search rules in
     let bytes : Bytes a.bytes.now = λ i. (c.type_inv.bytes i).fits in
     let d = c.call-a in
     let may = call_printable a.stage.now a.bytes.now d.result d.new.stage d.new.out d.ensures stage bytes in

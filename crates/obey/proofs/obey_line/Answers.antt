@@ -19,11 +19,15 @@ slice_bounds-obey-end c =
     let few = count_within b.result c.in-Some.count _ c.in-Some.is b.ensures.1 in
     search rules
 
+pub unwrap-whole-requires : goal.unwrap-whole-requires
+unwrap-whole-requires c = c.as_mut_array.ensures.variant.1 c.requires.0
+
 pub returns : goal.returns
 returns c =
     let a = c.args in
+    let whole = rw c.unwrap-whole.ensures at c.as_mut_array.ensures.cases in
     let e = c.obey.ensures in
     let both = count_obeyed a.stage.now a.text.now a.page.now a.at c.bytes_in.result c.bytes_in.new.bytes
     c.bytes_in.ensures.0 c.in-Some.count c.in-Some.is c.obey.new.stage c.obey.new.page c.obey.result
-    (e.done_at, e.upper_bound) in
+    (rw whole.same at e.done_at, e.upper_bound) in
     record { answered = both.0; upper_bound = both.1 }

@@ -6,13 +6,13 @@ use Rattle.obey.proofs.put_answer.Goals as goal
 
 pub slice_bounds-put_entries-end : goal.slice_bounds-put_entries-end
 slice_bounds-put_entries-end c =
-    count_fits c.args.answer c.args.out.now c.requires.1 c.in-Ok.count c.in-Ok.is
+    count_fits c.args.answer c.args.out.now c.requires.0 c.in-Ok.count c.in-Ok.is
 
 pub put_entries-requires : goal.put_entries-requires
 put_entries-requires c =
     let a = c.args in
-    let may = written_may a.answer a.out.now c.requires.1 c.in-Ok.count c.in-Ok.is a.page.now a.at c.requires.2 in
-    (c.requires.0, may.1, may.0)
+    let may = written_may a.answer a.out.now c.requires.0 c.in-Ok.count c.in-Ok.is a.page.now a.at c.requires.1 in
+    (may.1, may.0)
 
 pub returns-in-Ok : goal.returns-in-Ok
 returns-in-Ok c =

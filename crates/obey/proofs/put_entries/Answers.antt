@@ -1,7 +1,6 @@
 -- `obey::put_entries` meets its contract: 'a new frame gets the smallest free one', one entry after the other. The invariant is `SentTo`; the
 -- measure is what is left of the bytes. A line of an entry of k bytes has at most 2k + 5 digits, so at most 3k.
 -- Assumes nothing.
-use mathlib.Core.Path.{◌∙◌}
 use native.Mathlib.Omega.{arith}
 use Rattle.obey.proofs.Sent.{sent_none, next_entry, sent_more, sent_all}
 use Rattle.obey.proofs.put_entries.Goals as goal
@@ -9,7 +8,7 @@ use Rattle.obey.proofs.put_entries.Goals as goal
 pub loop-i-init : goal.loop-i-init
 loop-i-init c =
     let a = c.args in
-    sent_none a.writer a.stage.now a.page.now a.at a.s.now c.requires.1 c.requires.2
+    sent_none a.writer a.stage.now a.page.now a.at a.s.now c.requires.0 c.requires.1
 
 pub overflow_add-next : goal.overflow_add-next
 overflow_add-next c =
@@ -33,7 +32,7 @@ pub put_entry-end-requires : goal.put_entry-end-requires
 put_entry-end-requires c =
     let l = c.loop-i in
     let n = next_entry _ _ _ _ _ l.stage l.page l.i l.end l.invariant c.loop-i-test.true _ c.size_in.ensures in
-    (l.invariant.same ∙ c.requires.0, n.entry, omega (arith, n.least, n.fits, n.bytes, l.invariant.room))
+    (n.entry, omega (arith, n.least, n.fits, n.bytes, l.invariant.room))
 
 pub loop-i-smaller : goal.loop-i-smaller
 loop-i-smaller c =

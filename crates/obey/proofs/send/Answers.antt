@@ -22,7 +22,7 @@ returns-in-Some c =
     let h = c.put_head-mid in
     let below : c.in-Some.k < place_count = omega arith in
     let head = rw c.in-Some.is at h.ensures in
-    waits_done a.stage.now a.page.now a.at c.in-Some.k a.way a.frame.now c.in-Some.ensures (omega (arith, c.requires.2)) below
+    waits_done a.stage.now a.page.now a.at c.in-Some.k a.way a.frame.now c.in-Some.ensures (omega (arith, c.requires.1)) below
     c.put_waiting.new.stage h.new.page h.result c.put_line-end.new.page c.put_line-end.result head c.put_line-end.ensures c.put_waiting.ensures
 
 pub returns-in_default : goal.returns-in_default
@@ -30,5 +30,5 @@ returns-in_default c =
     let a = c.args in
     let h = c.put_head-mid in
     let head = rw c.in_default.is at h.ensures in
-    lost_done a.stage.now a.page.now a.at place_count a.way a.frame.now c.in_default.ensures (omega (arith, c.requires.2)) refl
+    lost_done a.stage.now a.page.now a.at place_count a.way a.frame.now c.in_default.ensures (omega (arith, c.requires.1)) refl
     h.new.page h.result c.put_line-end.new.page c.put_line-end.result head c.put_line-end.ensures

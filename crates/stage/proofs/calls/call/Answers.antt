@@ -13,15 +13,15 @@ returns-then-bytes-eq-START c =
 
 pub bounds-bytes-1 : goal.bounds-bytes-1
 bounds-bytes-1 c =
-    omega (arith, formed_deliver c.requires.1.formed c.if-bytes-eq-DELIVER.true)
+    omega (arith, formed_deliver c.requires.formed c.if-bytes-eq-DELIVER.true)
 
 pub bounds-bytes-2 : goal.bounds-bytes-2
 bounds-bytes-2 c =
-    omega (arith, formed_deliver c.requires.1.formed c.if-bytes-eq-DELIVER.true)
+    omega (arith, formed_deliver c.requires.formed c.if-bytes-eq-DELIVER.true)
 
 pub deliver-requires : goal.deliver-requires
 deliver-requires c =
-    (c.requires.0, third_named c.requires.1 c.if-bytes-eq-DELIVER.true)
+    third_named c.requires c.if-bytes-eq-DELIVER.true
 
 pub returns-then-bytes-eq-DELIVER : goal.returns-then-bytes-eq-DELIVER
 returns-then-bytes-eq-DELIVER c =
@@ -31,11 +31,11 @@ returns-then-bytes-eq-DELIVER c =
 
 pub bounds-bytes-1-2 : goal.bounds-bytes-1-2
 bounds-bytes-1-2 c =
-    omega (arith, formed_two c.requires.1.formed)
+    omega (arith, formed_two c.requires.formed)
 
 pub timer-requires : goal.timer-requires
 timer-requires c =
-    (c.requires.0, second_named c.requires.1 c.if-bytes-eq-DELIVER.false)
+    second_named c.requires c.if-bytes-eq-DELIVER.false
 
 pub returns : goal.returns
 returns c =

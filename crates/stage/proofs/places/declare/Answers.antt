@@ -1,7 +1,8 @@
 -- `stage::places::declare` meets its contract: '03 declare a vault lying'. One byte is stored.
 -- Assumes nothing.
+use native.Mathlib.Omega.{arith}
 use Rattle.stage.proofs.Part.{liar_stored}
 use Rattle.stage.proofs.places.declare.Goals as goal
 
 pub returns : goal.returns
-returns c = liar_stored c.args.stage.now c.args.v c.requires.0
+returns c = liar_stored c.args.stage.now c.args.v (omega arith)
