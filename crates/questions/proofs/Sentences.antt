@@ -50,32 +50,14 @@ unfolding sentence_of text_bytes
 no_number zero h = refl
 no_number (suc k) h = ap text_bytes (beyond sentences (suc k) (h (omega arith)))
 
--- Beyond 22 only 24, 25 and 26 have a sentence. What came before in the match is kept apart, as A.
-pub beyond_last : (number : ℕ) {A : Type 0} → 22 < number → ((A × (number ≡ 24 → ⊥)) × (number ≡ 25 → ⊥)) × (number ≡ 26 → ⊥) → sentence_of number ≡ []
+-- Beyond 22 only 24, 25 and 26 have a sentence.
+pub beyond_last : (number : ℕ) → 22 < number → (number ≡ 24 → ⊥) → (number ≡ 25 → ⊥) → (number ≡ 26 → ⊥) → sentence_of number ≡ []
 unfolding sentence_of text_bytes
-beyond_last number past other = go (dec_lt 26 number) other.0.0.1 other.0.1 other.1
+beyond_last number past = go (dec_lt 26 number)
   where
     go : Dec (26 < number) → (number ≡ 24 → ⊥) → (number ≡ 25 → ⊥) → (number ≡ 26 → ⊥) → sentence_of number ≡ []
     go (yes beyond) records length content = no_number number (λ h. beyond)
     go (no within) records length content = let is : number ≡ 23 = omega arith in rw is refl
-
--- A number that is none of the next four is beyond them.
-pub beyond_four : (number k : ℕ) {A : Type 0} → k < number
-    → (((A × (number ≡ k + 1 → ⊥)) × (number ≡ k + 2 → ⊥)) × (number ≡ k + 3 → ⊥)) × (number ≡ k + 4 → ⊥) → k + 4 < number
-beyond_four number k h r =
-    let a = r.0.0.0.1 in
-    let b = r.0.0.1 in
-    let c = r.0.1 in
-    let d = r.1 in
-    omega arith
-
--- A number that is not the next one either is beyond that.
-pub beyond_one : (number k : ℕ) {A : Type 0} → k < number → A × (number ≡ k + 1 → ⊥) → k + 1 < number
-beyond_one number k h r = let a = r.1 in omega arith
-
--- No number is above k and below k + 1: the arms before it have taken all that a function is asked for.
-pub none_between : (number k : ℕ) → k < number → number < k + 1 → ⊥
-none_between number k a b = omega arith
 
 -- A number that is no refusal's.
 pub none_said : (number : ℕ) (out : List ℕ) → sentence_of number ≡ [] → Written (fitting (sentence_of number) (length out)) out out 0

@@ -44,7 +44,7 @@ send-requires c =
 
 pub answer-requires : goal.answer-requires
 answer-requires c =
-    (accepted_named c.args.stage.now c.args.bytes.now c.requires.0 c.in_default.in_default-own.rest.0.0.1, c.requires.1)
+    (accepted_named c.args.stage.now c.args.bytes.now c.requires.0 (omega arith), c.requires.1)
 
 pub returns-in-2 : goal.returns-in-2
 returns-in-2 c =
@@ -69,8 +69,7 @@ returns-in-4 c =
 pub returns-in_default : goal.returns-in_default
 returns-in_default c =
     let a = c.args in
-    let r = c.in_default.in_default-own.rest in
     let e = c.answer.ensures in
-    let both = other_acted a.stage.now a.bytes.now a.page.now a.at r.0.0.1 r.0.1 r.1 c.answer.new.stage c.answer.new.page
+    let both = other_acted a.stage.now a.bytes.now a.page.now a.at (omega arith) (omega arith) (omega arith) c.answer.new.stage c.answer.new.page
     c.answer.result (e.done_at, e.upper_bound) in
     record { done_at = both.0; upper_bound = both.1 }

@@ -1,9 +1,10 @@
 -- `questions::call_text` meets its contract: each arm copies the sentence of its number. 0 has none.
 -- Assumes nothing.
+use native.Mathlib.Omega.{arith}
 use Prim.Native.Nat.{◌<◌}
 use mathlib.Core.Path.{refl}
 use Rattle.questions.specs.Texts.{text_bytes, sentence_of}
-use Rattle.questions.proofs.Sentences.{said, none_between, no_number, beyond_four, none_said}
+use Rattle.questions.proofs.Sentences.{said, no_number, none_said}
 use Rattle.questions.proofs.call_text.Goals as goal
 
 pub returns-in-1 : goal.returns-in-1
@@ -41,9 +42,5 @@ returns-in-8 c = said _ 8 _ _ _ _ c.put-in-8.ensures c.in-8.is refl
 pub returns-in_default : goal.returns-in_default
 returns-in_default c =
     let number = c.args.number in
-    let to-8 = c.in_default.in_default-own.rest in
-    let to-4 = to-8.0.0.0.0 in
-    let high : 0 < number → 26 < number = λ (h : 0 < number).
-    let past : 8 < number = beyond_four number 4 (beyond_four number 0 h to-4) to-8 in
-    absurd (none_between number 8 past c.requires) in
+    let high : 0 < number → 26 < number = λ (h : 0 < number). absurd (omega (arith, c.requires)) in
     none_said number _ (no_number number high)

@@ -1,9 +1,9 @@
 -- `questions::frame_text` meets its contract: each arm copies the sentence of its number, and there is no other number.
 -- Assumes nothing.
-use Prim.Native.Nat.{◌<◌}
+use native.Mathlib.Omega.{arith}
 use mathlib.Core.Path.{refl}
 use Rattle.questions.specs.Texts.{text_bytes, sentence_of}
-use Rattle.questions.proofs.Sentences.{said, beyond_one, beyond_four, none_between}
+use Rattle.questions.proofs.Sentences.{said}
 use Rattle.questions.proofs.frame_text.Goals as goal
 
 pub returns-in-9 : goal.returns-in-9
@@ -44,9 +44,4 @@ returns-in-17 c = said _ 17 _ _ _ _ c.put-in-17.ensures c.in-17.is refl
 
 pub returns-in_default : goal.returns-in_default
 returns-in_default c =
-    let number = c.args.number in
-    let to-17 = c.in_default.in_default-own.rest in
-    let to-16 = to-17.0 in
-    let to-12 = to-16.0.0.0.0 in
-    let past : 17 < number = beyond_one number 16 (beyond_four number 12 (beyond_four number 8 c.requires.0 to-12) to-16) to-17 in
-    absurd (none_between number 17 past c.requires.1)
+    absurd (omega (arith, c.requires))

@@ -1,9 +1,9 @@
 -- `questions::further_text` meets its contract: each arm copies the sentence of its number. 23 has none, and beyond 26 there is none.
 -- Assumes nothing.
-use Prim.Native.Nat.{◌<◌}
+use native.Mathlib.Omega.{arith}
 use mathlib.Core.Path.{refl}
 use Rattle.questions.specs.Texts.{text_bytes, sentence_of}
-use Rattle.questions.proofs.Sentences.{said, beyond_last, beyond_one, beyond_four, none_said}
+use Rattle.questions.proofs.Sentences.{said, beyond_last, none_said}
 use Rattle.questions.proofs.further_text.Goals as goal
 
 pub returns-in-18 : goal.returns-in-18
@@ -41,7 +41,4 @@ returns-in-26 c = said _ 26 _ _ _ _ c.put-in-26.ensures c.in-26.is refl
 pub returns-in_default : goal.returns-in_default
 returns-in_default c =
     let number = c.args.number in
-    let to-26 = c.in_default.in_default-own.rest in
-    let to-22 = to-26.0.0.0 in
-    let past : 22 < number = beyond_one number 21 (beyond_four number 17 c.requires to-22.0) to-22 in
-    none_said number _ (beyond_last number past to-26)
+    none_said number _ (beyond_last number (omega (arith, c.requires)) (omega arith) (omega arith) (omega arith))

@@ -1,5 +1,6 @@
 -- `vault::frame_in` meets its contract: by what the frame reader answers.
 -- Assumes nothing.
+use borrow.Author.Rules.{rules}
 use mathlib.Core.Path.{refl, sym, ap, ◌∙◌}
 use Rattle.frame.specs.inside.Reading.{reading}
 use Rattle.contents.proofs.Sound.{size_sound}
@@ -24,7 +25,7 @@ frame_read-requires c =
     let out = c.args.out.now in
     let read = read_then rec c.args.bytes.now c.args.sender out c.requires.0 c.requires.1
     c.settings_of-set.result c.settings_of-set.ensures _ c.in-Ok.ensures
-    (λ i. (c.slice_known-1.given i).fits) (λ i. (c.type_inv.bytes i).fits) c.in-Ok.f refl in
+    (λ i. search rules) (λ i. (c.type_inv.bytes i).fits) c.in-Ok.f refl in
     (read, c.requires.1)
 
 pub returns : goal.returns

@@ -35,7 +35,7 @@ pub time_out-requires : goal.time_out-requires
 time_out-requires c =
     let rec = c.args.rec.now in
     let out = c.args.out.now in
-    let ready : Ready rec = ready_lent rec (λ i. (c.slice_known-1.given i).fits) c.requires.0 in
+    let ready : Ready rec = ready_lent rec (λ i. search rules) c.requires.0 in
     let low = view_below rec out c.requires.0 c.requires.1 c.view_of-current.result c.view_of-current.ensures
     c.args.view 0 c.in_ok-timer_refusal.ensures ready refl in
     (record { ready = ready; its = c.settings_of-set.ensures }, c.view_of-current.ensures, low, c.requires.1)
