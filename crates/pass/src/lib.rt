@@ -24,7 +24,7 @@ ghost use Rattle.pass.specs.inside.Passes.{steps_from};
 use acts::Act;
 use entry::Entry;
 use settings::Settings;
-use steps::{Entries, Own};
+use steps::{Entries, Own, Wrote};
 
 // ---- the own part by value, and back
 
@@ -35,10 +35,10 @@ fn load(rec: &[u8]) -> Own
 {
     let mut bytes = [0; own::SIZE];
     own::load(rec, &mut bytes);
-    Own {
-        bytes,
-        wrote: Entries::Zero,
-    }
+    let wrote = Wrote {
+        entries: Entries::Zero,
+    };
+    Own { bytes, wrote }
 }
 
 // Puts back what sending vote-k changed: the vote and, of vote-1 and vote-2, the previous one.
@@ -86,9 +86,12 @@ fn run_ask(rec: &mut [u8], id: u8, w: u32, out: &mut [u8], at: usize) -> usize
     requires { Due 0 (some (ask w)) rec.old id × Room (step_at 0 (contents_in rec.old)) at out.old }
     ensures { Ran (step_at 0 (contents_in rec.old)) at out.old out.new result rec.new }
 {
-    let left = load(rec).step_a(w);
+    let held = load(rec);
+    let left = held.step_a(w);
+    let wrote = left.wrote;
+    let entries = wrote.entries;
     own::store_slot(&left.bytes, id, steps::CHANGE, rec);
-    write_entries(out, at, left.wrote)
+    write_entries(out, at, entries)
 }
 
 // B: the view, and all of the own part.
@@ -96,9 +99,12 @@ fn run_enter(rec: &mut [u8], id: u8, w: u32, out: &mut [u8], at: usize) -> usize
     requires { Due 1 (some (enter w)) rec.old id × Room (step_at 1 (contents_in rec.old)) at out.old }
     ensures { Ran (step_at 1 (contents_in rec.old)) at out.old out.new result rec.new }
 {
-    let left = load(rec).step_b(w);
+    let held = load(rec);
+    let left = held.step_b(w);
+    let wrote = left.wrote;
+    let entries = wrote.entries;
     own::store(&left.bytes, id, rec);
-    write_entries(out, at, left.wrote)
+    write_entries(out, at, entries)
 }
 
 // C to G, by the vote that they send (0: the proposal): that vote.
@@ -106,9 +112,12 @@ fn run_cast(rec: &mut [u8], id: u8, k: u8, p: u64, out: &mut [u8], at: usize) ->
     requires { Due (k + 2) (some (cast k p)) rec.old id × (k ≤ 4) × Room (step_at (k + 2) (contents_in rec.old)) at out.old }
     ensures { Ran (step_at (k + 2) (contents_in rec.old)) at out.old out.new result rec.new }
 {
-    let left = load(rec).step_cast(k, p);
+    let held = load(rec);
+    let left = held.step_cast(k, p);
+    let wrote = left.wrote;
+    let entries = wrote.entries;
     store_vote(&left.bytes, id, k, rec);
-    write_entries(out, at, left.wrote)
+    write_entries(out, at, entries)
 }
 
 // H: the decision.
@@ -116,9 +125,12 @@ fn run_decide(rec: &mut [u8], id: u8, p: u64, out: &mut [u8], at: usize) -> usiz
     requires { Due 7 (some (decide p)) rec.old id × Room (step_at 7 (contents_in rec.old)) at out.old }
     ensures { Ran (step_at 7 (contents_in rec.old)) at out.old out.new result rec.new }
 {
-    let left = load(rec).step_h(p);
+    let held = load(rec);
+    let left = held.step_h(p);
+    let wrote = left.wrote;
+    let entries = wrote.entries;
     own::store_slot(&left.bytes, id, own::DECISION, rec);
-    write_entries(out, at, left.wrote)
+    write_entries(out, at, entries)
 }
 
 // ---- one step after the other, with the entries written from a place on

@@ -9,7 +9,7 @@ pub store_vote-requires : goal.store_vote-requires
 store_vote-requires c = (
   cast_left c.args.rec.now c.requires.0.ready c.args.id c.requires.0.own c.step_cast-left.result.bytes
       c.args.k c.args.p c.requires.1
-      (did_act (c.args.k + 2) c.args.rec.now c.requires.0 c.load.ensures
+      (did_act (c.args.k + 2) c.args.rec.now c.requires.0 c.load-held.ensures
       c.step_cast-left.result.bytes c.step_cast-left.ensures),
   c.requires.1,
 )
@@ -17,14 +17,14 @@ store_vote-requires c = (
 pub write_entries-requires : goal.write_entries-requires
 write_entries-requires c =
     room_taken (c.args.k + 2) c.args.rec.now c.requires.0
-    c.load.ensures
+    c.load-held.ensures
     c.step_cast-left.result.bytes
     c.step_cast-left.ensures c.args.at c.args.out.now c.requires.2
 
 pub returns : goal.returns
 returns c =
     ran_step (c.args.k + 2) c.args.rec.now c.requires.0
-    c.load.ensures
+    c.load-held.ensures
     c.step_cast-left.result.bytes
     c.step_cast-left.ensures c.args.at c.args.out.now
     c.store_vote.ensures c.write_entries.ensures

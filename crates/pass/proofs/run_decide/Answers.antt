@@ -22,7 +22,7 @@ store_slot-requires c = (
 pub write_entries-requires : goal.write_entries-requires
 unfolding act_at
 write_entries-requires c =
-    room_taken 7 c.args.rec.now c.requires.0 c.load.ensures
+    room_taken 7 c.args.rec.now c.requires.0 c.load-held.ensures
     c.step_h-left.result.bytes
     c.step_h-left.ensures c.args.at c.args.out.now c.requires.1
 
@@ -35,12 +35,12 @@ returns c =
     c.step_h-left.result.bytes
     c.args.p
     (did_act 7 c.args.rec.now c.requires.0
-    c.load.ensures
+    c.load-held.ensures
     c.step_h-left.result.bytes
     c.step_h-left.ensures)) 16 (omega arith) (λ i e. e)
     c.store_slot.ensures in
     ran_step 7 c.args.rec.now c.requires.0
-    c.load.ensures
+    c.load-held.ensures
     c.step_h-left.result.bytes
     c.step_h-left.ensures c.args.at
     c.args.out.now held c.write_entries.ensures

@@ -8,20 +8,20 @@ use Rattle.pass.proofs.Stored.{fits_left}
 use Rattle.pass.proofs.run_enter.Goals as goal
 
 pub step_b-left-requires : goal.step_b-left-requires
-step_b-left-requires c = some_own c.args.rec.now c.requires.0.ready c.load.ensures
+step_b-left-requires c = some_own c.args.rec.now c.requires.0.ready c.load-held.ensures
 
 pub store-requires : goal.store-requires
 unfolding act_at
 store-requires c =
     fits_left c.args.rec.now c.args.id c.step_b-left.result.bytes c.requires.0.ready c.requires.0.own
-    (did_step 1 c.args.rec.now c.requires.0 c.load.ensures
+    (did_step 1 c.args.rec.now c.requires.0 c.load-held.ensures
     c.step_b-left.result.bytes c.step_b-left.ensures)
     (step_set 1 (contents_in c.args.rec.now)) (step_start 1 (contents_in c.args.rec.now))
 
 pub write_entries-requires : goal.write_entries-requires
 unfolding act_at
 write_entries-requires c =
-    room_taken 1 c.args.rec.now c.requires.0 c.load.ensures
+    room_taken 1 c.args.rec.now c.requires.0 c.load-held.ensures
     c.step_b-left.result.bytes
     c.step_b-left.ensures c.args.at c.args.out.now c.requires.1
 
@@ -30,7 +30,7 @@ unfolding act_at
 returns c =
     let held = c.store.ensures in
     ran_step 1 c.args.rec.now c.requires.0
-    c.load.ensures
+    c.load-held.ensures
     c.step_b-left.result.bytes
     c.step_b-left.ensures c.args.at
     c.args.out.now held c.write_entries.ensures

@@ -6,4 +6,4 @@ use Rattle.steps.proofs.Own.step_a.Goals as goal
 
 pub returns : goal.returns
 unfolding act_at
-returns c = takes 0 c.ask_in-self.ensures
+returns c = takes 0 c.ask_in-wrote.ensures

@@ -6,4 +6,4 @@ use Rattle.steps.proofs.Own.step_b.Goals as goal
 
 pub returns : goal.returns
 unfolding act_at
-returns c = takes 1 c.enter_in-self.ensures
+returns c = takes 1 c.enter_in-wrote.ensures

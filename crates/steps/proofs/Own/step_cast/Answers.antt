@@ -5,4 +5,4 @@ use Rattle.steps.proofs.Steps.{takes}
 use Rattle.steps.proofs.Own.step_cast.Goals as goal
 
 pub returns : goal.returns
-returns c = takes (c.args.k + 2) c.cast_in-self.ensures
+returns c = takes (c.args.k + 2) c.cast_in-wrote.ensures

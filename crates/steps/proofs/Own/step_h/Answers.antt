@@ -6,4 +6,4 @@ use Rattle.steps.proofs.Own.step_h.Goals as goal
 
 pub returns : goal.returns
 unfolding act_at
-returns c = takes 7 c.decide_in-self.ensures
+returns c = takes 7 c.decide_in-wrote.ensures
