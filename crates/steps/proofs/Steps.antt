@@ -399,6 +399,11 @@ step_by (suc (suc (suc (suc (suc (suc zero)))))) c = refl
 step_by (suc (suc (suc (suc (suc (suc (suc zero))))))) c = refl
 step_by (suc (suc (suc (suc (suc (suc (suc (suc k)))))))) c = refl
 
+-- The code's match knows the vote: what an arm's step left is what the step of that vote leaves.
+pub takes_as : {k j p : ℕ} {s t : List ℕ} {e : Entries} → k ≡ j → Takes (act_at (j + 2)) (step_at (j + 2)) (some (cast j p)) s t e
+    → Takes (act_at (k + 2)) (step_at (k + 2)) (some (cast k p)) s t e
+takes_as {p = p} {s} {t} {e} is = subst (λ (i : ℕ). Takes (act_at (i + 2)) (step_at (i + 2)) (some (cast i p)) s t e) (sym is)
+
 -- A step without an act leaves record and output as they are, so crate pass may leave it out.
 pub idle_step : (k : ℕ) (c : Record) → act_at k c ≡ none → step_at k c ≡ taken c none
 idle_step k c e = step_by k c ∙ ap (taken c) e

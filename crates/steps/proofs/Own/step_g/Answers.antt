@@ -1,0 +1,9 @@
+-- `steps::Own::step_g` meets its contract: what its act does is what the step does.
+-- Assumes nothing.
+use Rattle.acts.specs.inside.Acts.{act_at}
+use Rattle.steps.proofs.Steps.{takes}
+use Rattle.steps.proofs.Own.step_g.Goals as goal
+
+pub returns : goal.returns
+unfolding act_at
+returns c = takes 6 c.cast_in-wrote.ensures
