@@ -175,7 +175,8 @@ impl LineProgram for VaultLines {
     }
 }
 
-// A piece of input. The first len bytes of text are what is kept of the line that has begun; the page starts empty.
+// A piece of input. The first len bytes of text are what is kept of the line that has begun; the page starts empty. It is lent slices, with their
+// lengths in a clause: `WholeInput` (docs/CLAIMS.md) is of this call.
 pub fn feed(rec: &mut [u8], text: &mut [u8], len: usize, page: &mut [u8], piece: &[u8]) -> Place
     requires { (length text.old ≡ kept_size) × (len ≤ kept_size) × (length page.old ≡ page_size) × (length piece.now ≤ piece_size) }
     ensures fed { Fed vault_lines kept_size rec.old (take len text.old) piece.now rec.new (take result.len text.new) (take result.at page.new) }

@@ -205,7 +205,8 @@ impl LineProgram for Rehearsal {
     }
 }
 
-// A piece of input. The first len bytes of text are what is kept of the line that has begun; the page starts empty.
+// A piece of input. The first len bytes of text are what is kept of the line that has begun; the page starts empty. It is lent slices, with their
+// lengths in a clause: `WholeInput` (docs/CLAIMS.md) is of this call.
 pub fn feed(stage: &mut [u8], text: &mut [u8], len: usize, page: &mut [u8], piece: &[u8]) -> Place
     requires stage_fits { length stage.old ≡ stage_size }
     requires sized { (length text.old ≡ kept_size) × (len ≤ kept_size) × (length page.old ≡ page_size) × (length piece.now ≤ piece_size) }
