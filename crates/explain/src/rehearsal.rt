@@ -2,7 +2,7 @@
 // its stage is not known here, so a line is explained by itself.
 ghost use Rattle.std.specs.Prelude.{◌≡◌, get_or};
 ghost use Rattle.frame.specs.Refusal.{first};
-ghost use Rattle.frame.specs.inside.Reading.{number_in as refused_with};
+ghost use Rattle.frame.specs.Answers.{number_in as refused_with};
 ghost use Rattle.stage.specs.inside.Parts.{Formed};
 ghost use Rattle.explain.specs.inside.Forms.{line_form};
 

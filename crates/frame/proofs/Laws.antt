@@ -21,7 +21,7 @@ use Rattle.frame.specs.declared.Refusal.{Refusal}
 use Rattle.frame.specs.declared.Refusal.TheVariants as why
 use Rattle.frame.specs.Refusal.{Row, row, first, form_rows}
 use Rattle.frame.specs.Numbers.{number_of}
-use Rattle.frame.specs.inside.Reading.{number_in}
+use Rattle.frame.specs.Answers.{number_in}
 
 -- what is known of two numbers, said of the tests on them: `search tests` decides a table's row from the branches on the way
 pub ruleset tests = (eq-eqb, ne_eqb, lt-ltb, le-ltb, le-leb, lt-leb, or-false)

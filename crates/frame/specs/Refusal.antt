@@ -77,22 +77,23 @@ form_rows s =
 
 -- 'link's sender ≥ n or the vault's own number'; 'sender byte is not the link's'
 abbrev pub link_rows : ℕ → ℕ → ℕ → ℕ → List Row
-link_rows sender link n own =
-    row 11 (leb n link || eqb link own)
-    ∷ row 12 (not (eqb sender link))
-    ∷ []
+link_rows sender link n own = row 11 (leb n link || eqb link own) ∷ row 12 (not (eqb sender link)) ∷ []
 
 -- 02, wish 1: 'Keep 14 for a bad mark or a nonzero byte in an absent report'
 abbrev pub report_form_row : List Report → Row
 report_form_row rs = row 14 (any bad_form rs)
 
+-- 'a report whose view is not below the frame's by one number' (21)
+abbrev pub report_view_row : ℕ → List Report → Row
+report_view_row view rs = row 21 (any (too_high view) rs)
+
 -- 'a previous vote at odds with its highest by another' (22)
 abbrev pub previous_row : List Report → Row
 previous_row rs = row 22 (bad_previous_of rs)
 
--- 'All three reports are tested for the first fault, then all for the second' (21, a 'view .. not below the frame's'), 'then all for the third.'
+-- 'All three reports are tested for the first fault, then all for the second, then all for the third.'
 abbrev pub report_rows : ℕ → List Report → List Row
-report_rows view rs = report_form_row rs ∷ row 21 (any (too_high view) rs) ∷ previous_row rs ∷ []
+report_rows view rs = report_form_row rs ∷ report_view_row view rs ∷ previous_row rs ∷ []
 
 -- 'view 0 in kind 6, 7 or 8'; the reports
 abbrev pub content_rows : Frame → List Row

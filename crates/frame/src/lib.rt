@@ -6,7 +6,7 @@ ghost use Rattle.frame.specs.Format.{length_of, three_reports};
 ghost use Rattle.frame.specs.Refusal.{bad_form, too_high, bad_previous, view_missing, misled, first, any, form_rows, link_rows, report_rows, content_rows, leader_rows};
 ghost use Rattle.frame.specs.inside.Reading.{present_at};
 ghost use Rattle.frame.specs.Numbers.{number_of};
-ghost use Rattle.frame.specs.inside.Reading.{number_in};
+ghost use Rattle.frame.specs.Answers.{number_in};
 
 pub mod numbers;
 pub mod reader;

@@ -3,7 +3,7 @@ ghost use Rattle.std.specs.Prelude.{◌≡◌, true, ◌+◌, ◌≤◌, length}
 ghost use Rattle.frame.specs.Format.{within, length_of, report_at, reports_at, body_as, decode};
 ghost use Rattle.frame.specs.inside.Reading.{Formed};
 ghost use Rattle.frame.specs.Refusal.{read_frame};
-ghost use Rattle.frame.specs.inside.Reading.{reading};
+ghost use Rattle.frame.specs.Answers.{reading};
 
 use crate::{Body, Frame, Refusal, Report, Reports};
 

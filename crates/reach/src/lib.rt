@@ -4,7 +4,7 @@
 ghost use Rattle.std.specs.Prelude.{◌≡◌};
 ghost use Rattle.frame.specs.Format.{three_reports};
 ghost use Rattle.frame.specs.Refusal.{first};
-ghost use Rattle.frame.specs.inside.Reading.{number_in};
+ghost use Rattle.frame.specs.Answers.{number_in};
 ghost use Rattle.reach.specs.Call.{told_rows, said_reach, reached, claim_reach};
 
 use claims::Vote;

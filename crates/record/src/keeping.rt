@@ -2,7 +2,7 @@
 ghost use Rattle.std.specs.Prelude.{◌≡◌, true, ◌≤◌, ◌<◌, length};
 ghost use Rattle.frame.specs.Valid.{fits};
 ghost use Rattle.frame.specs.Refusal.{first};
-ghost use Rattle.frame.specs.inside.Reading.{number_in};
+ghost use Rattle.frame.specs.Answers.{number_in};
 ghost use Rattle.record.specs.Slots.{rows, slot_of};
 ghost use Rattle.record.specs.inside.Slots.{RowPlace};
 ghost use Rattle.record.specs.Size.{record_size};

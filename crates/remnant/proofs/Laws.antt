@@ -14,7 +14,7 @@ use Rattle.wire.specs.Fields.{Bytes}
 use Rattle.wire.specs.Placed.{placed}
 use Rattle.frame.specs.declared.Report.{Report}
 use Rattle.frame.specs.Refusal.{row, first}
-use Rattle.frame.specs.inside.Reading.{number_in}
+use Rattle.frame.specs.Answers.{number_in}
 use Rattle.entry.specs.declared.Entry.{Entry}
 use Rattle.entry.specs.declared.Entry.TheVariants.{Timer}
 use Rattle.entry.specs.Layout.{entry_bytes, layout}

@@ -5,7 +5,7 @@
 mod row;
 
 ghost use Rattle.std.specs.Prelude.{◌≡◌, ◌≤◌, length};
-ghost use Rattle.frame.specs.inside.Reading.{number_in};
+ghost use Rattle.frame.specs.Answers.{number_in};
 ghost use Rattle.record.specs.Layout.{encode_record};
 ghost use Rattle.record.specs.Size.{record_size};
 ghost use Rattle.sound.specs.inside.Sound.{lent_is};

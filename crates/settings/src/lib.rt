@@ -3,7 +3,7 @@
 
 ghost use Rattle.std.specs.Prelude.{◌≡◌, ◌*◌};
 ghost use Rattle.frame.specs.Refusal.{first};
-ghost use Rattle.frame.specs.inside.Reading.{number_in};
+ghost use Rattle.frame.specs.Answers.{number_in};
 ghost use Rattle.settings.specs.Settings.{setting_rows, delay_of};
 
 use frame::Refusal;

@@ -5,7 +5,7 @@
 
 ghost use Rattle.std.specs.Prelude.{◌≡◌, length, get_or};
 ghost use Rattle.frame.specs.Refusal.{first};
-ghost use Rattle.frame.specs.inside.Reading.{number_in};
+ghost use Rattle.frame.specs.Answers.{number_in};
 ghost use Rattle.stage.specs.Stage.{stage_size};
 ghost use Rattle.stage.specs.Lines.{vault_in, wrong_length, no_vault, no_frame, second_liar, not_liar, misnamed, line_rows};
 

@@ -8,8 +8,10 @@ ghost use Rattle.stage.specs.inside.Parts.{frame_most, free_number, held_length,
 
 use crate::Way;
 
-// A place, of 256 ('up to 256 frames on their way'): one more than the frame's length (0 where none waits), the writer, the recipient byte,
-// and up to 45 bytes.
+// 'up to 256 frames on their way'
+pub const PLACES: usize = 256;
+
+// A place: one more than the frame's length (0 where none waits), the writer, the recipient byte, and up to 45 bytes.
 const PLACE: usize = 48;
 
 // The bytes before the frame's.

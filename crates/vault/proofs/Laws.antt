@@ -12,7 +12,7 @@ use lib.Dec.{ltb}
 use borrow.Author.Tests.{lt-ltb, le-ltb, ltb-false}
 use Rattle.wire.specs.Fields.{Bytes}
 use Rattle.entry.specs.Layout.{layout}
-use Rattle.frame.specs.inside.Reading.{number_in}
+use Rattle.frame.specs.Answers.{number_in}
 use Rattle.record.specs.Layout.{encode_record, decode_record}
 use Rattle.sound.specs.declared.Lent.{Lent}
 use Rattle.sound.specs.declared.Lent.TheVariants.{Blank, Unsound, Sound}

@@ -4,7 +4,7 @@
 
 ghost use Rattle.std.specs.Prelude.{◌≤◌, ◌<◌, ◌≡◌, length};
 ghost use Rattle.frame.specs.Refusal.{first};
-ghost use Rattle.frame.specs.inside.Reading.{number_in};
+ghost use Rattle.frame.specs.Answers.{number_in};
 ghost use Rattle.settings.specs.Settings.{setting_rows};
 ghost use Rattle.record.specs.Slots.{rows};
 ghost use Rattle.record.specs.Layout.{decode_record};

@@ -6,7 +6,7 @@
 use mathlib.Core.Path.{◌≡◌, refl, ap, ◌∙◌}
 use mathlib.Core.List.{List, [], ◌∷◌, ◌++◌, append_assoc, append-nil}
 use Prim.Native.Nat.{ℕ, zero, suc, ◌+◌, ◌*◌, ◌/◌, ◌%◌, ◌^◌, ◌<◌, ◌≤◌}
-use native.Mathlib.Nat.{add-zero, pow-suc, pow-zero, div-add-mod', div-lt_iff_lt-mul, pow-le-pow_right}
+use native.Mathlib.Nat.{add-zero, add_assoc, pow-suc, pow-zero, div-add-mod', div-lt_iff_lt-mul, pow-le-pow_right}
 use native.Mathlib.Numerals.{add-one}
 use native.Mathlib.Omega.{arith}
 use lib.ListN.{length, get_or, take, drop, length-append, length-drop}
@@ -123,3 +123,12 @@ bytes_digits (suc w) n i = bytes_append (digits w (n / 256)) (n % 256 ∷ []) (b
 pub bytes_spell : (fs : List Field) → Bytes (spell fs)
 bytes_spell [] i = omega arith
 bytes_spell (field w v ∷ fs) i = bytes_append (digits w v) (spell fs) (bytes_digits w v) (bytes_spell fs) i
+
+-- eight bytes are four and four
+pub number_halves : (s : List ℕ) (at : ℕ) → number_at 8 s at ≡ number_at 4 s at * 4294967296 + number_at 4 s (at + 4)
+unfolding number_at
+number_halves s at =
+    omega (arith, at₄ 0, at₄ 1, at₄ 2, at₄ 3)
+  where
+    at₄ : (j : ℕ) → get_or s (at + 4 + j) 0 ≡ get_or s (at + (4 + j)) 0
+    at₄ j = ap (λ (n : ℕ). get_or s n 0) (add_assoc at 4 j)

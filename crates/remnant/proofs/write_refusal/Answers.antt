@@ -1,7 +1,7 @@
 -- `remnant::write_refusal` meets its contract: by the space, then by what the record is.
 -- Assumes nothing.
 use mathlib.Core.Path.{◌∙◌, refl, ap}
-use Rattle.frame.specs.inside.Reading.{number_in}
+use Rattle.frame.specs.Answers.{number_in}
 use Rattle.sound.specs.inside.Sound.{lent_is}
 use Rattle.remnant.proofs.Laws.{write_short, write_lent, lent_number}
 use Rattle.remnant.proofs.write_refusal.Goals as goal

@@ -2,7 +2,7 @@
 -- Assumes nothing.
 use borrow.Author.Rules.{rules}
 use mathlib.Core.Path.{refl, sym, ap, ◌∙◌}
-use Rattle.frame.specs.inside.Reading.{reading}
+use Rattle.frame.specs.Answers.{reading}
 use Rattle.contents.proofs.Sound.{size_sound}
 use Rattle.vault.proofs.Heard.{read_refused, read_accepted, read_then}
 use Rattle.vault.proofs.frame_in.Goals as goal

@@ -1,7 +1,7 @@
 -- `vault::way_in` meets its contract: by the output's space, then by what the record is.
 -- Assumes nothing.
 use mathlib.Core.Path.{◌∙◌, refl, ap}
-use Rattle.frame.specs.inside.Reading.{number_in}
+use Rattle.frame.specs.Answers.{number_in}
 use Rattle.sound.specs.inside.Sound.{lent_is}
 use Rattle.vault.proofs.Laws.{way_short, way_lent, lent_number}
 use Rattle.vault.proofs.way_in.Goals as goal
