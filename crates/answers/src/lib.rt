@@ -15,7 +15,7 @@ ghost use Rattle.answers.specs.inside.Kept.{kept_enough};
 ghost use Rattle.std.proofs.Common.{rules};
 
 use frame::Refusal;
-use lines::pieces::{self, LineProgram, Place};
+use lines::pieces::{self, LineProgram, PieceProgram, Place};
 use settings::Settings;
 
 // A line has at most 90 digits, so 45 bytes.
@@ -172,6 +172,17 @@ impl LineProgram for VaultLines {
 
     fn answer_line(state: &mut [u8], text: &[u8], page: &mut [u8], at: usize) -> usize {
         answer_line(state, text, page, at)
+    }
+}
+
+// Its input is fed by the two calls below.
+impl PieceProgram for VaultLines {
+    fn feed(state: &mut [u8], text: &mut [u8], len: usize, page: &mut [u8], piece: &[u8]) -> Place {
+        feed(state, text, len, page, piece)
+    }
+
+    fn finish(state: &mut [u8], text: &[u8], len: usize, page: &mut [u8]) -> usize {
+        finish(state, text, len, page)
     }
 }
 

@@ -37,6 +37,23 @@ pub struct Place {
     pub at: usize,
 }
 
+// A program over lines whose input is fed to it in pieces: the two calls that `run` makes. Each promises what `feed` and `finish` below do.
+pub trait PieceProgram: LineProgram {
+    // A piece of input. The first len bytes of text are what is kept of the line that has begun; the page starts empty.
+    fn feed(state: &mut [u8], text: &mut [u8], len: usize, page: &mut [u8], piece: &[u8]) -> Place
+        requires state_fits { Self.may_be (length state.old) }
+        requires sized { (length text.old ≡ Self.sizes.room) × (len ≤ Self.sizes.room) × (length page.old ≡ page_of Self.sizes) × (length piece.now ≤ Self.sizes.piece) }
+        ensures fed { Fed Self.program Self.sizes.room state.old (take len text.old) piece.now state.new (take result.len text.new) (take result.at page.new) }
+        ensures within { (result.len ≤ Self.sizes.room) × (result.at ≤ page_of Self.sizes) };
+
+    // The input's end: the line that has begun is answered.
+    fn finish(state: &mut [u8], text: &[u8], len: usize, page: &mut [u8]) -> usize
+        requires state_fits { Self.may_be (length state.old) }
+        requires sized { (length text.now ≡ Self.sizes.room) × (len ≤ Self.sizes.room) × (length page.old ≡ page_of Self.sizes) }
+        ensures finished { Finished Self.program state.old (take len text.now) state.new (take result page.new) }
+        ensures upper_bound { result ≤ page_of Self.sizes };
+}
+
 // A piece of input. The first len bytes of text are what is kept of the line that has begun; the page starts empty.
 // Lines have different lengths, so the place goes from line's end to line's end and is no counted index.
 pub fn feed<L: LineProgram>(
@@ -84,7 +101,7 @@ pub fn finish<L: LineProgram>(state: &mut [u8], text: &[u8], len: usize, page: &
 // Reads the input, piece by piece; what a piece prints is written out before more is awaited. Answers how much is kept of a line that has not ended.
 // Where a read or a write fails, whole pieces were fed up to there.
 // A proved loop has to end, and nothing says that the input does: the loop takes so many turns that no run uses them up; then it is None.
-fn read_all<L: LineProgram>(
+fn read_all<L: PieceProgram>(
     rt: &(impl Input + Print),
     state: &mut [u8],
     text: &mut [u8],
@@ -103,7 +120,7 @@ fn read_all<L: LineProgram>(
         if count == 0 {
             return Ok(Some(len));
         }
-        let place = feed::<L>(state, text, len, page, &piece[0..count]);
+        let place = L::feed(state, text, len, page, &piece[0..count]);
         rt.write_all(&page[0..place.at])?;
         len = place.len;
     }
@@ -111,7 +128,7 @@ fn read_all<L: LineProgram>(
 }
 
 // The input is read, and then its last line answered.
-pub fn run<L: LineProgram>(
+pub fn run<L: PieceProgram>(
     rt: &(impl Input + Print),
     state: &mut [u8],
     text: &mut [u8],
@@ -124,6 +141,6 @@ pub fn run<L: LineProgram>(
     let Some(len) = read_all::<L>(rt, state, text, page, piece)? else {
         return Ok(());
     };
-    let at = finish::<L>(state, text, len, page);
+    let at = L::finish(state, text, len, page);
     rt.write_all(&page[0..at])
 }

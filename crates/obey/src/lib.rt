@@ -20,7 +20,7 @@ ghost use Rattle.obey.specs.inside.Kept.{kept_enough};
 ghost use Rattle.std.proofs.Common.{rules};
 
 use frame::{Refusal, numbers};
-use lines::pieces::{self, LineProgram, Place};
+use lines::pieces::{self, LineProgram, PieceProgram, Place};
 use stage::{Way, calls, places};
 
 // 'a zeroed 256-byte output array'
@@ -202,6 +202,17 @@ impl LineProgram for Rehearsal {
 
     fn answer_line(state: &mut [u8], text: &[u8], page: &mut [u8], at: usize) -> usize {
         obey_line(state, text, page, at)
+    }
+}
+
+// Its input is fed by the two calls below.
+impl PieceProgram for Rehearsal {
+    fn feed(state: &mut [u8], text: &mut [u8], len: usize, page: &mut [u8], piece: &[u8]) -> Place {
+        feed(state, text, len, page, piece)
+    }
+
+    fn finish(state: &mut [u8], text: &[u8], len: usize, page: &mut [u8]) -> usize {
+        finish(state, text, len, page)
     }
 }
 
