@@ -1,9 +1,9 @@
 // An input that is read in pieces, for any program that answers lines on a page.
 
-ghost use Rattle.std.specs.Prelude.{Some, ℕ, ◌≡◌, ◌+◌, ◌*◌, ◌≤◌, ◌<◌, List, length, take, IfOk, OnErr};
+ghost use Rattle.std.specs.Prelude.{Some, ℕ, ◌≡◌, ◌+◌, ◌*◌, ◌≤◌, ◌<◌, List, length, take, IfOk, OnOk, OnErr};
 ghost use Rattle.lines.specs.Lines.{Program};
 ghost use Rattle.lines.specs.Steps.{Fed, Finished};
-ghost use Rattle.lines.specs.inside.Reading.{EndedWell};
+ghost use Rattle.lines.specs.inside.Reading.{EndedWell, UsedUp, RanWell, RanUpTo};
 ghost use Rattle.lines.specs.inside.Sizes.{Sizes, page_of};
 ghost use Rattle.lines.specs.inside.Steps.{Enough, Answered};
 
@@ -42,7 +42,8 @@ pub trait PieceProgram: LineProgram {
     // A piece of input. The first len bytes of text are what is kept of the line that has begun; the page starts empty.
     fn feed(state: &mut [u8], text: &mut [u8], len: usize, page: &mut [u8], piece: &[u8]) -> Place
         requires state_fits { Self.may_be (length state.old) }
-        requires sized { (length text.old ≡ Self.sizes.room) × (len ≤ Self.sizes.room) × (length page.old ≡ page_of Self.sizes) × (length piece.now ≤ Self.sizes.piece) }
+        requires sized { (length text.old ≡ Self.sizes.room) × (len ≤ Self.sizes.room)
+            × (length page.old ≡ page_of Self.sizes) × (length piece.now ≤ Self.sizes.piece) }
         ensures fed { Fed Self.program Self.sizes.room state.old (take len text.old) piece.now state.new (take result.len text.new) (take result.at page.new) }
         ensures within { (result.len ≤ Self.sizes.room) × (result.at ≤ page_of Self.sizes) };
 
@@ -111,6 +112,7 @@ fn read_all<L: PieceProgram>(
     requires state_fits { L.may_be (length state.old) }
     requires sized { (length text.old ≡ L.sizes.room) × (length page.old ≡ page_of L.sizes) × (length piece.old ≡ L.sizes.piece) }
     ensures ok { IfOk result (λ ended. EndedWell L.program L.sizes.room state.old ended state.new text.new) }
+    ensures used_up { IfOk result (λ ended. UsedUp L.program L.sizes.room state.old ended state.new text.new) }
     ensures err { OnErr result ((len : ℕ) × EndedWell L.program L.sizes.room state.old (Some len) state.new text.new) }
 {
     let mut input = rt.reader();
@@ -128,6 +130,7 @@ fn read_all<L: PieceProgram>(
 }
 
 // The input is read, and then its last line answered.
+// Where a read or a write fails, whole pieces were fed up to there, or the last line was answered too.
 pub fn run<L: PieceProgram>(
     rt: &(impl Input + Print),
     state: &mut [u8],
@@ -137,6 +140,8 @@ pub fn run<L: PieceProgram>(
 ) -> io::Result<()>
     requires state_fits { L.may_be (length state.old) }
     requires sized { (length text.old ≡ L.sizes.room) × (length page.old ≡ page_of L.sizes) × (length piece.old ≡ L.sizes.piece) }
+    ensures ok { OnOk result (RanWell L.program L.sizes.room state.old state.new text.new page.new) }
+    ensures err { OnErr result (RanUpTo L.program L.sizes.room state.old state.new text.new page.new) }
 {
     let Some(len) = read_all::<L>(rt, state, text, page, piece)? else {
         return Ok(());

@@ -3,7 +3,7 @@
 use mathlib.Core.Path.{◌≡◌}
 use lib.ListN.{length}
 use Rattle.std.specs.Prelude.{Some}
-use Rattle.lines.specs.inside.Reading.{EndedWell}
+use Rattle.lines.specs.inside.Reading.{EndedWell, FedFor}
 use Rattle.lines.specs.inside.Sizes.{page_of}
 use Rattle.lines.proofs.pieces.read_all.Given as goal
 
@@ -15,3 +15,4 @@ invariant-loop g l =
     × (length l.page ≡ page_of p.sizes)
     × (length l.piece ≡ p.sizes.piece)
     × EndedWell p.program p.sizes.room l.initial.state (Some l.len) l.state l.text
+    × FedFor p.program p.sizes.room l.counter l.initial.state l.len l.state l.text
