@@ -1,10 +1,10 @@
 -- The laws of rows (document 01, 'When a plan is safe'). A report is for every plan, for one, or for none; so a count of equal plans, with those
 -- that are for every plan, tells how many are for a plan (`tells_more`).
 -- Assumes nothing.
-use Prim.Native.Nat.{ℕ, zero, suc, ◌+◌, ◌-◌, ◌≤◌, ◌<◌}
+use Prim.Native.Nat.{ℕ, zero, suc, ◌+◌, ◌-◌, ◌^◌, ◌≤◌, ◌<◌}
 use mathlib.Core.Path.{◌≡◌, refl, sym, ◌∙◌, ap, subst₂}
 use mathlib.Core.Bool.{Bool, true, false, cond}
-use mathlib.Core.List.{List}
+use mathlib.Core.List.{List, [], ◌∷◌}
 use mathlib.Core.Option.{none, some}
 use native.Mathlib.Omega.{arith}
 use native.Mathlib.Decide.{ℕ_discrete}
@@ -16,7 +16,7 @@ use Rattle.rules.specs.Sets.{weigh}
 use Rattle.rules.proofs.Quorums.{weigh_none, weigh_more, weigh_same}
 use Rattle.rules.specs.Rules.{Report, Reports, view_of, view_for, reporting}
 use Rattle.claims.specs.declared.Tally.{Tally}
-use Rattle.claims.specs.inside.Rows.{rows_size, count_of, Stance, for_all, for_one, for_none, added, RowTells, SameBelow}
+use Rattle.claims.specs.inside.Rows.{rows_size, Words, count_of, Stance, for_all, for_one, for_none, added, RowTells, SameBelow}
 use Rattle.claims.specs.Table.{column, vote_above, reporter, reports_in_table}
 
 -- ---- votes of the table
@@ -49,6 +49,14 @@ unfolding reports_in_table
 silent t r test h = rw h
 
 -- ---- rows
+
+-- A number of 64 bits written into a row of such numbers leaves one.
+pub words_set : (s : List ℕ) (k v : ℕ) → Words s → v < 2 ^ 64 → Words (set s k v)
+words_set [] k v w low i = w i
+words_set (x ∷ s) zero v w low zero = low
+words_set (x ∷ s) zero v w low (suc i) = w (suc i)
+words_set (x ∷ s) (suc k) v w low zero = w zero
+words_set (x ∷ s) (suc k) v w low (suc i) = words_set s k v (λ j. w (suc j)) low i
 
 -- A row without plans counts none.
 pub count_none : (plans : List ℕ) (at p : ℕ) → count_of plans at 0 p ≡ 0

@@ -4,7 +4,7 @@
 
 ghost use Rattle.std.specs.Prelude.{◌+◌, ◌-◌, ◌*◌, ◌≤◌, ◌<◌, ◌≡◌, cond, not, leb, eqb, length, set};
 ghost use Rattle.rules.specs.Sets.{weigh};
-ghost use Rattle.claims.specs.inside.Rows.{rows_size, for_plan, FitsRow, added, SameBelow};
+ghost use Rattle.claims.specs.inside.Rows.{rows_size, Words, for_plan, FitsRow, added, SameBelow};
 ghost use Rattle.claims.specs.inside.Spans.{stands_at, covered_views, highest_to, Within, AreSpans};
 ghost use Rattle.claims.specs.inside.Walk.{reach_by, reach_in, claim_end, other_plan, standing, Listed, InOrder, others_of};
 ghost use Rattle.claims.specs.inside.Walk.{FitsComing, end_at, end_of, coming_at, claimed_in, serving_view, Told};
@@ -235,7 +235,8 @@ fn list_at<'a>(
     from: usize,
 ) -> usize
     requires { (n ≤ column) × (from ≤ column) }
-    ensures { SameBelow plans.old plans.new from × Listed table.now standings.now n k plans.new from result }
+    ensures listed { SameBelow plans.old plans.new from × Listed table.now standings.now n k plans.new from result }
+    ensures words { Words plans.new }
 {
     let total = count_at(standings, n, k);
     let mut count: usize = 0;
@@ -266,7 +267,8 @@ fn write_row<'a>(
     plans: &mut [u64; ROWS],
 ) -> Row
     requires { n ≤ column }
-    ensures { InOrder table.now standings.now n plans.new result.both result.only result.here }
+    ensures in_order { InOrder table.now standings.now n plans.new result.both result.only result.here }
+    ensures words { Words plans.new }
 {
     let both = list_at(table, standings, n, OWN_NEXT_OTHERS_HERE, plans, 0);
     let only = list_at(table, standings, n, OWN_NEXT, plans, both);
@@ -283,7 +285,8 @@ pub fn claims_from<'a>(
     plans: &mut [u64; ROWS],
 ) -> Claims
     requires { (n ≤ column) × (end ≤ u + 2) }
-    ensures { Told (reports_in_table table.now) n u end plans.new result.next result.here }
+    ensures told { Told (reports_in_table table.now) n u end plans.new result.next result.here }
+    ensures words { Words plans.new }
 {
     let found = standings(table, n, u, end);
     let row = write_row(table, &found, n, plans);
@@ -307,7 +310,8 @@ pub fn claims_from<'a>(
 // One report more: its plan is written behind the row, and counts where the report is for that plan only. Else it is written over.
 pub fn add_share(plans: &mut [u64; ROWS], at: usize, tally: Tally, share: Tally, plan: u64) -> Tally
     requires { (at + tally.some < rows_size) × (tally.every + share.every ≤ column) × (tally.some + share.some ≤ column) }
-    ensures { (plans.new ≡ set plans.old (at + tally.some) plan) × (result ≡ added tally share) }
+    ensures added { (plans.new ≡ set plans.old (at + tally.some) plan) × (result ≡ added tally share) }
+    ensures words { Words plans.new }
 {
     plans[at + tally.some] = plan;
     Tally {

@@ -1,6 +1,6 @@
 -- What is prepared for a search: two rows of plans. A report that is for every plan is only counted; one that is for a single plan has
 -- that plan in the row. So how many are for a plan is a count of equal numbers. Assumes nothing.
-use Rattle.std.specs.Prelude.{ℕ, ◌+◌, ◌≤◌, ◌<◌, ◌≡◌, Bool, true, false, List, eqb, get_or}
+use Rattle.std.specs.Prelude.{ℕ, ◌+◌, ◌^◌, ◌≤◌, ◌<◌, ◌≡◌, Bool, true, false, List, eqb, get_or}
 use Rattle.rules.specs.Sets.{weigh}
 use Rattle.rules.specs.Rules.{Report, Reports, reporting}
 use Rattle.claims.specs.declared.Tally.{Tally}
@@ -9,6 +9,10 @@ use Rattle.claims.specs.Table.{column}
 -- Two rows: who claims at the candidate views, and whom the locks let be at view u.
 abbrev pub rows_size : ℕ
 rows_size = 128
+
+-- Every element is a number of 64 bits, as those of a slice of u64 are.
+abbrev pub Words : List ℕ → Type 0
+Words s = (i : ℕ) → get_or s i 0 < 2 ^ 64
 
 -- How many of the k plans from place `at` on are p.
 unfoldable pub count_of : List ℕ → ℕ → ℕ → ℕ → ℕ

@@ -10,6 +10,6 @@ loop-r-init c = row_none _ _ _ _ _ _ (omega arith)
 
 pub loop-r-preserved : goal.loop-r-preserved
 loop-r-preserved c =
-    let put = c.add_share-tally.ensures in
+    let put = c.add_share-tally.ensures.added in
     let pre = c.requires in
     row_more c.loop-r.invariant _ _ c.allow_share-share.ensures c.loop-r-test.true pre (omega arith) _ _ put.0 put.1

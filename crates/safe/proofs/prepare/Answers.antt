@@ -11,7 +11,7 @@ pub returns : goal.returns
 returns c =
     let a = c.args in
     let rs = reports_in_table a.table.now in
-    let told = c.claims_from-coming.ensures in
+    let told = c.claims_from-coming.ensures.told in
     let locks = c.locks_at-locks.ensures in (
       prepares rs _ _ _ _ c.requires.0 c.requires.1 c.requires.2 (omega arith) c.end_of-end.ensures told locks.0 locks.1,
       refl,
