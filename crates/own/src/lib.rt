@@ -4,6 +4,7 @@
 
 ghost use Rattle.std.specs.Prelude.{◌≡◌, ◌+◌, ◌≤◌, ◌<◌, length, take, drop};
 ghost use Rattle.wire.specs.Placed.{placed};
+ghost use Rattle.wire.specs.Fields.{Bytes};
 ghost use Rattle.record.specs.Slots.{rows, slot_count};
 ghost use Rattle.record.specs.Layout.{slot_size, decode_record};
 ghost use Rattle.record.specs.Size.{record_size};
@@ -99,14 +100,16 @@ pub fn slot_in(own: &[u8; SIZE], t: u8) -> Report
 // Puts slot t.
 pub fn put_in(own: &mut [u8; SIZE], t: u8, x: Report)
     requires { t < remnant_slots }
-    ensures { Changes (λ r. with_slot r (own_slot r.set.id t) x) own.old own.new }
+    ensures changes { Changes (λ r. with_slot r (own_slot r.set.id t) x) own.old own.new }
+    ensures bytes { Bytes own.new }
 {
     record::put_at(own, place_of(t), x);
 }
 
 // Another current view.
 pub fn put_view(own: &mut [u8; SIZE], w: u32)
-    ensures { Changes (λ r. with_view r w) own.old own.new }
+    ensures changes { Changes (λ r. with_view r w) own.old own.new }
+    ensures bytes { Bytes own.new }
 {
     wire::put(own, VIEW, 4, w as u64);
 }

@@ -53,7 +53,7 @@ encode_size r = length-append (shared_of r) (block_of r) ∙ (λ i. length_share
 -- ---- what is written is bytes
 
 -- a slot's bytes, where its numbers have their widths
-bytes_slot : (x : Report) → Small x → Bytes (slot_bytes x)
+pub bytes_slot : (x : Report) → Small x → Bytes (slot_bytes x)
 bytes_slot x z zero = z.mark
 bytes_slot x z (suc i) = bytes_append (digits 4 x.view) (digits 8 x.plan) (bytes_digits 4 x.view) (bytes_digits 8 x.plan) i
 

@@ -10,12 +10,12 @@ use native.Mathlib.Nat.{add-zero, zero-add, add-suc, suc-add, add_assoc, not-suc
 use native.Mathlib.Numerals.{add-one, sub-one}
 use native.Mathlib.Omega.{arith}
 use lib.ListN.{length, take, drop, set, length-append, length-drop, take-append-drop, drop_of_length-le}
-use lib.Seq.{sets, set_comm, set_split, length-take-le, length-sets, take_all, take_at, drop_at, drop-drop, sets-eq}
+use lib.Seq.{sets, set_comm, set_split, length-take-le, length-sets, take_all, take_at, drop_at, drop-drop, sets-eq, get_or-drop}
 use Rattle.wire.specs.Digits.{digits}
-use Rattle.wire.specs.Fields.{Field, field, spell}
+use Rattle.wire.specs.Fields.{Field, field, spell, Bytes}
 use Rattle.wire.specs.inside.Widths.{widths, total_width}
 use Rattle.wire.specs.Placed.{placed}
-use Rattle.wire.proofs.Laws.{length_digits, length_spell, spell_append}
+use Rattle.wire.proofs.Laws.{length_digits, length_spell, spell_append, bytes_append}
 
 -- nothing put is nothing changed
 pub placed_none : (o : List ℕ) (at : ℕ) → placed o at [] ≡ o
@@ -30,6 +30,24 @@ placed_sets o at a h = sets-eq a o at h ∙ append_assoc (take at o) a (drop (at
 -- bytes put where there is room leave the length as it was
 pub length_placed : (o : List ℕ) (at : ℕ) (a : List ℕ) → at + length a ≤ length o → length (placed o at a) ≡ length o
 length_placed o at a h = rw (← placed_sets o at a h) (length-sets o at a)
+
+-- some first bytes of bytes are bytes
+pub bytes_take : (n : ℕ) (s : List ℕ) → Bytes s → Bytes (take n s)
+bytes_take zero s b i = omega arith
+bytes_take (suc n) [] b i = omega arith
+bytes_take (suc n) (x ∷ s) b zero = b zero
+bytes_take (suc n) (x ∷ s) b (suc i) = bytes_take n s (λ j. b (suc j)) i
+
+-- so are those behind them
+pub bytes_drop : (n : ℕ) (s : List ℕ) → Bytes s → Bytes (drop n s)
+bytes_drop n s b i = rw get_or-drop (b (n + i))
+
+-- bytes put over bytes leave bytes
+pub bytes_placed : (o : List ℕ) (at : ℕ) (a : List ℕ) → Bytes o → Bytes a → Bytes (placed o at a)
+unfolding placed
+bytes_placed o at a b c =
+    bytes_append (take at o) (a ++ drop (at + length a) o) (bytes_take at o b)
+    (bytes_append a (drop (at + length a) o) c (bytes_drop (at + length a) o b))
 
 -- two pieces end to end are one
 pub placed_more : (o : List ℕ) (at : ℕ) (a b : List ℕ) → at ≤ length o → placed (placed o at a) (at + length a) b ≡ placed o at (a ++ b)

@@ -8,4 +8,4 @@ use Rattle.steps.proofs.ask_in.Goals as goal
 pub returns : goal.returns
 returns c =
     let id = ap (λ (x : Settings). x.id) c.settings_in-set.ensures in
-    does_ask id c.change_frame-f.ensures c.present.ensures c.put_in.ensures
+    does_ask id c.change_frame-f.ensures c.present.ensures c.put_in.ensures.changes

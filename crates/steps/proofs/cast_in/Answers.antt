@@ -10,4 +10,4 @@ pub returns : goal.returns
 returns c =
     let id = ap (λ (x : Settings). x.id) c.settings_in-set.ensures in
     does_cast c.requires (add-one c.args.k) id c.view_in-view.ensures c.present.ensures
-    c.shift.ensures c.put_in.ensures
+    c.shift.ensures c.put_in.ensures.changes

@@ -36,4 +36,4 @@ returns c =
     c.slot_of_kind.ensures in
     shift_moves c.args.part.now (omega arith) c.args.kind c.args.p c.requires.0 c.requires.1 slot
     (on c.vote_moves.ensures c.if-not-vote_moves.false)
-    (put_as _ c.slot_of_previous.ensures c.put_in.ensures)
+    (put_as _ c.slot_of_previous.ensures c.put_in.ensures.changes)

@@ -9,7 +9,7 @@ returns-then-to-set c =
     does_lead (omega arith) c.requires.0 c.args.w c.requires.2.proofs c.requires.2.suggests
     c.timer_millis-millis.ensures
     c.leader_in-to.ensures
-    c.put_view.ensures
+    c.put_view.ensures.changes
     c.keep_told.ensures c.if-to-set.true
     c.keep_told-then-to-set.ensures
 
@@ -18,5 +18,5 @@ returns c =
     does_follow (omega arith) c.requires.0 c.args.w c.requires.2.proofs c.requires.2.suggests
     c.timer_millis-millis.ensures
     c.leader_in-to.ensures
-    c.put_view.ensures c.keep_told.ensures
+    c.put_view.ensures.changes c.keep_told.ensures
     c.if-to-set.false
