@@ -16,15 +16,15 @@ pub(crate) fn frame_in(s: &[u8]) -> Result<Frame, Refusal>
 
 pub(crate) fn say_kind(rt: &impl Print, kind: u8) -> io::Result<()> {
     match kind {
-        numbers::PROPOSAL => print!(rt; "proposal"),
+        numbers::PROPOSAL => rt.write_all(b"proposal"),
         numbers::VOTE_1..=numbers::VOTE_4 => {
             let vote = kind - numbers::PROPOSAL;
             print!(rt; "vote-{vote}")
         }
-        numbers::VIEW_CHANGE => print!(rt; "view-change"),
-        numbers::SUGGEST => print!(rt; "suggest"),
-        numbers::PROOF => print!(rt; "proof"),
-        _ => print!(rt; "frame"),
+        numbers::VIEW_CHANGE => rt.write_all(b"view-change"),
+        numbers::SUGGEST => rt.write_all(b"suggest"),
+        numbers::PROOF => rt.write_all(b"proof"),
+        _ => rt.write_all(b"frame"),
     }
 }
 
@@ -53,7 +53,7 @@ fn is_none(r: Report) -> bool {
 fn say_report(rt: &impl Print, name: &str, vote: u8, r: Report) -> io::Result<()> {
     print!(rt; "        {name} vote-{vote}: ")?;
     if is_none(r) {
-        return println!(rt; "none");
+        return rt.write_all(b"none\n");
     }
     if r.mark != numbers::PRESENT {
         let mark = r.mark;
@@ -75,10 +75,7 @@ fn say_body(rt: &impl Print, f: Frame) -> io::Result<()> {
     let view = f.view;
     let body = f.body;
     match body {
-        Body::Plan(plan) => {
-            print!(rt; ", ")?;
-            say_place(rt, view, plan)
-        }
+        Body::Plan(plan) => println!(rt; ", view {view}, plan {plan}"),
         Body::Empty => println!(rt; " for view {view}"),
         Body::Told(r) => {
             println!(rt; ", view {view}")?;
@@ -120,7 +117,7 @@ pub(crate) fn say_unformed(rt: &impl Print, s: &[u8]) -> io::Result<()> {
     if size == 0 {
         return say_no_kind(rt, s[0]);
     }
-    print!(rt; "a ")?;
+    rt.write_all(b"a ")?;
     say_kind(rt, s[0])?;
     say_length(rt, "", s.len(), size)
 }
@@ -128,10 +125,10 @@ pub(crate) fn say_unformed(rt: &impl Print, s: &[u8]) -> io::Result<()> {
 // What the vaults read in bytes: a frame, or why they are none.
 pub(crate) fn say_bytes(rt: &impl Print, s: &[u8]) -> io::Result<()> {
     if s.len() == 0 {
-        return println!(rt; "an empty frame");
+        return rt.write_all(b"an empty frame\n");
     }
     let Ok(f) = frame_in(s) else {
-        print!(rt; "no frame: ")?;
+        rt.write_all(b"no frame: ")?;
         return say_unformed(rt, s);
     };
     say_frame(rt, f)

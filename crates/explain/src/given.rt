@@ -35,9 +35,9 @@ fn say_timer(rt: &impl Print, s: &[u8]) -> io::Result<()> {
 
 fn say_malformed(rt: &impl Print, s: &[u8]) -> io::Result<()> {
     if s.len() == 0 {
-        return println!(rt; "    an empty line: an empty frame");
+        return rt.write_all(b"    an empty line: an empty frame\n");
     }
-    print!(rt; "    ")?;
+    rt.write_all(b"    ")?;
     say_unformed(rt, s)
 }
 
@@ -45,7 +45,7 @@ fn say_came(rt: &impl Print, s: &[u8]) -> io::Result<()> {
     let Ok(f) = frame_in(s) else {
         return say_malformed(rt, s);
     };
-    print!(rt; "    came: ")?;
+    rt.write_all(b"    came: ")?;
     say_frame(rt, f)
 }
 

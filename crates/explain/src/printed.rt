@@ -111,7 +111,7 @@ fn say_host(rt: &impl Print, program: Program, s: &[u8]) -> io::Result<()> {
 
 fn say_recipient(rt: &impl Print, to: u8) -> io::Result<()> {
     if to == numbers::TO_ALL {
-        return print!(rt; "to all: ");
+        return rt.write_all(b"to all: ");
     }
     print!(rt; "to vault {to}: ")
 }
@@ -127,7 +127,7 @@ fn say_entry(rt: &impl Print, program: Program, s: &[u8]) -> io::Result<()> {
     let Ok(f) = frame_in(&s[1..]) else {
         return say_unknown(rt, program);
     };
-    print!(rt; "    ")?;
+    rt.write_all(b"    ")?;
     say_recipient(rt, s[0])?;
     say_frame(rt, f)
 }
@@ -146,7 +146,7 @@ fn say_lost(rt: &impl Print, program: Program, s: &[u8]) -> io::Result<()> {
     if s.len() <= AFTER_LOST {
         return say_unknown(rt, program);
     }
-    print!(rt; "    lost, as 256 frames wait, ")?;
+    rt.write_all(b"    lost, as 256 frames wait, ")?;
     say_recipient(rt, s[AFTER_LOST])?;
     say_bytes(rt, &s[AFTER_LOST + 1..])
 }

@@ -56,7 +56,7 @@ fn say_library_reason(rt: &impl Print, number: u8) -> io::Result<()> {
     let mut text = [0u8; LONGEST];
     let count = questions::refusal_text(u32::from(number), &mut text);
     if count == 0 {
-        return print!(rt; "there is no refusal of this number");
+        return rt.write_all(b"there is no refusal of this number");
     }
     if count <= LONGEST {
         rt.write_all(&text[0..count])?;
@@ -68,8 +68,8 @@ fn say_library_reason(rt: &impl Print, number: u8) -> io::Result<()> {
 fn say_reason(rt: &impl Print, program: Program, number: u8) -> io::Result<()> {
     let why = refusal_of(number);
     if let (Program::Rehearsal, Some(Refusal::Name)) = (program, why) {
-        return print!(rt;
-            "no such frame waits, a vault above 3, a second liar, or a frame made up for a vault not declared"
+        return rt.write_all(
+            b"no such frame waits, a vault above 3, a second liar, or a frame made up for a vault not declared",
         );
     }
     say_library_reason(rt, number)?;
@@ -131,7 +131,7 @@ pub(crate) fn length_fault(rt: &impl Print, s: &[u8]) -> io::Result<()> {
 
 pub(crate) fn kind_fault(rt: &impl Print, s: &[u8]) -> io::Result<()> {
     if s.len() == 0 {
-        return println!(rt; "        at fault: the line is empty");
+        return rt.write_all(b"        at fault: the line is empty\n");
     }
     let kind = s[0];
     println!(rt; "        at fault: the kind, byte 0: {kind:02x}")
@@ -202,12 +202,12 @@ fn previous_fault(highest: Report, previous: Report) -> Option<Fault>
 
 fn say_wrong(rt: &impl Print, fault: Fault) -> io::Result<()> {
     match fault {
-        Fault::BadMark => println!(rt; ": its mark is neither 0 nor 1"),
-        Fault::NotAllZero => println!(rt; ": it is absent, and not all of it is 0"),
-        Fault::ViewTooHigh => println!(rt; ": its view is not below the frame's"),
-        Fault::NoHighest => println!(rt; ": there is no highest one"),
-        Fault::NotBelowHighest => println!(rt; ": its view is not below the highest one's"),
-        Fault::HighestPlan => println!(rt; ": it is for the highest one's plan"),
+        Fault::BadMark => rt.write_all(b": its mark is neither 0 nor 1\n"),
+        Fault::NotAllZero => rt.write_all(b": it is absent, and not all of it is 0\n"),
+        Fault::ViewTooHigh => rt.write_all(b": its view is not below the frame's\n"),
+        Fault::NoHighest => rt.write_all(b": there is no highest one\n"),
+        Fault::NotBelowHighest => rt.write_all(b": its view is not below the highest one's\n"),
+        Fault::HighestPlan => rt.write_all(b": it is for the highest one's plan\n"),
     }
 }
 
@@ -252,7 +252,7 @@ fn body_fault(rt: &impl Print, why: Refusal, f: Frame) -> io::Result<()> {
 fn say_repeat(rt: &impl Print, f: Frame) -> io::Result<()> {
     let sender = f.sender;
     let view = f.view;
-    print!(rt; "        at fault: a ")?;
+    rt.write_all(b"        at fault: a ")?;
     say_kind(rt, f.kind)?;
     println!(rt; " of vault {sender} for view {view} or a later one came before")
 }
@@ -332,7 +332,7 @@ fn say_fault(rt: &impl Print, why: Refusal, given: Line) -> io::Result<()> {
 pub(crate) fn say_refusal(rt: &impl Print, number: u8, given: Line) -> io::Result<()> {
     print!(rt; "    refused with {number}: ")?;
     say_reason(rt, given.program, number)?;
-    println!(rt; "")?;
+    rt.write_all(b"\n")?;
     match refusal_of(number) {
         Some(why) => say_fault(rt, why, given),
         None => Ok(()),

@@ -91,12 +91,12 @@ fn say_formed(rt: &impl Print, s: &[u8]) -> io::Result<()>
 // What a line says that is given to a rehearsal.
 pub(crate) fn say_rehearsed(rt: &impl Print, s: &[u8]) -> io::Result<()> {
     if s.len() == 0 {
-        return println!(rt; "    an empty line");
+        return rt.write_all(b"    an empty line\n");
     }
     match form_refusal(s) {
         Ok(()) => say_formed(rt, s),
         Err(Refusal::Kind) => {
-            print!(rt; "    ")?;
+            rt.write_all(b"    ")?;
             say_no_kind(rt, s[0])
         }
         Err(_) => say_wrong_length(rt, s[0], s.len()),

@@ -123,10 +123,10 @@ fn copy<F: Fn(u8) -> Option<u8>>(text: &[u8], out: &mut [u8], way: F) -> usize
 
 // Writes a line as it was read.
 pub(crate) fn show(rt: &impl Print, text: &[u8]) -> io::Result<()> {
-    let mut out = [0u8; TEXT];
-    let count = copy(text, &mut out, |b| Some(visible(b)));
-    rt.write_all(&out[0..count])?;
-    println!(rt; "")
+    let mut out = [0u8; TEXT + 1];
+    let count = copy(text, &mut out[0..TEXT], |b| Some(visible(b)));
+    out[count] = b'\n';
+    rt.write_all(&out[0..=count])
 }
 
 fn writing_of(text: &[u8], digits: usize) -> Writing
@@ -181,23 +181,29 @@ pub(crate) fn read(text: &[u8], program: Program) -> Line {
 
 // ---- what is told of it
 
-// Characters that are no lower-case digits, where there are any.
-fn say_written(rt: &impl Print, program: Program, count: usize, sort: &str) -> io::Result<()> {
-    if count != 0 {
-        println!(rt; "    written with {sort}, which {program} refuses with 20")?;
-    }
-    Ok(())
+// Characters that are no lower-case digits.
+fn say_written(rt: &impl Print, program: Program, sort: &str) -> io::Result<()> {
+    println!(rt; "    written with {sort}, which {program} refuses with 20")
 }
 
 // What is wrong with the characters.
 pub(crate) fn say_writing(rt: &impl Print, program: Program, w: Writing) -> io::Result<()> {
     if w.is_cut {
-        println!(rt; "    256 characters or more")?;
+        rt.write_all(b"    256 characters or more\n")?;
     }
-    say_written(rt, program, w.capitals, "capital letters")?;
-    say_written(rt, program, w.blanks, "blanks")?;
-    say_written(rt, program, w.returns, "a carriage return")?;
-    say_written(rt, program, w.strange, "characters that are no digits")
+    if w.capitals != 0 {
+        say_written(rt, program, "capital letters")?;
+    }
+    if w.blanks != 0 {
+        say_written(rt, program, "blanks")?;
+    }
+    if w.returns != 0 {
+        say_written(rt, program, "a carriage return")?;
+    }
+    if w.strange != 0 {
+        say_written(rt, program, "characters that are no digits")?;
+    }
+    Ok(())
 }
 
 // How many digits a program takes in a line.
