@@ -2,9 +2,9 @@
 -- runs), so they can be printed and their frames sent; what is done has room. A line of fewer than two bytes is refused, so a line's
 -- answer takes no more than its share of the page (`line_share`).
 -- Assumes nothing.
-use Prim.Native.Nat.{ℕ, zero, suc, ◌+◌, ◌*◌, ◌-◌, ◌≤◌, ◌<◌}
+use Prim.Native.Nat.{ℕ, ◌+◌, ◌*◌, ◌-◌, ◌≤◌, ◌<◌}
 use mathlib.Core.Path.{◌≡◌, refl, sym, ap, subst, ◌∙◌}
-use mathlib.Core.Bool.{Bool, true, false, cond}
+use mathlib.Core.Bool.{false}
 use mathlib.Core.List.{List, [], ◌∷◌}
 use mathlib.Core.Option.{Option, some}
 use native.Mathlib.Decide.{dec_le}
@@ -12,14 +12,12 @@ use native.Mathlib.Omega.{arith}
 use borrow.Author.Tests.{eq-eqb, ne_eqb}
 use lib.Dec.{eqb}
 use lib.ListN.{length, get_or, take, drop, length-drop}
-use lib.Seq.{get_or-drop, take_all, length-take-le}
+use lib.Seq.{take_all, length-take-le}
 use Rattle.wire.specs.Fields.{Bytes}
-use Rattle.wire.proofs.Laws.{number_below}
 use Rattle.wire.proofs.Output.{placed_none}
 use Rattle.frame.specs.Refusal.{first}
 use Rattle.entry.specs.Reading.{entries_of}
 use Rattle.record.specs.Size.{record_size}
-use Rattle.runs.specs.Runs.{ByteCall, InWidth}
 use Rattle.runs.specs.Fixed.{leaves}
 use Rattle.runs.specs.Left.{Kept, LeavesWell}
 use Rattle.runs.proofs.Left.{call_leaves_well}
@@ -35,15 +33,16 @@ use Rattle.answers.specs.Lines.{zeroed}
 use Rattle.answers.specs.inside.Steps.{Printable}
 use Rattle.answers.proofs.Answers.{zeroed_size}
 use Rattle.stage.specs.declared.Way.{Way}
-use Rattle.stage.specs.Stage.{Waiting, part, waiting_in, record_place, place_of, place_size, record_of, with_record, with_free, with_liar}
-use Rattle.stage.specs.Lines.{Done, sent, entries_done, Meant, refuse, call, free, declare, make_up, kind_of, vault_in, line_rows, start_of, delivered}
-use Rattle.stage.specs.Lines.{waiting_now, timer_of, call_of, taken, meant, digit_limit, spelled_meant, line_meant, answered, done, rehearsal}
+use Rattle.stage.specs.Stage.{Waiting, record_place, record_of, with_record, with_free, with_liar}
+use Rattle.stage.specs.Lines.{Done, sent, entries_done, Meant, refuse, call, free, declare, make_up, kind_of, vault_in, line_rows}
+use Rattle.stage.specs.Lines.{call_of, taken, meant, digit_limit, spelled_meant, line_meant, answered, done, rehearsal}
 use Rattle.stage.specs.inside.Parts.{on_way, Formed, Called}
 use Rattle.obey.specs.inside.Parts.{DoneAt, put_by}
 use Rattle.obey.specs.inside.Sizes.{answer_size, line_share}
 use Rattle.stage.proofs.Refusals.{formed_two, formed_make_up, accepted_formed}
 use Rattle.obey.proofs.Sent.{sent_short, entries_short}
-use Rattle.stage.proofs.Called.{vault_second}
+use Rattle.stage.proofs.Part.{bytes_part}
+use Rattle.stage.proofs.Called.{vault_second, call_in_width}
 
 -- ---- each kind of answer is put
 
@@ -63,43 +62,6 @@ refused_done a s v out why is k same page at page' next put =
     (record { stage = refl; lines = subst (λ (j : ℕ). OnPage (refusal_line j) page at page' next) same put })
 
 -- ---- a call's answer
-
--- A rest of some bytes is bytes.
-bytes_drop : (n : ℕ) (s : List ℕ) → Bytes s → Bytes (drop n s)
-bytes_drop n s b i = subst (λ (k : ℕ). k < 256) (sym (get_or-drop n s i 0)) (b (n + i))
-
--- And the first ones are.
-bytes_take : (n : ℕ) (s : List ℕ) → Bytes s → Bytes (take n s)
-bytes_take zero s b i = omega arith
-bytes_take (suc n) [] b i = omega arith
-bytes_take (suc n) (x ∷ s) b zero = b 0
-bytes_take (suc n) (x ∷ s) b (suc i) = bytes_take n s (λ j. b (suc j)) i
-
--- So a part of a stage is.
-bytes_part : (at size : ℕ) (s : List ℕ) → Bytes s → Bytes (part at size s)
-unfolding part
-bytes_part at size s b = bytes_take size (drop at s) (bytes_drop at s b)
-
--- A frame that waits is bytes.
-bytes_waiting : (s : List ℕ) (k : ℕ) → Bytes s → Bytes (waiting_now s k).bytes
-unfolding waiting_in
-bytes_waiting s k b =
-    let p : List ℕ = part (place_of k) place_size s in
-    bytes_take (get_or p 0 0 - 1) (drop 3 p) (bytes_drop 3 p (bytes_part (place_of k) place_size s b))
-
--- Whichever call a test picks, it is in width where both are.
-either : (t : Bool) (x y : ByteCall) → InWidth x → InWidth y → InWidth (cond t x y)
-either true x y p q = p
-either false x y p q = q
-
--- A line's numbers and frames come from bytes, so its call is one that the runs of crate runs allow.
-call_in_width : (s b : List ℕ) → Bytes s → Bytes b → InWidth (call_of s b)
-unfolding call_of
-call_in_width s b bs bb =
-    let frames : ByteCall = delivered (waiting_now s (get_or b 1 0)) in
-    let times : ByteCall = timer_of (record_of s (vault_in b)) in
-    either (eqb (kind_of b) 0) (start_of b) (cond (eqb (kind_of b) 1) frames times) (number_below 8 b 3 bb)
-    (either (eqb (kind_of b) 1) frames times (bytes_waiting s (get_or b 1 0) bs) tt)
 
 module _ (s b : List ℕ) (r : Result ℕ Refusal) (s' out' : List ℕ) (made : Called s (vault_in b) (call_of s b) zeroed r s' out') where
   -- An answer that leaves what the line's call leaves has entries to print.

@@ -37,11 +37,11 @@ use Rattle.protocol.proofs.Sound.{delay_low}
 use Rattle.protocol.proofs.ReadsBack as protocol
 use Rattle.contents.specs.Contents.{contents}
 use Rattle.contents.specs.Calls.{left_after, on_lent, called, start_left, frame_left, timer_left}
-use Rattle.contents.specs.Left.{gave}
+use Rattle.contents.specs.Left.{Left, gave}
 use Rattle.contents.specs.Spelling.{Spells}
 use Rattle.own.specs.Part.{remnant_of, over, restored}
 use Rattle.contents.specs.Remnant.{timer_back}
-use Rattle.contents.proofs.Spelling.{Fine, spelled_fine}
+use Rattle.contents.proofs.Spelling.{Fine, fine_bytes, spelled_fine}
 use Rattle.own.proofs.Stored.{remnant_length}
 use Rattle.contents.proofs.Remnant.{written_any, restarted_any}
 use Rattle.runs.specs.Runs.{ByteCall, start, frame, timer, InWidth, record_in, entries_in}
@@ -149,6 +149,13 @@ pub call_leaves_well : AlwaysLeavesWell
 call_leaves_well rec out a bytes low = ⊎_elim
     (λ (k, is). subst (LeavesWell rec out) (sym is) (refl, refl))
     (λ w. subst (LeavesWell rec out) (sym w.is) (accepted_leaves_well w))
+    (goes rec out a bytes low)
+
+-- The record that a call leaves is bytes, where the one before is.
+pub call_leaves_bytes : (rec out : List ℕ) (a : ByteCall) → Bytes rec → InWidth a → Bytes (record_in (leaves rec a out))
+call_leaves_bytes rec out a bytes low = ⊎_elim
+    (λ (k, is). subst (λ (l : Left). Bytes (record_in l)) (sym is) bytes)
+    (λ w. subst (λ (l : Left). Bytes (record_in l)) (sym w.is) (fine_bytes w.o.left (well w).fine))
     (goes rec out a bytes low)
 
 -- The frames that a call writes are read back by each other vault that they are for.

@@ -3,26 +3,35 @@
 -- Assumes nothing.
 use Prim.Native.Nat.{ℕ, ◌+◌, ◌-◌, ◌≤◌}
 use mathlib.Core.Path.{◌≡◌, refl, sym, ap, subst, ◌∙◌}
+use mathlib.Core.Bool.{Bool, true, false, cond}
 use mathlib.Core.List.{List, ◌++◌}
 use native.Mathlib.Omega.{arith}
 use borrow.Author.Tests.{eq-eqb, ne_eqb}
+use lib.Dec.{eqb}
 use lib.ListN.{length, get_or, take, drop, length-drop}
 use lib.Seq.{length-take-le, drop-drop}
+use Rattle.wire.specs.Fields.{Bytes}
 use Rattle.wire.specs.Placed.{placed}
 use Rattle.wire.specs.Digits.{number_at}
+use Rattle.wire.proofs.Laws.{number_below}
+use Rattle.wire.proofs.Output.{bytes_placed}
 use Rattle.settings.specs.declared.Settings.{Settings}
 use Rattle.record.specs.Size.{record_size}
 use Rattle.record.specs.Layout.{decode_record}
 use Rattle.contents.specs.Calls.{start_left, frame_left, timer_left}
-use Rattle.runs.specs.Runs.{ByteCall}
+use Rattle.contents.specs.Left.{Left}
+use Rattle.runs.specs.Runs.{ByteCall, InWidth, record_in}
 use Rattle.runs.specs.Fixed.{leaves}
-use Rattle.std.specs.Prelude.{Result}
+use Rattle.runs.proofs.Left.{call_leaves_bytes}
+use Rattle.std.specs.Prelude.{Result, Ok, Err}
 use Rattle.frame.specs.declared.Refusal.{Refusal}
 use Rattle.vault.specs.Answers.{left_by}
 use Rattle.stage.specs.Stage.{record_place, record_of, with_record, part}
 use Rattle.stage.specs.Lines.{kind_of, vault_in, start_of, delivered, waiting_now, timer_of, call_of}
 use Rattle.stage.specs.inside.Parts.{Named}
 use Rattle.stage.specs.inside.Parts.{Called}
+use Rattle.stage.proofs.Part.{bytes_part}
+use Rattle.stage.proofs.Waiting.{bytes_waiting}
 
 -- ---- the vault that a line names
 
@@ -138,3 +147,35 @@ module _ (s b out : List ℕ) (r : Result ℕ Refusal) (s' out' : List ℕ) wher
       let named : get_or b 1 0 ≡ vault_in b = sym (vault_second b no1) in
       let call : call_of s b ≡ timer_of (record_of s (vault_in b)) = rw (ne_eqb (kind_of b) 0 no0, ne_eqb (kind_of b) 1 no1) refl in
       made (get_or b 1 0) (timer_of (record_of s (get_or b 1 0))) named (ap (λ (v : ℕ). timer_of (record_of s v)) named ∙ sym call) k
+
+-- ---- what is left is bytes
+
+-- Whichever call a test picks, it is in width where both are.
+either : (t : Bool) (x y : ByteCall) → InWidth x → InWidth y → InWidth (cond t x y)
+either true x y p q = p
+either false x y p q = q
+
+-- A line's numbers and frames come from bytes, so its call is one that the runs of crate runs allow.
+pub call_in_width : (s b : List ℕ) → Bytes s → Bytes b → InWidth (call_of s b)
+unfolding call_of
+call_in_width s b bs bb =
+    let frames : ByteCall = delivered (waiting_now s (get_or b 1 0)) in
+    let times : ByteCall = timer_of (record_of s (vault_in b)) in
+    either (eqb (kind_of b) 0) (start_of b) (cond (eqb (kind_of b) 1) frames times) (number_below 8 b 3 bb)
+    (either (eqb (kind_of b) 1) frames times (bytes_waiting s (get_or b 1 0) bs) tt)
+
+-- So the stage that it leaves is bytes.
+pub bytes_called : (s b out : List ℕ) (r : Result ℕ Refusal) (s' out' : List ℕ) → Bytes s → Bytes b
+    → Called s (vault_in b) (call_of s b) out r s' out' → Bytes s'
+bytes_called s b out r s' out' bs bb k = subst Bytes (sym k.stage) (bytes_placed s (record_place (vault_in b)) k.rec bs (go r k.left))
+  where
+    before : List ℕ
+    before = record_of s (vault_in b)
+
+    left : Bytes (record_in (leaves before (call_of s b) out))
+    left =
+        call_leaves_bytes before out (call_of s b) (bytes_part (record_place (vault_in b)) record_size s bs) (call_in_width s b bs bb)
+
+    go : (a : Result ℕ Refusal) → left_by a k.rec out' ≡ leaves before (call_of s b) out → Bytes k.rec
+    go (Ok n) is = subst (λ (l : Left). Bytes (record_in l)) (sym is) left
+    go (Err why) is = subst (λ (l : Left). Bytes (record_in l)) (sym is) left

@@ -9,8 +9,9 @@ use native.Mathlib.Numerals.{add-one}
 use native.Mathlib.Omega.{arith}
 use lib.ListN.{length, get_or, take, drop, set, length-drop}
 use lib.Seq.{length-take-le, drop-drop, take-nil}
+use Rattle.wire.specs.Fields.{Bytes}
 use Rattle.record.proofs.Bytes.{byte_part}
-use Rattle.wire.proofs.Output.{placed_one}
+use Rattle.wire.proofs.Output.{placed_one, bytes_take, bytes_drop}
 use Rattle.stage.specs.Stage.{stage_size, part, liar_place, liar_in, with_liar}
 
 -- A byte of a part is the byte of the stage, so much further on.
@@ -22,6 +23,11 @@ part_get at n i s h = byte_part at n s i h
 pub length_part : (at n : ℕ) (s : List ℕ) → at + n ≤ length s → length (part at n s) ≡ n
 unfolding part
 length_part at n s h = length-take-le n (drop at s) (rw length-drop (omega arith))
+
+-- A part of bytes is bytes.
+pub bytes_part : (at n : ℕ) (s : List ℕ) → Bytes s → Bytes (part at n s)
+unfolding part
+bytes_part at n s b = bytes_take n (drop at s) (bytes_drop at s b)
 
 -- A part as the code lends it, `&s[at..at + n]`.
 pub part_lent : (at n : ℕ) (s : List ℕ) → take (at + n - at) (drop at s) ≡ part at n s

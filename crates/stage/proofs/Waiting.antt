@@ -14,14 +14,15 @@ use borrow.Author.Tests.{lt-ltb, le-ltb}
 use lib.Dec.{eqb}
 use lib.ListN.{length, get_or, take, drop, set, length-set, length-drop}
 use lib.Seq.{take_all, take-take, take_at, length-take-le, drop-drop}
+use Rattle.wire.specs.Fields.{Bytes}
 use Rattle.wire.specs.Placed.{placed}
-use Rattle.wire.proofs.Output.{placed_one, placed_next}
+use Rattle.wire.proofs.Output.{bytes_take, bytes_drop, placed_one, placed_next}
 use Rattle.stage.specs.Stage.{place_count, place_size, place_of, part}
 use Rattle.stage.specs.Stage.{waiting_in, is_free, with_free, free_from, first_free}
 use Rattle.stage.specs.Lines.{waiting_now}
 use Rattle.stage.specs.Sentences.{SmallestFree}
 use Rattle.stage.specs.inside.Parts.{frame_most, held_length}
-use Rattle.stage.proofs.Part.{part_get, length_part, drop_part}
+use Rattle.stage.proofs.Part.{part_get, length_part, bytes_part, drop_part}
 
 -- ---- what is read at a place
 
@@ -34,6 +35,13 @@ free_byte s k = rw (part_get (place_of k) place_size 0 s (omega arith), add-zero
 pub writer_byte : (s : List ℕ) (k : ℕ) → (waiting_now s k).writer ≡ get_or s (place_of k + 1) 0
 unfolding waiting_in
 writer_byte s k = part_get (place_of k) place_size 1 s (omega arith)
+
+-- The frame is bytes, where the stage is.
+pub bytes_waiting : (s : List ℕ) (k : ℕ) → Bytes s → Bytes (waiting_now s k).bytes
+unfolding waiting_in
+bytes_waiting s k b =
+    let p : List ℕ = part (place_of k) place_size s in
+    bytes_take (get_or p 0 0 - 1) (drop 3 p) (bytes_drop 3 p (bytes_part (place_of k) place_size s b))
 
 -- ---- how long a frame is
 
@@ -107,6 +115,13 @@ waiting_stored s at writer to a h =
     ∙ placed_next s₁ (at + 1) writer (to ∷ a) (omega arith)
     ∙ placed_next s at (length a + 1) (writer ∷ to ∷ a) (omega arith)
     ∙ rw add-one
+
+-- What is stored is bytes, where the frame is.
+pub bytes_stored : (writer to : ℕ) (a : List ℕ) → length a ≤ frame_most → writer < 256 → to < 256 → Bytes a → Bytes (suc (length a) ∷ writer ∷ to ∷ a)
+bytes_stored writer to a few w t b zero = omega arith
+bytes_stored writer to a few w t b (suc zero) = w
+bytes_stored writer to a few w t b (suc (suc zero)) = t
+bytes_stored writer to a few w t b (suc (suc (suc i))) = b i
 
 -- ---- the smallest free number
 

@@ -1,5 +1,6 @@
 // The calls at the vaults of a stage: 'Each step is the vault's own step'. A call is lent the vault's record where it lies.
 ghost use Rattle.std.specs.Prelude.{◌≡◌, ◌≤◌, length};
+ghost use Rattle.wire.specs.Fields.{Bytes};
 ghost use Rattle.stage.specs.Stage.{stage_size, record_of};
 ghost use Rattle.stage.specs.Lines.{vault_in, kind_of, start_of, delivered, waiting_now, timer_of, call_of};
 ghost use Rattle.stage.specs.inside.Parts.{Named, Called};
@@ -59,7 +60,8 @@ fn timer(stage: &mut [u8; places::SIZE], v: u8, out: &mut [u8]) -> Result<usize,
 // The call that a line makes, by its kind.
 pub fn call(stage: &mut [u8; places::SIZE], bytes: &[u8], out: &mut [u8]) -> Result<usize, Refusal>
     requires { Named bytes.now }
-    ensures { Called stage.old (vault_in bytes.now) (call_of stage.old bytes.now) out.old result stage.new out.new }
+    ensures called { Called stage.old (vault_in bytes.now) (call_of stage.old bytes.now) out.old result stage.new out.new }
+    ensures bytes { Bytes stage.new }
 {
     if bytes[0] == START {
         return start(stage, bytes, out);

@@ -1,5 +1,6 @@
 // The stage's bytes, read and changed where they lie: 256 places for frames on their way, a byte for the liar, four records.
 ghost use Rattle.std.specs.Prelude.{◌≡◌, ◌+◌, ◌≤◌, eqb, length, take};
+ghost use Rattle.wire.specs.Fields.{Bytes};
 ghost use Rattle.record.specs.Size.{record_size};
 ghost use Rattle.stage.specs.Stage.{stage_size, place_size, place_of, liar_place, record_place, liar_in, is_liar, with_liar};
 ghost use Rattle.stage.specs.Stage.{is_free, first_free, with_waiting, with_free};
@@ -55,7 +56,8 @@ pub fn is_liar(stage: &[u8; SIZE], v: u8) -> bool
 // '03 declare a vault lying'
 pub fn declare(stage: &mut [u8; SIZE], v: u8)
     requires { v ≤ 3 }
-    ensures { stage.new ≡ with_liar stage.old v }
+    ensures with_liar { stage.new ≡ with_liar stage.old v }
+    ensures bytes { Bytes stage.new }
 {
     stage[LIAR] = v + 1;
 }
@@ -91,7 +93,8 @@ pub fn first_free(stage: &[u8; SIZE]) -> Option<u8>
 // A frame waits at a number.
 pub fn put_waiting(stage: &mut [u8; SIZE], k: u8, way: Way, frame: &[u8])
     requires { length frame.now ≤ frame_most }
-    ensures { stage.new ≡ with_waiting stage.old k (on_way way frame.now) }
+    ensures with_waiting { stage.new ≡ with_waiting stage.old k (on_way way frame.now) }
+    ensures bytes { Bytes stage.new }
 {
     let at = place_of(k);
     stage[at] = (frame.len() + 1) as u8;
@@ -103,7 +106,8 @@ pub fn put_waiting(stage: &mut [u8; SIZE], k: u8, way: Way, frame: &[u8])
 
 // 'a dropped one frees its number'
 pub fn free(stage: &mut [u8; SIZE], k: u8)
-    ensures { stage.new ≡ with_free stage.old k }
+    ensures with_free { stage.new ≡ with_free stage.old k }
+    ensures bytes { Bytes stage.new }
 {
     stage[place_of(k)] = 0;
 }

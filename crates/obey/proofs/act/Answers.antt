@@ -49,13 +49,13 @@ answer-requires c =
 pub returns-in-2 : goal.returns-in-2
 returns-in-2 c =
     let a = c.args in
-    let both = drop_acted a.stage.now a.bytes.now a.page.now a.at c.in-2.is c.free.new.stage c.free.ensures in
+    let both = drop_acted a.stage.now a.bytes.now a.page.now a.at c.in-2.is c.free.new.stage c.free.ensures.with_free in
     record { done_at = both.0; upper_bound = both.1 }
 
 pub returns-in-3 : goal.returns-in-3
 returns-in-3 c =
     let a = c.args in
-    let both = declare_acted a.stage.now a.bytes.now a.page.now a.at c.in-3.is c.declare.new.stage c.declare.ensures in
+    let both = declare_acted a.stage.now a.bytes.now a.page.now a.at c.in-3.is c.declare.new.stage c.declare.ensures.with_liar in
     record { done_at = both.0; upper_bound = both.1 }
 
 pub returns-in-4 : goal.returns-in-4

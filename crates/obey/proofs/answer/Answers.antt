@@ -13,7 +13,7 @@ put_answer-requires c =
     let stage : Bytes a.stage.now = λ i. search rules in
     let bytes : Bytes a.bytes.now = λ i. (c.type_inv.bytes i).fits in
     let d = c.call-a in
-    let may = call_printable a.stage.now a.bytes.now d.result d.new.stage d.new.out d.ensures stage bytes in
+    let may = call_printable a.stage.now a.bytes.now d.result d.new.stage d.new.out d.ensures.called stage bytes in
     (may, c.requires.1)
 
 pub returns : goal.returns
@@ -23,7 +23,7 @@ returns c =
     let stage : Bytes a.stage.now = λ i. search rules in
     let bytes : Bytes a.bytes.now = λ i. (c.type_inv.bytes i).fits in
     let d = c.call-a in
-    let may = call_printable a.stage.now a.bytes.now d.result d.new.stage d.new.out d.ensures stage bytes in
+    let may = call_printable a.stage.now a.bytes.now d.result d.new.stage d.new.out d.ensures.called stage bytes in
     let both = call_acted a.stage.now a.bytes.now a.page.now a.at d.result d.new.stage d.new.out c.vault_in.result
-    c.put_answer.new.stage c.put_answer.new.page c.put_answer.result d.ensures may c.vault_in.ensures c.put_answer.ensures in
+    c.put_answer.new.stage c.put_answer.new.page c.put_answer.result d.ensures.called may c.vault_in.ensures c.put_answer.ensures in
     record { done_at = both.0; upper_bound = both.1 }

@@ -23,7 +23,7 @@ returns-in-Some c =
     let below : c.in-Some.k < place_count = omega arith in
     let head = rw c.in-Some.is at h.ensures in
     waits_done a.stage.now a.page.now a.at c.in-Some.k a.way a.frame.now c.in-Some.ensures (omega (arith, c.requires.1)) below
-    c.put_waiting.new.stage h.new.page h.result c.put_line-end.new.page c.put_line-end.result head c.put_line-end.ensures c.put_waiting.ensures
+    c.put_waiting.new.stage h.new.page h.result c.put_line-end.new.page c.put_line-end.result head c.put_line-end.ensures c.put_waiting.ensures.with_waiting
 
 pub returns-in_default : goal.returns-in_default
 returns-in_default c =

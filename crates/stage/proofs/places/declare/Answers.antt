@@ -4,5 +4,5 @@ use native.Mathlib.Omega.{arith}
 use Rattle.stage.proofs.Part.{liar_stored}
 use Rattle.stage.proofs.places.declare.Goals as goal
 
-pub returns : goal.returns
-returns c = liar_stored c.args.stage.now c.args.v (omega arith)
+pub returns-clause-with_liar : goal.returns-clause-with_liar
+returns-clause-with_liar c = liar_stored c.args.stage.now c.args.v (omega arith)
