@@ -1,0 +1,6 @@
+-- `VaultLines` is fed by `feed`. The check finds this; it is written out, so that an edit is refused where the line that has begun differs.
+-- Assumes nothing.
+use Rattle.answers.proofs.VaultLinesPieceProgram.feed.Goals as goal
+
+pub returns-clause-fed : goal.returns-clause-fed
+returns-clause-fed c = c.feed.ensures.fed
