@@ -204,3 +204,73 @@ pub fn finish(rec: &mut [u8], text: &[u8], len: usize, page: &mut [u8]) -> usize
 {
     pieces::finish::<VaultLines>(rec, text, len, page)
 }
+
+#[cfg(test)]
+mod tests {
+    use super::*;
+    use std::alloc::Allocator;
+    use std::cell::RefCell;
+    use std::fmt::Display;
+    use std::io::{self, BufRead, Chain, ErrorKind, Lines, Read};
+    use std::test::Fail;
+
+    // A runtime whose input is read in two pieces, and whose output is kept.
+    #[derive(Drop)]
+    struct Talk {
+        said: RefCell<Vec<u8>>,
+    }
+
+    impl Input for Talk {
+        type Reader = Chain<&'static [u8], &'static [u8]>;
+
+        fn read_line<A: Allocator + Clone>(&self, buf: &mut String<A>) -> io::Result<usize> {
+            self.reader().read_line(buf)
+        }
+
+        fn lines<A: Allocator>(&self, alloc: A) -> Lines<Chain<&'static [u8], &'static [u8]>, A> {
+            self.reader().lines(alloc)
+        }
+
+        fn reader(&self) -> Chain<&'static [u8], &'static [u8]> {
+            let first: &'static [u8] = b"0004010002000000";
+            let second: &'static [u8] = b"0000000007\n0g";
+            first.chain(second)
+        }
+    }
+
+    impl Print for Talk {
+        fn print<D: Display + Drop>(&self, value: D) -> io::Result<()> {
+            Err(io::Error::from(ErrorKind::Unsupported))
+        }
+
+        fn println<D: Display + Drop>(&self, value: D) -> io::Result<()> {
+            Err(io::Error::from(ErrorKind::Unsupported))
+        }
+
+        fn write_all(&self, bytes: &[u8]) -> io::Result<()> {
+            let Ok(mut said) = self.said.try_borrow_mut() else {
+                return Err(io::Error::from(ErrorKind::Other));
+            };
+            said.extend_from_slice(bytes)?;
+            Ok(())
+        }
+    }
+
+    // A line goes on in the next piece, and the last one has no 0a. What is wanted is what the reference vault prints.
+    #[test]
+    fn runs_any_program_over_lines(rt: HostRuntime) -> Result<(), Fail> {
+        let talk = Talk {
+            said: RefCell::new(Vec::new(rt.alloc())),
+        };
+        let mut rec = [0u8; record::SIZE];
+        let mut text = [0u8; KEPT];
+        let mut page = vec![in rt.alloc(); 0u8; PAGE]?;
+        let mut piece = [0u8; PIECE];
+        pieces::run::<VaultLines>(&talk, &mut rec, &mut text, &mut page, &mut piece)?;
+        let want: &[u8] =
+            b"fe0b0000000000000384\nff0100000000000000000000000007\nff0200000000000000000000000007\nfd14\n";
+        let said = talk.said.into_inner();
+        assert_eq!(rt; said.as_slice(), want);
+        Ok(())
+    }
+}

@@ -8,6 +8,7 @@ ghost use Rattle.lines.specs.inside.Sizes.{Sizes, page_of};
 ghost use Rattle.lines.specs.inside.Steps.{Enough, Answered};
 
 use std::io::{self, Read};
+use std::marker::PhantomData;
 
 // A program over lines. Its state is some bytes.
 pub trait LineProgram {
@@ -37,7 +38,7 @@ pub struct Place {
     pub at: usize,
 }
 
-// A program over lines whose input is fed to it in pieces: the two calls that `run` makes. Each promises what `feed` and `finish` below do.
+// A program over lines whose input is fed to it in pieces: the two calls that `run_pieces` makes. Each promises what `feed` and `finish` below do.
 pub trait PieceProgram: LineProgram {
     // A piece of input. The first len bytes of text are what is kept of the line that has begun; the page starts empty.
     fn feed(state: &mut [u8], text: &mut [u8], len: usize, page: &mut [u8], piece: &[u8]) -> Place
@@ -131,7 +132,7 @@ fn read_all<L: PieceProgram>(
 
 // The input is read, and then its last line answered.
 // Where a read or a write fails, whole pieces were fed up to there, or the last line was answered too.
-pub fn run<L: PieceProgram>(
+pub fn run_pieces<L: PieceProgram>(
     rt: &(impl Input + Print),
     state: &mut [u8],
     text: &mut [u8],
@@ -148,4 +149,51 @@ pub fn run<L: PieceProgram>(
     };
     let at = L::finish(state, text, len, page);
     rt.write_all(&page[0..at])
+}
+
+// Any program over lines, fed by `feed` and `finish` above.
+struct InPieces<L: LineProgram> {
+    program: PhantomData<L>,
+}
+
+impl<L: LineProgram> LineProgram for InPieces<L> {
+    ghost program = { L.program };
+
+    ghost sizes = { L.sizes };
+
+    ghost may_be = { L.may_be };
+
+    ghost enough = { L.enough };
+
+    ghost some_piece = { L.some_piece };
+
+    fn answer_line(state: &mut [u8], text: &[u8], page: &mut [u8], at: usize) -> usize {
+        L::answer_line(state, text, page, at)
+    }
+}
+
+impl<L: LineProgram> PieceProgram for InPieces<L> {
+    fn feed(state: &mut [u8], text: &mut [u8], len: usize, page: &mut [u8], piece: &[u8]) -> Place {
+        feed::<L>(state, text, len, page, piece)
+    }
+
+    fn finish(state: &mut [u8], text: &[u8], len: usize, page: &mut [u8]) -> usize {
+        finish::<L>(state, text, len, page)
+    }
+}
+
+// The same for a program that brings no calls of its own for pieces.
+pub fn run<L: LineProgram>(
+    rt: &(impl Input + Print),
+    state: &mut [u8],
+    text: &mut [u8],
+    page: &mut [u8],
+    piece: &mut [u8],
+) -> io::Result<()>
+    requires state_fits { L.may_be (length state.old) }
+    requires sized { (length text.old ≡ L.sizes.room) × (length page.old ≡ page_of L.sizes) × (length piece.old ≡ L.sizes.piece) }
+    ensures ok { OnOk result (RanWell L.program L.sizes.room state.old state.new text.new page.new) }
+    ensures err { OnErr result (RanUpTo L.program L.sizes.room state.old state.new text.new page.new) }
+{
+    run_pieces::<InPieces<L>>(rt, state, text, page, piece)
 }

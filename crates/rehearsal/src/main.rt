@@ -15,5 +15,5 @@ fn main(rt: HostRuntime) -> io::Result<()> {
     let mut text = [0u8; obey::KEPT];
     let mut page = [0u8; obey::PAGE];
     let mut piece = [0u8; obey::PIECE];
-    pieces::run::<Rehearsal>(&rt, &mut stage, &mut text, &mut page, &mut piece)
+    pieces::run_pieces::<Rehearsal>(&rt, &mut stage, &mut text, &mut page, &mut piece)
 }

@@ -15,5 +15,5 @@ fn main(rt: HostRuntime) -> io::Result<()> {
     let mut text = [0u8; answers::KEPT];
     let mut page = [0u8; answers::PAGE];
     let mut piece = [0u8; answers::PIECE];
-    pieces::run::<VaultLines>(&rt, &mut rec, &mut text, &mut page, &mut piece)
+    pieces::run_pieces::<VaultLines>(&rt, &mut rec, &mut text, &mut page, &mut piece)
 }
