@@ -151,7 +151,7 @@ pub fn run_pieces<L: PieceProgram>(
     rt.write_all(&page[0..at])
 }
 
-// Any program over lines, fed by `feed` and `finish` above.
+// Any program over lines, with the calls for pieces that are above: `feed` and `finish`.
 struct InPieces<L: LineProgram> {
     program: PhantomData<L>,
 }
@@ -182,7 +182,7 @@ impl<L: LineProgram> PieceProgram for InPieces<L> {
     }
 }
 
-// The same for a program that brings no calls of its own for pieces.
+// `run_pieces` for any program over lines. It needs no calls of its own for pieces; where it has some, these are not used.
 pub fn run<L: LineProgram>(
     rt: &(impl Input + Print),
     state: &mut [u8],
